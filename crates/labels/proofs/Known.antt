@@ -1,0 +1,204 @@
+-- The table: one computed test over its rows, and the rules that follow from it. Assumes nothing.
+use mathlib.Core.Path.{_≡_, refl, sym, ap, _∙_, subst}
+use mathlib.Core.Bool.{Bool, true, false, _&&_, _||_, not}
+use mathlib.Core.List.{List, [], _∷_, _++_, map, List·Memᴰ, List·Memᴰ·head, List·Memᴰ·tail, List·Memᴰ·not-nil, List·Memᴰ·cases-cons}
+use mathlib.Core.Logic.{_⊎_, inl, inr}
+use mathlib.Core.Option.{Option, some, none}
+use Prim.Native.Nat.{ℕ, zero, suc, _+_, _≤_, _<_}
+use Prim.Native.Char.{code}
+use Prim.Native.String.{String, [] as []ˢ, _∷_ as _∷ˢ_}
+use native.Mathlib.Omega.{arith}
+use lib.Dec.{T, eqb}
+use native.Mathlib.Nat.{add-zero, zero-add}
+use lib.ListN.{length, getD, length-map, List·getD-eq-default}
+use borrow.Author.Tests.{eqb-true, not-true, eq-eqb}
+use Rattle.standard.specs.Base.{_then_else_, every}
+use Rattle.labels.specs.Labels.{table, bytes, name, white, fold, start, trimmed, same, among, find}
+use Rattle.labels.specs.Statements.{labels, texts, allLabels, Table}
+use Rattle.labels.proofs.Trimming.{split, and}
+
+-- The test `same` says that a list is a text's bytes.
+pub same-bytes : (l : List ℕ) (m : String) → same l m ≡ true → l ≡ bytes m
+unfolding same bytes
+same-bytes [] []ˢ h = refl
+same-bytes [] (c ∷ˢ m) h = absurd (subst T (sym h) tt)
+same-bytes (b ∷ l) []ˢ h = absurd (subst T (sym h) tt)
+same-bytes (b ∷ l) (c ∷ˢ m) h =
+    let k : (eqb b (code c) ≡ true) × (same l m ≡ true) = and (eqb b (code c)) (same l m) h in
+    rw (eqb-true b (code c) (k .0), same-bytes l m (k .1))
+
+bytes-same : (m : String) → same (bytes m) m ≡ true
+unfolding same bytes
+bytes-same []ˢ = refl
+bytes-same (c ∷ˢ m) = rw (eq-eqb (code c) (code c) refl) (bytes-same m)
+
+-- A label that is found stands in the row.
+among-stands : (l : List ℕ) (ms : List String) → among l ms ≡ true → List·Memᴰ l (map bytes ms)
+unfolding among
+among-stands l [] h = absurd (subst T (sym h) tt)
+among-stands l (m ∷ ms) h = split (same l m)
+    (λ g. List·Memᴰ·head (same-bytes l m g))
+    (λ g. List·Memᴰ·tail (among-stands l ms (rw g at h)))
+
+-- A row of the table by its place.
+abbrev rowAt : List (String × List String) → ℕ → String × List String
+rowAt rs e = getD rs e ("", [])
+
+found-stands : (l : List ℕ) (n : ℕ) (rs : List (String × List String)) (k : ℕ) → find l n rs ≡ some k → (e : ℕ) × (k ≡ n + e) × List·Memᴰ l (map bytes (rowAt rs e .1))
+unfolding find
+found-stands l n [] k h = let z : _≡_ {A = ℕ} 0 1 = cc in absurd (omega arith)
+found-stands l n (r ∷ rs) k h = split (among l (r .1))
+    (λ g. let i : some n ≡ some k = rw g at h in let j : n ≡ k = cc in (0, omega arith, among-stands l (r .1) g))
+    (λ g. let i : (e : ℕ) × (k ≡ suc n + e) × List·Memᴰ l (map bytes (rowAt rs e .1)) = found-stands l (suc n) rs k (rw g at h) in
+    (suc (i .0), omega (arith, i .1), i .2))
+
+-- What the test asks of a label m of encoding e: it is its own trimmed and folded form, and is found as e.
+abbrev isSome : ℕ → Option ℕ → Bool
+isSome e none = false
+isSome e (some k) = eqb k e
+
+is-some : (e : ℕ) (o : Option ℕ) → isSome e o ≡ true → o ≡ some e
+is-some e none h = absurd (subst T (sym h) tt)
+is-some e (some k) h = ap some (eqb-true k e h)
+
+good : ℕ → String → Bool
+good e m = eqb (start (bytes m)) 0 && (same (trimmed (bytes m)) m && (same (map fold (bytes m)) m && isSome e (find (bytes m) 0 table)))
+
+goods : ℕ → List String → Bool
+goods e [] = true
+goods e (m ∷ ms) = good e m && goods e ms
+
+-- and of a name: it is its own trimmed form, and folded it is one of the labels
+goodName : String × List String → Bool
+goodName r = eqb (start (bytes (r .0))) 0 && (same (trimmed (bytes (r .0))) (r .0) && among (map fold (bytes (r .0))) (r .1))
+
+rows : ℕ → List (String × List String) → Bool
+rows e [] = true
+rows e (r ∷ rs) = goods e (r .1) && (goodName r && rows (suc e) rs)
+
+tested : rows 0 table ≡ true
+unfolding rows goods good goodName table bytes start trimmed same among find
+tested = refl
+
+-- The rule for each label of the table.
+pub record Good (e : ℕ) (l : List ℕ) : Type 0 where
+  pub begins : start l ≡ 0
+  pub plain : trimmed l ≡ l
+  pub lower : map fold l ≡ l
+  pub found : find l 0 table ≡ some e
+
+good-rule : (e : ℕ) (m : String) → good e m ≡ true → Good e (bytes m)
+unfolding good
+good-rule e m h =
+    let a = and (eqb (start (bytes m)) 0) (same (trimmed (bytes m)) m && (same (map fold (bytes m)) m && isSome e (find (bytes m) 0 table))) h in
+    let b = and (same (trimmed (bytes m)) m) (same (map fold (bytes m)) m && isSome e (find (bytes m) 0 table)) (a .1) in
+    let c = and (same (map fold (bytes m)) m) (isSome e (find (bytes m) 0 table)) (b .1) in
+    record {
+      begins = eqb-true (start (bytes m)) 0 (a .0);
+      plain = same-bytes (trimmed (bytes m)) m (b .0);
+      lower = same-bytes (map fold (bytes m)) m (c .0);
+      found = is-some e (find (bytes m) 0 table) (c .1);
+    }
+
+row-rule : (e : ℕ) (l : List ℕ) (ms : List String) → goods e ms ≡ true → List·Memᴰ l (map bytes ms) → Good e l
+unfolding goods
+row-rule e l [] h s = absurd (List·Memᴰ·not-nil s)
+row-rule e l (m ∷ ms) h s = pick (row-rule e l ms (and (good e m) (goods e ms) h .1)) (List·Memᴰ·cases-cons s)
+  where
+    pick : (List·Memᴰ l (map bytes ms) → Good e l) → (l ≡ bytes m) ⊎ List·Memᴰ l (map bytes ms) → Good e l
+    pick f (inl p) = rw p (good-rule e m (and (good e m) (goods e ms) h .0))
+    pick f (inr q) = f q
+
+table-rule : (l : List ℕ) (k : ℕ) (rs : List (String × List String)) (e : ℕ) → rows k rs ≡ true → List·Memᴰ l (map bytes (rowAt rs e .1)) → Good (k + e) l
+unfolding rows
+table-rule l k [] e h s = absurd (List·Memᴰ·not-nil s)
+table-rule l k (r ∷ rs) zero h s = rw (add-zero k) (row-rule k l (r .1) (and (goods k (r .1)) (goodName r && rows (suc k) rs) h .0) s)
+table-rule l k (r ∷ rs) (suc e) h s =
+    let i = and (goods k (r .1)) (goodName r && rows (suc k) rs) h in
+    let j = table-rule l (suc k) rs e (and (goodName r) (rows (suc k) rs) (i .1) .1) s in
+    let p : k + suc e ≡ suc k + e = omega arith in rw p j
+
+pub stands-good : (e : ℕ) (l : List ℕ) → List·Memᴰ l (labels e) → Good e l
+unfolding labels
+stands-good e l s = rw (zero-add e) at (table-rule l 0 table e tested s)
+
+pub good-stands : (e : ℕ) (l : List ℕ) → find l 0 table ≡ some e → List·Memᴰ l (labels e)
+unfolding labels
+good-stands e l h =
+    let i : (k : ℕ) × (e ≡ 0 + k) × List·Memᴰ l (map bytes (rowAt table k .1)) = found-stands l 0 table e h in
+    let p : e ≡ i .0 = omega (arith, i .1) in rw p (i .2)
+
+-- The rule for each name.
+pub record Named (e : ℕ) : Type 0 where
+  pub begins : start (name e) ≡ 0
+  pub plain : trimmed (name e) ≡ name e
+  pub stands : List·Memᴰ (map fold (name e)) (labels e)
+
+name-rule : (k : ℕ) (rs : List (String × List String)) (e : ℕ) → rows k rs ≡ true → e < length rs → goodName (rowAt rs e) ≡ true
+unfolding rows
+name-rule k [] e h g = absurd (omega arith)
+name-rule k (r ∷ rs) zero h g = and (goodName r) (rows (suc k) rs) (and (goods k (r .1)) (goodName r && rows (suc k) rs) h .1) .0
+name-rule k (r ∷ rs) (suc e) h g =
+    name-rule (suc k) rs e (and (goodName r) (rows (suc k) rs) (and (goods k (r .1)) (goodName r && rows (suc k) rs) h .1) .1) (omega arith)
+
+pub encodings : length table ≡ 40
+unfolding table
+encodings = refl
+
+pub named : (e : ℕ) → e < 40 → Named e
+unfolding name labels goodName
+named e g =
+    let r = rowAt table e in
+    let h = name-rule 0 table e tested (omega (arith, encodings)) in
+    let a = and (eqb (start (bytes (r .0))) 0) (same (trimmed (bytes (r .0))) (r .0) && among (map fold (bytes (r .0))) (r .1)) h in
+    let b = and (same (trimmed (bytes (r .0))) (r .0)) (among (map fold (bytes (r .0))) (r .1)) (a .1) in
+    record {
+      begins = eqb-true (start (bytes (r .0))) 0 (a .0);
+      plain = same-bytes (trimmed (bytes (r .0))) (r .0) (b .0);
+      stands = among-stands (map fold (bytes (r .0))) (r .1) (b .1);
+    }
+
+-- No label stands twice: a test, and the rule.
+distinct : List String → Bool
+distinct [] = true
+distinct (m ∷ ms) = not (among (bytes m) ms) && distinct ms
+
+all-distinct : distinct (texts table) ≡ true
+unfolding distinct texts table bytes among same
+all-distinct = refl
+
+count : length (texts table) ≡ 228
+unfolding texts table
+count = refl
+
+apart : (l : List ℕ) (ms : List String) (j : ℕ) → among l ms ≡ false → j < length ms → l ≡ getD (map bytes ms) j [] → ⊥
+unfolding among
+apart l [] j h g e = omega arith
+apart l (m ∷ ms) zero h g e = let p : same l m ≡ true = rw e (bytes-same m) in let q : true ≡ false = rw p at h in subst T q tt
+apart l (m ∷ ms) (suc j) h g e = split (same l m)
+    (λ p. let q : true ≡ false = rw p at h in subst T q tt)
+    (λ p. apart l ms j (rw p at h) (omega arith) e)
+
+once : (ms : List String) (i j : ℕ) → distinct ms ≡ true → i < length ms → j < length ms → getD (map bytes ms) i [] ≡ getD (map bytes ms) j [] → i ≡ j
+unfolding distinct
+once [] i j h f g e = absurd (omega arith)
+once (m ∷ ms) zero zero h f g e = refl
+once (m ∷ ms) zero (suc j) h f g e = absurd (apart (bytes m) ms j (not-true (among (bytes m) ms) (and (not (among (bytes m) ms)) (distinct ms) h .0)) (omega arith) e)
+once (m ∷ ms) (suc i) zero h f g e = absurd (apart (bytes m) ms i (not-true (among (bytes m) ms) (and (not (among (bytes m) ms)) (distinct ms) h .0)) (omega arith) (sym e))
+once (m ∷ ms) (suc i) (suc j) h f g e = ap suc (once ms i j (and (not (among (bytes m) ms)) (distinct ms) h .1) (omega arith) (omega arith) e)
+
+above : (e : ℕ) → 40 ≤ e → (name e ≡ []) × (labels e ≡ [])
+unfolding name labels bytes
+above e h =
+    let p : rowAt table e ≡ ("", []) = List·getD-eq-default table ("", []) (omega (arith, encodings)) in
+    (ap (λ (r : String × List String). bytes (r .0)) p, ap (λ (r : String × List String). map bytes (r .1)) p)
+
+pub the-table : Table
+the-table = record {
+  encodings = encodings;
+  all = length-map (texts table) bytes ∙ count;
+  once = λ i j f g e. once (texts table) i j all-distinct (omega (arith, count)) (omega (arith, count)) e;
+  plain = λ e l s. let r = stands-good e l s in (r .plain, r .lower);
+  named = λ e g. named e g .stands;
+  above = above;
+}

@@ -1,0 +1,5 @@
+pub mod Tests
+pub mod Laws
+pub mod FamilyLaws
+pub mod Walk
+pub mod AnyTables

@@ -1,0 +1,11 @@
+pub mod Base
+pub mod Scalars
+pub mod Encodings
+pub mod Indexes
+pub mod Machine
+pub mod Handlers
+pub mod Standard
+pub mod Sequence
+pub mod Sequences
+pub mod Next
+pub mod Decode
