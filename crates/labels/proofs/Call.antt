@@ -1,17 +1,15 @@
 -- The label call: what is found, what is refused, and what makes no difference. Assumes nothing.
-use mathlib.Core.Path.{_≡_, refl, sym, ap, _∙_, subst}
-use mathlib.Core.Logic.{_↔_}
-use mathlib.Core.Bool.{Bool, true, false}
-use mathlib.Core.List.{List, [], _∷_, _++_, map, List·Memᴰ}
+use mathlib.Core.Path.{_≡_, refl, sym, ap, _∙_}
+use mathlib.Core.Bool.{true}
+use mathlib.Core.List.{List, _++_, map, List·Memᴰ}
 use mathlib.Core.Option.{Option, some, none}
-use Prim.Native.Nat.{ℕ, zero, suc, _+_, _≤_, _<_}
+use Prim.Native.Nat.{ℕ, _+_, _≤_}
 use native.Mathlib.Omega.{arith}
-use lib.Dec.{T}
 use lib.ListN.{length, take, drop, length-append, length-map}
 use lib.Seq.{take-at, drop-at}
 use Rattle.standard.specs.Base.{every}
 use Rattle.labels.specs.Labels.{table, bytes, name, white, fold, start, trimmed, same, among, find, answer, label}
-use Rattle.labels.specs.Statements.{labels, known, unknown, Finds, Trims, Answers, Insensitive, Samples}
+use Rattle.labels.specs.Statements.{labels, known, Finds, Answers, Insensitive, Samples}
 use Rattle.labels.specs.declared.Found.{Found}
 use Rattle.labels.proofs.Trimming.{trims, around, fold-all, fold-start, fold-trimmed}
 use Rattle.labels.proofs.Known.{stands-good, good-stands, named}
@@ -30,13 +28,16 @@ found-of : (xs : List ℕ) (o : Option ℕ) (e : ℕ) → answer xs o ≡ known 
 found-of xs (some k) e h = ap (λ (f : Found). some (f .encoding)) h
 found-of xs none e h = let z : _≡_ {A = ℕ} 1 0 = ap (λ (f : Found). f .refusal) h in absurd (omega arith)
 
+-- Refusal 1 comes where nothing is found.
 none-of : (xs : List ℕ) (o : Option ℕ) → answer xs o .refusal ≡ 1 → o ≡ none
 none-of xs (some k) h = absurd (omega arith)
 none-of xs none h = refl
 
+-- Nothing found is not a number found.
 none-not : {A : Type 0} (o : Option ℕ) (e : ℕ) → o ≡ none → o ≡ some e → A
 none-not o e p q = let z : _≡_ {A = ℕ} 0 1 = cc in absurd (omega arith)
 
+-- What is found as no number is refused.
 refuse : (xs : List ℕ) (o : Option ℕ) → ((e : ℕ) → o ≡ some e → ⊥) → answer xs o .refusal ≡ 1
 refuse xs (some k) h = absurd (h k refl)
 refuse xs none h = refl
@@ -49,6 +50,7 @@ module _ (xs : List ℕ) where
       let p : drop (start xs) xs ≡ trimmed xs ++ t .behind = ap (drop (start xs)) (t .whole) ∙ drop-at (t .before) (trimmed xs ++ t .behind) (start xs) (t .starts) in
       rw p (take-at (trimmed xs) (t .behind) (length (trimmed xs)) refl)
 
+  -- It lies within the bytes.
   fits : start xs + length (trimmed xs) ≤ length xs
   fits =
       let t = trims xs in
@@ -56,14 +58,17 @@ module _ (xs : List ℕ) where
       ap length (t .whole) ∙ length-append (t .before) (trimmed xs ++ t .behind) ∙ ap (λ n. length (t .before) + n) (length-append (trimmed xs) (t .behind)) in
       omega (arith, t .starts)
 
+  -- So does the part of any answer.
   within-of : (o : Option ℕ) → answer xs o .start + answer xs o .length ≤ length xs
   within-of (some e) = fits
   within-of none = omega arith
 
+  -- The part of an answer that is not refused is the trimmed label.
   part-of : (o : Option ℕ) → answer xs o .refusal ≡ 0 → take (answer xs o .length) (drop (answer xs o .start) xs) ≡ trimmed xs
   part-of (some e) h = part
   part-of none h = absurd (omega arith)
 
+-- The call, for any bytes.
 pub answers : (xs : List ℕ) → Answers xs
 unfolding label
 answers xs = record {
@@ -84,6 +89,7 @@ found-at xs e b p s =
     accept xs e (rw p s) ∙ ap (λ n. record { start = n; length = length (trimmed xs); refusal = 0; encoding = e }) b ∙
     ap (λ (l : List ℕ). record { start = 0; length = length l; refusal = 0; encoding = e }) p
 
+-- By label and by name.
 pub finds : Finds
 finds = record {
   by-label = λ e l s. let g = stands-good e l s in found-at l e (g .begins) (g .plain) (rw (g .lower) s);
@@ -95,6 +101,7 @@ same-numbers : (xs ys : List ℕ) (o : Option ℕ) → (answer xs o .refusal ≡
 same-numbers xs ys (some e) = (refl, refl)
 same-numbers xs ys none = (refl, refl)
 
+-- White space around the bytes.
 around-label : (before xs behind : List ℕ) → every white before ≡ true → every white behind ≡ true →
     (label (before ++ (xs ++ behind)) .refusal ≡ label xs .refusal) × (label (before ++ (xs ++ behind)) .encoding ≡ label xs .encoding)
 unfolding label
@@ -102,21 +109,25 @@ around-label before xs behind h g =
     let p : looked (before ++ (xs ++ behind)) ≡ looked xs = rw (around before xs behind h g) in
     rw p (same-numbers (before ++ (xs ++ behind)) xs (looked xs))
 
+-- The answer for folded bytes is the same.
 folded-answer : (xs : List ℕ) (o : Option ℕ) → answer (map fold xs) o ≡ answer xs o
 folded-answer xs (some e) =
     let p : length (trimmed (map fold xs)) ≡ length (trimmed xs) = ap length (fold-trimmed xs) ∙ length-map (trimmed xs) fold in
     rw (fold-start xs, p)
 folded-answer xs none = refl
 
+-- So is the call's.
 folded : (xs : List ℕ) → label (map fold xs) ≡ label xs
 unfolding label
 folded xs =
     let p : looked (map fold xs) ≡ looked xs = rw (fold-trimmed xs, fold-all (trimmed xs)) in
     rw p (folded-answer xs (looked xs))
 
+-- White space and case.
 pub insensitive : Insensitive
 insensitive = record { space = around-label; case = λ xs ys h. sym (folded xs) ∙ ap label h ∙ folded ys }
 
+-- Each sample is computed.
 pub samples : Samples
 unfolding label table bytes name start trimmed same among find
 samples = record {

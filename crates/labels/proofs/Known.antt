@@ -1,7 +1,7 @@
 -- The table: one computed test over its rows, and the rules that follow from it. Assumes nothing.
 use mathlib.Core.Path.{_≡_, refl, sym, ap, _∙_, subst}
-use mathlib.Core.Bool.{Bool, true, false, _&&_, _||_, not}
-use mathlib.Core.List.{List, [], _∷_, _++_, map, List·Memᴰ, List·Memᴰ·head, List·Memᴰ·tail, List·Memᴰ·not-nil, List·Memᴰ·cases-cons}
+use mathlib.Core.Bool.{Bool, true, false, _&&_, not}
+use mathlib.Core.List.{List, [], _∷_, map, List·Memᴰ, List·Memᴰ·head, List·Memᴰ·tail, List·Memᴰ·not-nil, List·Memᴰ·cases-cons}
 use mathlib.Core.Logic.{_⊎_, inl, inr}
 use mathlib.Core.Option.{Option, some, none}
 use Prim.Native.Nat.{ℕ, zero, suc, _+_, _≤_, _<_}
@@ -12,9 +12,8 @@ use lib.Dec.{T, eqb}
 use native.Mathlib.Nat.{add-zero, zero-add}
 use lib.ListN.{length, getD, length-map, List·getD-eq-default}
 use borrow.Author.Tests.{eqb-true, not-true, eq-eqb}
-use Rattle.standard.specs.Base.{_then_else_, every}
-use Rattle.labels.specs.Labels.{table, bytes, name, white, fold, start, trimmed, same, among, find}
-use Rattle.labels.specs.Statements.{labels, texts, allLabels, Table}
+use Rattle.labels.specs.Labels.{table, bytes, name, fold, start, trimmed, same, among, find}
+use Rattle.labels.specs.Statements.{labels, texts, Table}
 use Rattle.labels.proofs.Trimming.{split, and}
 
 -- The test `same` says that a list is a text's bytes.
@@ -27,6 +26,7 @@ same-bytes (b ∷ l) (c ∷ˢ m) h =
     let k : (eqb b (code c) ≡ true) × (same l m ≡ true) = and (eqb b (code c)) (same l m) h in
     rw (eqb-true b (code c) (k .0), same-bytes l m (k .1))
 
+-- It holds of a text's own bytes.
 bytes-same : (m : String) → same (bytes m) m ≡ true
 unfolding same bytes
 bytes-same []ˢ = refl
@@ -44,6 +44,7 @@ among-stands l (m ∷ ms) h = split (same l m)
 abbrev rowAt : List (String × List String) → ℕ → String × List String
 rowAt rs e = getD rs e ("", [])
 
+-- What is found as k stands in the row of k.
 found-stands : (l : List ℕ) (n : ℕ) (rs : List (String × List String)) (k : ℕ) → find l n rs ≡ some k → (e : ℕ) × (k ≡ n + e) × List·Memᴰ l (map bytes (rowAt rs e .1))
 unfolding find
 found-stands l n [] k h = let z : _≡_ {A = ℕ} 0 1 = cc in absurd (omega arith)
@@ -52,30 +53,35 @@ found-stands l n (r ∷ rs) k h = split (among l (r .1))
     (λ g. let i : (e : ℕ) × (k ≡ suc n + e) × List·Memᴰ l (map bytes (rowAt rs e .1)) = found-stands l (suc n) rs k (rw g at h) in
     (suc (i .0), omega (arith, i .1), i .2))
 
--- What the test asks of a label m of encoding e: it is its own trimmed and folded form, and is found as e.
+-- Is it this number?
 abbrev isSome : ℕ → Option ℕ → Bool
 isSome e none = false
 isSome e (some k) = eqb k e
 
+-- What `isSome` says.
 is-some : (e : ℕ) (o : Option ℕ) → isSome e o ≡ true → o ≡ some e
 is-some e none h = absurd (subst T (sym h) tt)
 is-some e (some k) h = ap some (eqb-true k e h)
 
+-- The test of a label of encoding e: it is its own trimmed and folded form, and is found as e.
 good : ℕ → String → Bool
 good e m = eqb (start (bytes m)) 0 && (same (trimmed (bytes m)) m && (same (map fold (bytes m)) m && isSome e (find (bytes m) 0 table)))
 
+-- The test of the labels of a row.
 goods : ℕ → List String → Bool
 goods e [] = true
 goods e (m ∷ ms) = good e m && goods e ms
 
--- and of a name: it is its own trimmed form, and folded it is one of the labels
+-- The test of a name: it is its own trimmed form, and folded it is one of the labels.
 goodName : String × List String → Bool
 goodName r = eqb (start (bytes (r .0))) 0 && (same (trimmed (bytes (r .0))) (r .0) && among (map fold (bytes (r .0))) (r .1))
 
+-- The test of all rows, the first being number e.
 rows : ℕ → List (String × List String) → Bool
 rows e [] = true
 rows e (r ∷ rs) = goods e (r .1) && (goodName r && rows (suc e) rs)
 
+-- The table passes.
 tested : rows 0 table ≡ true
 unfolding rows goods good goodName table bytes start trimmed same among find
 tested = refl
@@ -87,6 +93,7 @@ pub record Good (e : ℕ) (l : List ℕ) : Type 0 where
   pub lower : map fold l ≡ l
   pub found : find l 0 table ≡ some e
 
+-- The rule follows from the test of the label.
 good-rule : (e : ℕ) (m : String) → good e m ≡ true → Good e (bytes m)
 unfolding good
 good-rule e m h =
@@ -100,6 +107,7 @@ good-rule e m h =
       found = is-some e (find (bytes m) 0 table) (c .1);
     }
 
+-- It follows from the test of its row.
 row-rule : (e : ℕ) (l : List ℕ) (ms : List String) → goods e ms ≡ true → List·Memᴰ l (map bytes ms) → Good e l
 unfolding goods
 row-rule e l [] h s = absurd (List·Memᴰ·not-nil s)
@@ -109,6 +117,7 @@ row-rule e l (m ∷ ms) h s = pick (row-rule e l ms (and (good e m) (goods e ms)
     pick f (inl p) = rw p (good-rule e m (and (good e m) (goods e ms) h .0))
     pick f (inr q) = f q
 
+-- It follows from the test of the table.
 table-rule : (l : List ℕ) (k : ℕ) (rs : List (String × List String)) (e : ℕ) → rows k rs ≡ true → List·Memᴰ l (map bytes (rowAt rs e .1)) → Good (k + e) l
 unfolding rows
 table-rule l k [] e h s = absurd (List·Memᴰ·not-nil s)
@@ -118,10 +127,12 @@ table-rule l k (r ∷ rs) (suc e) h s =
     let j = table-rule l (suc k) rs e (and (goodName r) (rows (suc k) rs) (i .1) .1) s in
     let p : k + suc e ≡ suc k + e = omega arith in rw p j
 
+-- Each label of the table is found as its number.
 pub stands-good : (e : ℕ) (l : List ℕ) → List·Memᴰ l (labels e) → Good e l
 unfolding labels
 stands-good e l s = rw (zero-add e) at (table-rule l 0 table e tested s)
 
+-- What is found stands in the table.
 pub good-stands : (e : ℕ) (l : List ℕ) → find l 0 table ≡ some e → List·Memᴰ l (labels e)
 unfolding labels
 good-stands e l h =
@@ -134,6 +145,7 @@ pub record Named (e : ℕ) : Type 0 where
   pub plain : trimmed (name e) ≡ name e
   pub stands : List·Memᴰ (map fold (name e)) (labels e)
 
+-- Each row passes the test of its name.
 name-rule : (k : ℕ) (rs : List (String × List String)) (e : ℕ) → rows k rs ≡ true → e < length rs → goodName (rowAt rs e) ≡ true
 unfolding rows
 name-rule k [] e h g = absurd (omega arith)
@@ -141,10 +153,12 @@ name-rule k (r ∷ rs) zero h g = and (goodName r) (rows (suc k) rs) (and (goods
 name-rule k (r ∷ rs) (suc e) h g =
     name-rule (suc k) rs e (and (goodName r) (rows (suc k) rs) (and (goods k (r .1)) (goodName r && rows (suc k) rs) h .1) .1) (omega arith)
 
+-- The number of rows.
 pub encodings : length table ≡ 40
 unfolding table
 encodings = refl
 
+-- The rule follows from the test.
 pub named : (e : ℕ) → e < 40 → Named e
 unfolding name labels goodName
 named e g =
@@ -158,19 +172,22 @@ named e g =
       stands = among-stands (map fold (bytes (r .0))) (r .1) (b .1);
     }
 
--- No label stands twice: a test, and the rule.
+-- The test that no label stands twice.
 distinct : List String → Bool
 distinct [] = true
 distinct (m ∷ ms) = not (among (bytes m) ms) && distinct ms
 
+-- The table passes.
 all-distinct : distinct (texts table) ≡ true
 unfolding distinct texts table bytes among same
 all-distinct = refl
 
+-- The number of labels.
 count : length (texts table) ≡ 228
 unfolding texts table
 count = refl
 
+-- A label that is not among others differs from each of them.
 apart : (l : List ℕ) (ms : List String) (j : ℕ) → among l ms ≡ false → j < length ms → l ≡ getD (map bytes ms) j [] → ⊥
 unfolding among
 apart l [] j h g e = omega arith
@@ -179,6 +196,7 @@ apart l (m ∷ ms) (suc j) h g e = split (same l m)
     (λ p. let q : true ≡ false = rw p at h in subst T q tt)
     (λ p. apart l ms j (rw p at h) (omega arith) e)
 
+-- Two places with one label are one place.
 once : (ms : List String) (i j : ℕ) → distinct ms ≡ true → i < length ms → j < length ms → getD (map bytes ms) i [] ≡ getD (map bytes ms) j [] → i ≡ j
 unfolding distinct
 once [] i j h f g e = absurd (omega arith)
@@ -187,12 +205,14 @@ once (m ∷ ms) zero (suc j) h f g e = absurd (apart (bytes m) ms j (not-true (a
 once (m ∷ ms) (suc i) zero h f g e = absurd (apart (bytes m) ms i (not-true (among (bytes m) ms) (and (not (among (bytes m) ms)) (distinct ms) h .0)) (omega arith) (sym e))
 once (m ∷ ms) (suc i) (suc j) h f g e = ap suc (once ms i j (and (not (among (bytes m) ms)) (distinct ms) h .1) (omega arith) (omega arith) e)
 
+-- Above 39 there is no name and no label.
 above : (e : ℕ) → 40 ≤ e → (name e ≡ []) × (labels e ≡ [])
 unfolding name labels bytes
 above e h =
     let p : rowAt table e ≡ ("", []) = List·getD-eq-default table ("", []) (omega (arith, encodings)) in
     (ap (λ (r : String × List String). bytes (r .0)) p, ap (λ (r : String × List String). map bytes (r .1)) p)
 
+-- The statement of the table.
 pub the-table : Table
 the-table = record {
   encodings = encodings;

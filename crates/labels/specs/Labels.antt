@@ -54,7 +54,7 @@ table =
     ("UTF-16LE", "csunicode" ∷ "iso-10646-ucs-2" ∷ "ucs-2" ∷ "unicode" ∷ "unicodefeff" ∷ "utf-16" ∷ "utf-16le" ∷ []) ∷
     ("x-user-defined", "x-user-defined" ∷ []) ∷ []
 
--- The bytes of a quoted text.
+-- The bytes of a quoted text, all ASCII.
 unfoldable pub bytes : String → List ℕ
 bytes []ˢ = []
 bytes (c ∷ˢ s) = code c ∷ bytes s

@@ -14,18 +14,20 @@ use Rattle.labels.specs.declared.Found.{Found}
 unfoldable pub labels : ℕ → List (List ℕ)
 labels e = map bytes (getD table e ("", []) .1)
 
--- The labels of all rows, in order; the table's 228 as bytes.
+-- The labels of all rows, in order.
 unfoldable pub texts : List (String × List String) → List String
 texts [] = []
 texts (r ∷ rs) = r .1 ++ texts rs
 
+-- The labels of the table, as bytes.
 abbrev pub allLabels : List (List ℕ)
 allLabels = map bytes (texts table)
 
--- What the call answers for bytes whose trimmed label is known as encoding e, and for an unknown label.
+-- What the call answers for bytes whose trimmed label is known as encoding e.
 abbrev pub known : List ℕ → ℕ → Found
 known xs e = record { start = start xs; length = length (trimmed xs); refusal = 0; encoding = e }
 
+-- What it answers for an unknown label.
 abbrev pub unknown : Found
 unknown = record { start = 0; length = 0; refusal = 1; encoding = 0 }
 

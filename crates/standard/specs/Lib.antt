@@ -5,6 +5,7 @@ pub mod Indexes
 pub mod Machine
 pub mod Handlers
 pub mod Standard
+pub mod Encoders
 pub mod Sequence
 pub mod Sequences
 pub mod Next
