@@ -45,10 +45,13 @@ pub record Outcome : Type 0 where
 abbrev pub refuse : ℕ → List ℕ → Outcome
 refuse n room = record { answer = record { written = 0; index = 0; refusal = n }; room = room }
 
+-- so many bytes written, and report 11 where a scalar is unwritable
+abbrev pub answerOf : ℕ → Option ℕ → Written
+answerOf n none = record { written = n; index = 0; refusal = 0 }
+answerOf n (some i) = record { written = n; index = i; refusal = 11 }
+
 abbrev pub write : Writing → List ℕ → Outcome
-write w room =
-    let answer = elim (w .unwritable) [ none ↦ record { written = length (w .bytes); index = 0; refusal = 0 } | some i ↦ record { written = length (w .bytes); index = i; refusal = 11 } ] in
-    record { answer = answer; room = w .bytes ++ drop (length (w .bytes)) room }
+write w room = record { answer = answerOf (length (w .bytes)) (w .unwritable); room = w .bytes ++ drop (length (w .bytes)) room }
 
 -- 8, 10, 7, then 11
 abbrev pub writeAccepted : (ℕ → Result) → ℕ → List ℕ → List ℕ → Outcome
