@@ -3,3 +3,5 @@ pub mod Laws
 pub mod FamilyLaws
 pub mod Walk
 pub mod AnyTables
+pub mod Items
+pub mod Reading
