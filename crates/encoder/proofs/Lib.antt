@@ -1,0 +1,5 @@
+pub mod Tables
+pub mod Encoding
+pub mod Writing
+pub mod ReadBack
+pub mod Samples
