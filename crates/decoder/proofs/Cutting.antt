@@ -26,7 +26,7 @@ use Rattle.decoder.specs.Whole.{dealt, wholeAccount}
 use Rattle.decoder.specs.declared.Decoder.{Decoder}
 use Rattle.decoder.proofs.Records.{shift-holding, held-holding}
 use Rattle.decoder.proofs.Steps.{Stands, reads, ended, readOf, Step, refused, fed, reported, few, feed-holding, finish-holding, feed-not-11, finish-not-11, feed-open, finish-open, stepped, still, opened-is, stands-new}
-use Rattle.decoder.proofs.Invariants.{Tracks, tracks-step}
+use Rattle.decoder.proofs.Invariants.{Tracks, tracks-new, tracks-step}
 
 -- in refusing mode nothing before was an error
 sound : (m : ℕ) (a b : Bool) → eqb m 1 && a ≡ false → eqb m 1 && b ≡ true → a ≡ false
@@ -102,7 +102,7 @@ module _ (t : Tables) (e m : ℕ) (s₀ : Shift) where
   unfolding broken shown
   follow-new = record {
     stands = reads s₀ [] (empty noTables (family e) s₀);
-    tracks = λ o. ap place (decode-more (keeps (family e)) (next noTables (family e)) (next-laws noTables (family e)) s₀ [] (empty noTables (family e) s₀)) ∙ sym (λ j. record { shift = shift-holding e m s₀ [] j; rest = [] });
+    tracks = tracks-new e m s₀;
     shows = λ o. (rw (nothing-read, and-false (eqb m 1)), rw nothing-read);
     stops = λ o. absurd (omega arith);
   }

@@ -4,7 +4,7 @@ use mathlib.Core.Bool.{Bool, true, false, _&&_, _||_}
 use mathlib.Core.List.{List, [], _∷_, _++_, append-assoc, append-nil}
 use Prim.Native.Nat.{ℕ, _≤_}
 use native.Mathlib.Omega.{arith}
-use lib.Dec.{T, eqb}
+use lib.Dec.{T, eqb, lit≤}
 use lib.ListN.{length, length-append}
 use borrow.Author.Tests.{eqb-true}
 use Rattle.standard.specs.Base.{separators}
@@ -14,10 +14,10 @@ use Rattle.standard.specs.Next.{next}
 use Rattle.standard.specs.Decode.{Read, decode, shown, broken, before}
 use Rattle.standard.proofs.Tests.{and-left}
 use Rattle.standard.proofs.FamilyLaws.{keeps, next-laws}
-use Rattle.standard.proofs.Walk.{at-more, chunks}
+use Rattle.standard.proofs.Walk.{at-more, chunks, decode-more}
 use Rattle.standard.proofs.AnyTables.{Place, place, tables-meet}
 use Rattle.standard.proofs.Items.{before-length}
-use Rattle.standard.proofs.Reading.{separators-append, Reading, reading, Ending, ending-is}
+use Rattle.standard.proofs.Reading.{separators-append, Reading, reading, Ending, ending-is, empty}
 use Rattle.decoder.specs.Valid.{shiftOf, heldOf}
 use Rattle.decoder.specs.Calls.{bit, holding, closed}
 use Rattle.decoder.specs.Histories.{Call, feed, finish, History, accepted, noted, outcome, chunkOf, after, ends, anyEnds}
@@ -83,6 +83,9 @@ module _ (e m : ℕ) where
 
   place-holding : (s : Shift) (xs : List ℕ) → length xs ≤ 3 → _≡_ {A = Place} (record { shift = shiftOf (holding e m s xs); rest = heldOf (holding e m s xs) }) (record { shift = s; rest = xs })
   place-holding s xs l = λ i. record { shift = shift-holding e m s xs i; rest = held-holding e m s xs l i }
+
+  pub tracks-new : (s₀ : Shift) → Tracks s₀ [] (holding e m s₀ [])
+  tracks-new s₀ o = ap place (decode-more (keeps (family e)) (next noTables (family e)) (next-laws noTables (family e)) s₀ [] (empty noTables (family e) s₀)) ∙ sym (place-holding s₀ [] (lit≤ tt))
 
   pub tracks-step : (s₀ : Shift) {taken handed : List ℕ} {d : Decoder} {c : Call} {h : History} {n : ℕ} → Step e m taken handed d c h n → Tracks s₀ taken d → Tracks s₀ (h .taken) (h .decoder)
   tracks-step s₀ (refused d c n p) i o = i o

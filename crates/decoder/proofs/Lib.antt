@@ -5,3 +5,5 @@ pub mod Cutting
 pub mod Shifts
 pub mod Validity
 pub mod Reaching
+pub mod Rooms
+pub mod Samples

@@ -8,7 +8,7 @@ use lib.Dec.{T, ltb, leb, eqb, lit≤, leb→le, eqb→eq}
 use lib.ListN.{length, take, replicate, length-append, length-replicate}
 use borrow.Author.Tests.{eq-eqb, eqb-true, le-ltb, not-true}
 use Rattle.standard.specs.Base.{_then_else_, every, below, Bytes}
-use Rattle.standard.specs.Encodings.{Family, UTF-8, single-byte, windows-1252, GB18030, Big5, EUC-JP, ISO-2022-JP, Shift-JIS, EUC-KR, Replacement, UTF-16BE, UTF-16LE, x-user-defined, family, Second, cells, ranges, traits, Tables, noTables, fits}
+use Rattle.standard.specs.Encodings.{Family, UTF-8, single-byte, windows-1252, GB18030, Big5, EUC-JP, ISO-2022-JP, Shift-JIS, EUC-KR, Replacement, UTF-16BE, UTF-16LE, x-user-defined, family, traits, Tables, noTables, fits}
 use Rattle.standard.specs.Sequence.{Shift, Out, text, error, more, shift, cell}
 use Rattle.standard.specs.Sequences.Iso2022Jp.{iso2022Jp, escaped, byteOut}
 use Rattle.standard.specs.Sequences.Replacement.{replacement}
@@ -22,36 +22,33 @@ use Rattle.standard.proofs.Reading.{empty}
 use Rattle.decoder.specs.Valid.{shiftOf, heldOf, possible, valid}
 use Rattle.decoder.specs.Calls.{holding, closed, newShift, openRefusal, opening, Outcome, write, handOut, handOutRead, feedRefusal, feeding, finishRefusal, finishing}
 use Rattle.decoder.specs.Histories.{accepted, Reachable, opened, fed, finished}
+use Rattle.decoder.specs.Samples.{secondCells, filled}
 use Rattle.decoder.specs.declared.Decoder.{Decoder}
 use Rattle.decoder.proofs.Steps.{few, readOf, feed-holding, finish-holding}
 use Rattle.decoder.proofs.Validity.{parts, valid-holding, still-possible, still-more, is-holding, is-closed, new-possible}
 
 -- Tables to lend: every cell is U+3000; no ranges.
-secondSize : Second → ℕ
-secondSize (cells n) = n
-secondSize ranges = 0
+abbrev lent : Family → Tables
+lent f = filled 0x3000 f
 
-lent : Family → Tables
-lent f = record { first = replicate (traits f .first) 0x3000; second = replicate (secondSize (traits f .second)) 0x3000 }
+sized : (n c : ℕ) → eqb (length (replicate n c)) n ≡ true
+sized n c = eq-eqb (length (replicate n c)) n (length-replicate n c)
 
-sized : (n : ℕ) → eqb (length {A = ℕ} (replicate n 0x3000)) n ≡ true
-sized n = eq-eqb (length {A = ℕ} (replicate n 0x3000)) n (length-replicate n 0x3000)
-
-lent-fits : (f : Family) → fits f (lent f) ≡ true
-unfolding fits lent secondSize traits
-lent-fits UTF-8 = refl
-lent-fits single-byte = rw (sized 128)
-lent-fits windows-1252 = refl
-lent-fits GB18030 = rw (sized 23940)
-lent-fits Big5 = rw (sized 19782)
-lent-fits EUC-JP = rw (sized 11280, sized 8836)
-lent-fits ISO-2022-JP = rw (sized 11280)
-lent-fits Shift-JIS = rw (sized 11280)
-lent-fits EUC-KR = rw (sized 23940)
-lent-fits Replacement = refl
-lent-fits UTF-16BE = refl
-lent-fits UTF-16LE = refl
-lent-fits x-user-defined = refl
+pub filled-fits : (c : ℕ) (f : Family) → fits f (filled c f) ≡ true
+unfolding fits filled traits
+filled-fits c UTF-8 = refl
+filled-fits c single-byte = rw (sized 128 c)
+filled-fits c windows-1252 = refl
+filled-fits c GB18030 = rw (sized 23940 c)
+filled-fits c Big5 = rw (sized 19782 c)
+filled-fits c EUC-JP = rw (sized 11280 c, sized 8836 c)
+filled-fits c ISO-2022-JP = rw (sized 11280 c)
+filled-fits c Shift-JIS = rw (sized 11280 c)
+filled-fits c EUC-KR = rw (sized 23940 c)
+filled-fits c Replacement = refl
+filled-fits c UTF-16BE = refl
+filled-fits c UTF-16LE = refl
+filled-fits c x-user-defined = refl
 
 lent-below : (n : ℕ) → T (below (2 ^ 32) (replicate n 0x3000))
 unfolding every
@@ -88,12 +85,12 @@ module _ (e m rule : ℕ) (a : e ≤ 39) (l : m ≤ 1) (r : rule ≤ 1) where
 
   accepts : (chunk : List ℕ) → length chunk ≤ 65536 → feedRefusal d₀ (lent (family e)) chunk chunk ≡ 0
   unfolding feedRefusal d₀
-  accepts chunk h = rw (new-valid, lent-fits (family e), le-ltb 65536 (length chunk) h, le-ltb (length chunk) (length chunk + 0) (omega arith))
+  accepts chunk h = rw (new-valid, filled-fits 0x3000 (family e), le-ltb 65536 (length chunk) h, le-ltb (length chunk) (length chunk + 0) (omega arith))
 
   -- From an opening, by the bytes p, which bring the shift to s without an error in refusing mode, and then the bytes held.
   by-bytes : (p held : List ℕ) (s : Shift) (is : List Out) → decode (next (lent (family e)) (family e)) s₀ p ≡ record { items = is; shift = s; rest = [] } → eqb m 1 && broken (is ++ []) ≡ false →
       next noTables (family e) s held ≡ more → length p ≤ 5 → Bytes p → Bytes held → Reachable (holding e m s held)
-  unfolding s₀ d₀ lent
+  unfolding s₀ d₀ filled
   by-bytes p held s is g b w n pb hb =
       let t = lent (family e) in
       let k : length (p ++ held) ≤ 8 = simp length-append (omega (arith, few e m s held w)) in
@@ -103,7 +100,7 @@ module _ (e m rule : ℕ) (a : e ≤ 39) (l : m ≤ 1) (r : rule ≤ 1) where
       rw g (rw (decode-more (keeps (family e)) (next t (family e)) (next-laws t (family e)) s held (more-any noTables t (family e) s held w)) refl) in
       let out : feeding d₀ t (p ++ held) (p ++ held) ≡ write 0 (shown (is ++ [])) (holding e m s held) (p ++ held) =
       feed-holding e m s₀ [] t (p ++ held) (p ++ held) (empty noTables (family e) s₀) z ∙ ap (λ (r : Read). handOutRead e m r (p ++ held)) read ∙ rw b in
-      subst (λ (o : Outcome). Reachable (o .answer .decoder)) out (fed new-reached t (p ++ held) (p ++ held) (below-append p held pb hb) (lent-below (traits (family e) .first)) (lent-below (secondSize (traits (family e) .second))) (rw out tt))
+      subst (λ (o : Outcome). Reachable (o .answer .decoder)) out (fed new-reached t (p ++ held) (p ++ held) (below-append p held pb hb) (lent-below (traits (family e) .first)) (lent-below (secondCells (traits (family e) .second))) (rw out tt))
 
   -- the opening stands at the shift already
   at-once : (held : List ℕ) (s : Shift) → newShift e rule ≡ s → next noTables (family e) s held ≡ more → Bytes held → Reachable (holding e m s held)
@@ -113,7 +110,7 @@ module _ (e m rule : ℕ) (a : e ≤ 39) (l : m ≤ 1) (r : rule ≤ 1) where
       (and-false (eqb m 1)) w (lit≤ tt) tt b
 
 -- a finish at once leaves the record that has ended
-no-bytes : (f : Family) (s : Shift) → ending noTables f s [] ≡ []
+pub no-bytes : (f : Family) (s : Shift) → ending noTables f s [] ≡ []
 unfolding ending oneError isoEnd
 no-bytes UTF-8 s = refl
 no-bytes single-byte s = refl
@@ -156,7 +153,7 @@ record Escapes (n : ℕ) (b : Bool) : Type 0 where
   bytes : Bytes (escapeBytes n b)
 
 escapes : (n : ℕ) (b : Bool) → n ≤ 3 → Escapes n b
-unfolding escapeBytes decode reads next iso2022Jp byteOut escaped cell broken every lent secondSize traits
+unfolding escapeBytes decode reads next iso2022Jp byteOut escaped cell broken every filled traits
 escapes zero false h = record { items = []; sound = refl; comes = refl; short = lit≤ tt; bytes = tt }
 escapes zero true h = record { items = text [] ∷ []; sound = refl; comes = refl; short = lit≤ tt; bytes = tt }
 escapes (suc zero) false h = record { items = text [] ∷ text (0x41 ∷ []) ∷ []; sound = refl; comes = refl; short = lit≤ tt; bytes = tt }
@@ -191,7 +188,7 @@ module _ (e m : ℕ) (s : Shift) (held : List ℕ) (a : e ≤ 39) (l : m ≤ 1) 
 
   -- replacement after its error
   error-reached : family e ≡ Replacement → m ≡ 0 → s .state ≡ 0 → s .flag ≡ true → next noTables (family e) s held ≡ more → Reachable (holding e m s held)
-  unfolding s₀ decode reads next replacement broken every lent secondSize traits
+  unfolding s₀ decode reads next replacement broken every filled traits
   error-reached f k z g w = by-bytes e m 1 a l (lit≤ tt) (0x41 ∷ []) held s (error ∷ []) (rw f (λ i. record { items = error ∷ []; shift = shift-is s true z g i; rest = [] })) (rw k) w (lit≤ tt) tt b
 
   unmarked : T (eqb (s .state) 0 && not (s .flag)) → next noTables (family e) s held ≡ more → Reachable (holding e m s held)
