@@ -7,3 +7,4 @@ pub mod Validity
 pub mod Reaching
 pub mod Rooms
 pub mod Samples
+pub mod Theorems

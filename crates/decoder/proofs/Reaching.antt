@@ -15,6 +15,7 @@ use Rattle.standard.specs.Sequences.Replacement.{replacement}
 use Rattle.standard.specs.Next.{next}
 use Rattle.standard.specs.Decode.{Read, reads, decode, ending, shown, broken, oneError, isoEnd}
 use Rattle.standard.proofs.Tests.{T-true, and-left, and-right, and-T-left, and-T-right}
+use Rattle.standard.proofs.Every.{bytes-append, bytes-take}
 use Rattle.standard.proofs.FamilyLaws.{keeps, next-laws}
 use Rattle.standard.proofs.Walk.{stop, chunks, decode-more}
 use Rattle.standard.proofs.AnyTables.{more-any}
@@ -55,15 +56,6 @@ unfolding every
 lent-below zero = tt
 lent-below (suc n) = lent-below n
 
-below-append : (xs ys : List ℕ) → Bytes xs → Bytes ys → Bytes (xs ++ ys)
-unfolding every
-below-append [] ys h g = g
-below-append (x ∷ xs) ys h g = go (ltb x 256) (below-append xs ys) h
-  where
-    go : (t : Bool) → (Bytes xs → Bytes ys → Bytes (xs ++ ys)) → T (t && below 256 xs) → T (t && below 256 (xs ++ ys))
-    go true f h = f h g
-    go false f h = h
-
 module _ (e m rule : ℕ) (a : e ≤ 39) (l : m ≤ 1) (r : rule ≤ 1) where
   accepted-opening : openRefusal e m rule ≡ 0
   unfolding openRefusal
@@ -100,7 +92,7 @@ module _ (e m rule : ℕ) (a : e ≤ 39) (l : m ≤ 1) (r : rule ≤ 1) where
       rw g (rw (decode-more (keeps (family e)) (next t (family e)) (next-laws t (family e)) s held (more-any noTables t (family e) s held w)) refl) in
       let out : feeding d₀ t (p ++ held) (p ++ held) ≡ write 0 (shown (is ++ [])) (holding e m s held) (p ++ held) =
       feed-holding e m s₀ [] t (p ++ held) (p ++ held) (empty noTables (family e) s₀) z ∙ ap (λ (r : Read). handOutRead e m r (p ++ held)) read ∙ rw b in
-      subst (λ (o : Outcome). Reachable (o .answer .decoder)) out (fed new-reached t (p ++ held) (p ++ held) (below-append p held pb hb) (lent-below (traits (family e) .first)) (lent-below (secondCells (traits (family e) .second))) (rw out tt))
+      subst (λ (o : Outcome). Reachable (o .answer .decoder)) out (fed new-reached t (p ++ held) (p ++ held) (bytes-append p held pb hb) (lent-below (traits (family e) .first)) (lent-below (secondCells (traits (family e) .second))) (rw out tt))
 
   -- the opening stands at the shift already
   at-once : (held : List ℕ) (s : Shift) → newShift e rule ≡ s → next noTables (family e) s held ≡ more → Bytes held → Reachable (holding e m s held)
@@ -226,17 +218,6 @@ module _ (e m : ℕ) (s : Shift) (held : List ℕ) (a : e ≤ 39) (l : m ≤ 1) 
   by-family UTF-16BE k p w = with-mark (rw k) p w
   by-family UTF-16LE k p w = with-mark (rw k) p w
   by-family x-user-defined k p w = unmarked p w
-
--- the bytes held are some of the record's
-bytes-take : (n : ℕ) (xs : List ℕ) → Bytes xs → Bytes (take n xs)
-unfolding every
-bytes-take zero xs h = tt
-bytes-take (suc n) [] h = tt
-bytes-take (suc n) (x ∷ xs) h = go (ltb x 256) (bytes-take n xs) h
-  where
-    go : (t : Bool) → (Bytes xs → Bytes (take n xs)) → T (t && below 256 xs) → T (t && below 256 (take n xs))
-    go true f h = f h
-    go false f h = h
 
 pub valid-reachable : (d : Decoder) → Bytes (d .first ∷ d .second ∷ d .third ∷ []) → valid d ≡ true → Reachable d
 valid-reachable d b v = go (eqb (d .ended) 1) refl

@@ -25,89 +25,70 @@ use Rattle.standard.specs.Decode.{Read, decode, broken}
 use Rattle.standard.proofs.Tests.{and-T-left, and-T-right}
 use Rattle.standard.proofs.FamilyLaws.{keeps, next-laws}
 use Rattle.standard.proofs.Walk.{walk}
+use Rattle.standard.proofs.Fronts.{Front, front-test, front-await, front-item}
 use Rattle.decoder.specs.Valid.{possible}
 
--- `Q` holds of the shift and the output of the sequence at the front, if there is one.
-abbrev pub At : (Shift → Out → Type 0) → Next → Type 0
-At Q more = Unit
-At Q (item w s o) = Q s o
+on-mark : {Q : Shift → Out → Type 0} (fresh : Bool) (a : Next) → Front (λ s o. (o′ : Out) → Q s o′) a → Front Q (unmarked fresh a)
+on-mark fresh more h = record { holds = tt }
+on-mark fresh (item w s o) h = record { holds = h .holds (fresh then unmark o else o) }
 
-pub record Leaves (Q : Shift → Out → Type 0) (a : Next) : Type 0 where
-  pub holds : At Q a
-
-module _ {Q : Shift → Out → Type 0} where
-  on-test : (t : Bool) {a b : Next} → Leaves Q a → Leaves Q b → Leaves Q (t then a else b)
-  on-test true h g = h
-  on-test false h g = g
-
-  on-await : (xs : List ℕ) {f : ℕ → List ℕ → Next} → ((x : ℕ) (zs : List ℕ) → Leaves Q (f x zs)) → Leaves Q (await xs f)
-  on-await [] h = record { holds = tt }
-  on-await (x ∷ xs) h = h x xs
-
-  on-leaf : {w : ℕ} {s : Shift} {o : Out} → Q s o → Leaves Q (item w s o)
-  on-leaf q = record { holds = q }
-
-  on-mark : (fresh : Bool) (a : Next) → Leaves (λ s o. (o′ : Out) → Q s o′) a → Leaves Q (unmarked fresh a)
-  on-mark fresh more h = record { holds = tt }
-  on-mark fresh (item w s o) h = record { holds = h .holds (fresh then unmark o else o) }
-
-  on-all : (a : Next) {P : Shift → Out → Type 0} → ((s : Shift) (o : Out) → P s o → Q s o) → Leaves P a → Leaves Q a
-  on-all more f h = record { holds = tt }
-  on-all (item w s o) f h = record { holds = f s o (h .holds) }
+on-all : {Q : Shift → Out → Type 0} (a : Next) {P : Shift → Out → Type 0} → ((s : Shift) (o : Out) → P s o → Q s o) → Front P a → Front Q a
+on-all more f h = record { holds = tt }
+on-all (item w s o) f h = record { holds = f s o (h .holds) }
 
 -- Most encodings have no shift.
 abbrev Plain : Next → Type 0
-Plain a = Leaves (λ s o. s ≡ plain) a
+Plain a = Front (λ s o. s ≡ plain) a
 
 utf8-plain : (xs : List ℕ) → Plain (utf8 xs)
 unfolding utf8
-utf8-plain xs = search (on-await, on-test, on-leaf) depth 20
+utf8-plain xs = search (front-await, front-test, front-item) depth 20
 
 single-plain : (index xs : List ℕ) → Plain (singleByte index xs)
 unfolding singleByte
-single-plain index xs = search (on-await, on-test, on-leaf) depth 20
+single-plain index xs = search (front-await, front-test, front-item) depth 20
 
 gb-plain : (t : Tables) (xs : List ℕ) → Plain (gb18030 t xs)
 unfolding gb18030
-gb-plain t xs = search (on-await, on-test, on-leaf) depth 20
+gb-plain t xs = search (front-await, front-test, front-item) depth 20
 
 sjis-plain : (t : Tables) (xs : List ℕ) → Plain (shiftJis t xs)
 unfolding shiftJis
-sjis-plain t xs = search (on-await, on-test, on-leaf) depth 20
+sjis-plain t xs = search (front-await, front-test, front-item) depth 20
 
 user-plain : (xs : List ℕ) → Plain (userDefined xs)
 unfolding userDefined
-user-plain xs = search (on-await, on-test, on-leaf) depth 20
+user-plain xs = search (front-await, front-test, front-item) depth 20
 
 big5-plain : (t : Tables) (xs : List ℕ) → Plain (big5 t xs)
 unfolding big5 big5Pair
-big5-plain t xs = search (on-await, on-test, on-leaf) depth 20
+big5-plain t xs = search (front-await, front-test, front-item) depth 20
 
 jp-plain : (t : Tables) (xs : List ℕ) → Plain (eucJp t xs)
 unfolding eucJp
-jp-plain t xs = search (on-await, on-test, on-leaf) depth 20
+jp-plain t xs = search (front-await, front-test, front-item) depth 20
 
 kr-plain : (t : Tables) (xs : List ℕ) → Plain (eucKr t xs)
 unfolding eucKr
-kr-plain t xs = search (on-await, on-test, on-leaf) depth 20
+kr-plain t xs = search (front-await, front-test, front-item) depth 20
 
 utf16-plain : (be : Bool) (xs : List ℕ) → Plain (utf16 be xs)
 unfolding utf16
-utf16-plain be xs = search (on-await, on-test, on-leaf) depth 20
+utf16-plain be xs = search (front-await, front-test, front-item) depth 20
 
 -- The output states of ISO-2022-JP are 0 to 3.
 abbrev Low : Next → Type 0
-Low a = Leaves (λ s o. s .state ≤ 3) a
+Low a = Front (λ s o. s .state ≤ 3) a
 
 escape-low : (c d : ℕ) (s : Shift) → s .state ≤ 3 → (b : Bool) → leb 4 (escaped c d) ≡ b → Low (b then item 1 (shift (s .state) false) error else item 3 (shift (escaped c d) true) (s .flag then error else text []))
-escape-low c d s h true q = on-leaf h
-escape-low c d s h false q = on-leaf (omega (arith, leb-false 4 (escaped c d) q))
+escape-low c d s h true q = front-item h
+escape-low c d s h false q = front-item (omega (arith, leb-false 4 (escaped c d) q))
 
 iso-low : (t : Tables) (s : Shift) (xs : List ℕ) → s .state ≤ 3 → Low (iso2022Jp t s xs)
 unfolding iso2022Jp
-iso-low t s xs h = on-await xs (λ b zs.
-    on-test (eqb b 0x1B) (on-await zs (λ c us. on-test (eqb c 0x24 || eqb c 0x28) (on-await us (λ d vs. escape-low c d s h (leb 4 (escaped c d)) refl)) (on-leaf h)))
-    (on-test (eqb (s .state) 3) (on-test (within 0x21 b 0x7E) (on-await zs (λ c us. on-test (eqb c 0x1B) (on-leaf (lit≤ tt)) (on-leaf (lit≤ tt)))) (on-leaf (lit≤ tt))) (on-leaf h)))
+iso-low t s xs h = front-await xs (λ b zs.
+    front-test (eqb b 0x1B) (λ _. front-await zs (λ c us. front-test (eqb c 0x24 || eqb c 0x28) (λ _. front-await us (λ d vs. escape-low c d s h (leb 4 (escaped c d)) refl)) (λ _. front-item h))) (λ _.
+    front-test (eqb (s .state) 3) (λ _. front-test (within 0x21 b 0x7E) (λ _. front-await zs (λ c us. front-test (eqb c 0x1B) (λ _. front-item (lit≤ tt)) (λ _. front-item (lit≤ tt)))) (λ _. front-item (lit≤ tt))) (λ _. front-item h)))
 
 -- What a sequence leaves is possible if what it began with was; in refusing mode an error ends the decoder.
 abbrev Possible : Family → ℕ → Shift → Out → Type 0
@@ -129,10 +110,10 @@ plain-possible UTF-16BE m = tt
 plain-possible UTF-16LE m = tt
 plain-possible x-user-defined m = tt
 
-from-plain : (f : Family) (m : ℕ) (a : Next) → Plain a → Leaves (Possible f m) a
+from-plain : (f : Family) (m : ℕ) (a : Next) → Plain a → Front (Possible f m) a
 from-plain f m a h = on-all a (λ s o p z. subst (λ (s : Shift). T (possible f m s)) (sym p) (plain-possible f m)) h
 
-marked-plain : (f : Family) (m : ℕ) (fresh : Bool) (a : Next) → Plain a → Leaves (Possible f m) (unmarked fresh a)
+marked-plain : (f : Family) (m : ℕ) (fresh : Bool) (a : Next) → Plain a → Front (Possible f m) (unmarked fresh a)
 marked-plain f m fresh a h = on-mark fresh a (on-all a (λ s o p o′ z. subst (λ (s : Shift). T (possible f m s)) (sym p) (plain-possible f m)) h)
 
 -- replacement: the error of the first byte ends the decoder in refusing mode
@@ -149,7 +130,7 @@ low-possible : (m : ℕ) (s : Shift) → s .state ≤ 3 → T (possible ISO-2022
 unfolding possible
 low-possible m s l = subst T (sym (le-leb (s .state) 3 l)) tt
 
-next-possible : (t : Tables) (f : Family) (m : ℕ) (s : Shift) (xs : List ℕ) → m ≤ 1 → T (possible f m s) → Leaves (Possible f m) (next t f s xs)
+next-possible : (t : Tables) (f : Family) (m : ℕ) (s : Shift) (xs : List ℕ) → m ≤ 1 → T (possible f m s) → Front (Possible f m) (next t f s xs)
 unfolding next replacement
 next-possible t UTF-8 m s xs l p = marked-plain UTF-8 m (s .flag) (utf8 xs) (utf8-plain xs)
 next-possible t single-byte m s xs l p = from-plain single-byte m _ (single-plain (t .first) xs)
@@ -160,7 +141,7 @@ next-possible t EUC-JP m s xs l p = from-plain EUC-JP m _ (jp-plain t xs)
 next-possible t ISO-2022-JP m s xs l p = on-all (iso2022Jp t s xs) (λ s o q z. low-possible m s q) (iso-low t s xs (iso-possible m s p))
 next-possible t Shift-JIS m s xs l p = from-plain Shift-JIS m _ (sjis-plain t xs)
 next-possible t EUC-KR m s xs l p = from-plain EUC-KR m _ (kr-plain t xs)
-next-possible t Replacement m s xs l p = on-await xs (λ b zs. on-leaf (replacing m s (s .flag) l p refl))
+next-possible t Replacement m s xs l p = front-await xs (λ b zs. front-item (replacing m s (s .flag) l p refl))
 next-possible t UTF-16BE m s xs l p = marked-plain UTF-16BE m (s .flag) (utf16 true xs) (utf16-plain true xs)
 next-possible t UTF-16LE m s xs l p = marked-plain UTF-16LE m (s .flag) (utf16 false xs) (utf16-plain false xs)
 next-possible t x-user-defined m s xs l p = from-plain x-user-defined m _ (user-plain xs)

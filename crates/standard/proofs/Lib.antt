@@ -5,3 +5,16 @@ pub mod Walk
 pub mod AnyTables
 pub mod Items
 pub mod Reading
+pub mod Every
+pub mod Simulation
+pub mod AgreementsLeaves
+pub mod AgreementsBytes
+pub mod AgreementsGb
+pub mod AgreementsIso
+pub mod AgreementsUtf
+pub mod Agreements
+pub mod Fronts
+pub mod Whole
+pub mod Paused
+pub mod FamilyScalars
+pub mod OnlyScalars
