@@ -10,7 +10,7 @@ use borrow.Author.Tests.{eq-eqb, eqb-true, le-ltb, not-true}
 use Rattle.standard.specs.Base.{_then_else_, every, below, Bytes}
 use Rattle.standard.specs.Encodings.{Family, UTF-8, single-byte, windows-1252, GB18030, Big5, EUC-JP, ISO-2022-JP, Shift-JIS, EUC-KR, Replacement, UTF-16BE, UTF-16LE, x-user-defined, family, traits, Tables, noTables, fits}
 use Rattle.standard.specs.Sequence.{Shift, Out, text, error, more, shift, cell}
-use Rattle.standard.specs.Sequences.Iso2022Jp.{iso2022Jp, escaped, byteOut}
+use Rattle.standard.specs.Sequences.Iso2022Jp.{iso2022Jp, escaped, isoPointer, byteOut}
 use Rattle.standard.specs.Sequences.Replacement.{replacement}
 use Rattle.standard.specs.Next.{next}
 use Rattle.standard.specs.Decode.{Read, reads, decode, ending, shown, broken, oneError, isoEnd}
@@ -145,7 +145,7 @@ record Escapes (n : ℕ) (b : Bool) : Type 0 where
   bytes : Bytes (escapeBytes n b)
 
 escapes : (n : ℕ) (b : Bool) → n ≤ 3 → Escapes n b
-unfolding escapeBytes decode reads next iso2022Jp byteOut escaped cell broken every filled traits
+unfolding escapeBytes decode reads next iso2022Jp byteOut escaped isoPointer cell broken every filled traits
 escapes zero false h = record { items = []; sound = refl; comes = refl; short = lit≤ tt; bytes = tt }
 escapes zero true h = record { items = text [] ∷ []; sound = refl; comes = refl; short = lit≤ tt; bytes = tt }
 escapes (suc zero) false h = record { items = text [] ∷ text (0x41 ∷ []) ∷ []; sound = refl; comes = refl; short = lit≤ tt; bytes = tt }

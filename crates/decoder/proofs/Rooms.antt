@@ -1,19 +1,24 @@
 -- Rooms that suffice: no refusal 7 with three cells more than the chunk, and calls that are accepted. Assumes nothing.
 use mathlib.Core.Path.{_≡_, refl, sym, ap, _∙_, subst}
-use mathlib.Core.Bool.{Bool, true, false, not}
-use mathlib.Core.List.{List, [], _∷_}
+use mathlib.Core.Bool.{Bool, true, false, not, _&&_}
+use mathlib.Core.List.{List, [], _∷_, _++_}
 use Prim.Native.Nat.{ℕ, _+_, _≤_}
 use native.Mathlib.Omega.{arith}
 use lib.Dec.{T, ltb, eqb}
-use lib.ListN.{length}
-use borrow.Author.Tests.{le-ltb}
+use lib.ListN.{length, drop, length-append, length-drop, length-take}
+use borrow.Author.Tests.{le-ltb, ltb-false}
 use Rattle.standard.specs.Base.{_then_else_}
-use Rattle.standard.specs.Encodings.{family, Tables, fits}
-use Rattle.standard.proofs.Reading.{empty}
-use Rattle.decoder.specs.Valid.{valid}
-use Rattle.decoder.specs.Calls.{holding, closed, newShift, openRefusal, feedRefusal, feeding, finishRefusal}
+use Rattle.standard.specs.Encodings.{Family, family, Tables, noTables, fits}
+use Rattle.standard.specs.Sequence.{Out}
+use Rattle.standard.specs.Next.{next}
+use Rattle.standard.specs.Decode.{Read, decode, ending, shown, broken, before}
+use Rattle.standard.proofs.FamilyLaws.{keeps, next-laws}
+use Rattle.standard.proofs.Items.{before-length}
+use Rattle.standard.proofs.Reading.{reading, ending-is}
+use Rattle.decoder.specs.Valid.{shiftOf, heldOf, valid}
+use Rattle.decoder.specs.Calls.{holding, closed, newShift, openRefusal, Outcome, refuse, write, handOut, handOutRead, feedRefusal, feeding, finishRefusal, finishing}
 use Rattle.decoder.specs.Histories.{Call, feed, History, noted, start}
-use Rattle.decoder.specs.Statements.{Piece, Accepts, Roomy}
+use Rattle.decoder.specs.Statements.{Piece, Accepts, Roomy, RoomKept}
 use Rattle.decoder.specs.declared.Decoder.{Decoder}
 use Rattle.decoder.proofs.Steps.{Stands, reads, ended, Step, refused, fed, reported, stepped, still, opened-is, stands-new}
 use Rattle.decoder.proofs.Validity.{parts, valid-step, valid-opening, opening-bounds}
@@ -97,3 +102,80 @@ roomy t e m rule o ps last f r =
     let v : valid (start e m rule .decoder) ≡ true = valid-opening e m rule in
     subst (λ (h : History). Accepts t h ps last) (sym k) (roomy-from t e m (b .0) (b .1) f ps last (record { taken = []; handed = []; decoder = holding e m (newShift e rule) [] })
     (record { stands = stands-new e m rule; valid = ap (λ (h : History). valid (h .decoder)) (sym k) ∙ v; on = refl }) r)
+
+-- what is written at the front of a room, and what stood behind it
+written-length : (cs room : List ℕ) → length cs ≤ length room → length (cs ++ drop (length cs) room) ≡ length room
+written-length cs room h = simp (length-append, length-drop) (omega arith)
+
+handed-length : (e m : ℕ) (is : List Out) (d : Decoder) (room : List ℕ) → length (shown is) ≤ length room → length (handOut e m is d room .room) ≡ length room
+handed-length e m is d room h = go (eqb m 1 && broken is)
+  where
+    given : Bool → Outcome
+    given b = b then write 11 (before is) (closed e m) room else write 0 (shown is) d room
+    go : (b : Bool) → length (given b .room) ≡ length room
+    go true = written-length (before is) room (omega (arith, before-length is))
+    go false = written-length (shown is) room h
+
+-- no refusal says that the room suffices
+room-left : (a b : Bool) (n : ℕ) → eqb (a then 5 else b then 6 else n) 0 ≡ true → eqb n 0 ≡ true
+room-left true b n h = absurd (subst T (sym h) tt)
+room-left false true n h = absurd (subst T (sym h) tt)
+room-left false false n h = h
+
+feed-enough : (d : Decoder) (t : Tables) (chunk room : List ℕ) → eqb (feedRefusal d t chunk room) 0 ≡ true → length chunk + d .held ≤ length room
+unfolding feedRefusal
+feed-enough d t chunk room h = go (not (fits (family (d .encoding)) t)) (ltb 65536 (length chunk)) (ltb (length room) (length chunk + d .held)) refl (room-left (not (valid d)) (eqb (d .ended) 1) _ h)
+  where
+    number : (c e f : Bool) → ℕ
+    number c e f = c then 4 else e then 8 else f then 7 else 0
+    go : (c e f : Bool) → ltb (length room) (length chunk + d .held) ≡ f → eqb (number c e f) 0 ≡ true → length chunk + d .held ≤ length room
+    go true e f s q = absurd (subst T (sym q) tt)
+    go false true f s q = absurd (subst T (sym q) tt)
+    go false false true s q = absurd (subst T (sym q) tt)
+    go false false false s q = ltb-false (length room) (length chunk + d .held) s
+
+finish-enough : (d : Decoder) (room : List ℕ) → eqb (finishRefusal d room) 0 ≡ true → d .held ≤ length room
+unfolding finishRefusal
+finish-enough d room h = go (ltb (length room) (d .held)) refl (room-left (not (valid d)) (eqb (d .ended) 1) _ h)
+  where
+    number : Bool → ℕ
+    number f = f then 7 else 0
+    go : (f : Bool) → ltb (length room) (d .held) ≡ f → eqb (number f) 0 ≡ true → d .held ≤ length room
+    go true s q = absurd (subst T (sym q) tt)
+    go false s q = ltb-false (length room) (d .held) s
+
+held-length : (d : Decoder) → length (heldOf d) ≤ d .held
+held-length d = simp length-take (omega arith)
+
+feed-keeps : (d : Decoder) (t : Tables) (chunk room : List ℕ) → length (feeding d t chunk room .room) ≡ length room
+unfolding feeding
+feed-keeps d t chunk room = go (eqb (feedRefusal d t chunk room) 0) refl
+  where
+    f : Family
+    f = family (d .encoding)
+    r : Read
+    r = decode (next t (family (d .encoding))) (shiftOf d) (heldOf d ++ chunk)
+    given : Bool → Outcome
+    given b = b then handOutRead (d .encoding) (d .mode) r room else refuse (feedRefusal d t chunk room) d room
+    go : (b : Bool) → eqb (feedRefusal d t chunk room) 0 ≡ b → length (given b .room) ≡ length room
+    go true q =
+        let R = reading (keeps f) (next t f) (next-laws t f) (shiftOf d) (heldOf d ++ chunk) in
+        handed-length (d .encoding) (d .mode) (r .items) (holding (d .encoding) (d .mode) (r .shift) (r .rest)) room
+        (omega (arith, feed-enough d t chunk room q, R .count, ap length (R .split) ∙ length-append (R .used) (r .rest), length-append (heldOf d) chunk, held-length d))
+    go false q = refl
+
+finish-keeps : (d : Decoder) (room : List ℕ) → length (finishing d room .room) ≡ length room
+unfolding finishing
+finish-keeps d room = go (eqb (finishRefusal d room) 0) refl
+  where
+    is : List Out
+    is = ending noTables (family (d .encoding)) (shiftOf d) (heldOf d)
+    given : Bool → Outcome
+    given b = b then handOut (d .encoding) (d .mode) is (closed (d .encoding) (d .mode)) room else refuse (finishRefusal d room) d room
+    go : (b : Bool) → eqb (finishRefusal d room) 0 ≡ b → length (given b .room) ≡ length room
+    go true q = handed-length (d .encoding) (d .mode) is (closed (d .encoding) (d .mode)) room
+        (omega (arith, finish-enough d room q, ending-is noTables (family (d .encoding)) (shiftOf d) (heldOf d) .count, held-length d))
+    go false q = refl
+
+pub room-kept : (d : Decoder) → RoomKept d
+room-kept d = record { fed = feed-keeps d; finished = finish-keeps d }

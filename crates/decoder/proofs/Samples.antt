@@ -12,7 +12,7 @@ use Rattle.standard.specs.Sequence.{Shift, Out, cell}
 use Rattle.standard.specs.Sequences.Utf8.{utf8, utf8Low, utf8High}
 use Rattle.standard.specs.Sequences.Gb18030.{gb18030, gbCode, gbPointer, gbRange, gbFourCode, gbFourPointer}
 use Rattle.standard.specs.Sequences.Big5.{big5, big5Pointer, big5Pair}
-use Rattle.standard.specs.Sequences.EucJp.{eucJp, eucJpCode}
+use Rattle.standard.specs.Sequences.EucJp.{eucJp, eucJpCode, eucJpPointer}
 use Rattle.standard.specs.Sequences.Iso2022Jp.{iso2022Jp, escaped, byteOut}
 use Rattle.standard.specs.Sequences.ShiftJis.{shiftJis, shiftJisCode, shiftJisPointer}
 use Rattle.standard.specs.Sequences.Utf16.{utf16, unit}
@@ -42,7 +42,7 @@ nothing-given e rule a r =
     rw (decode-more (keeps (family e)) (next t (family e)) (next-laws t (family e)) s [] (empty t (family e) s), ending-any t noTables (family e) s [], no-bytes (family e) s)
 
 pub samples : Samples
-unfolding family traits fits filled account cutting after reports start opening openRefusal feeding feedRefusal finishing finishRefusal valid validRest unused possible decode reads ending oneError isoEnd shown broken before next cell utf8 utf8Low utf8High gb18030 gbCode gbPointer gbRange gbFourCode gbFourPointer big5 big5Pointer big5Pair eucJp eucJpCode iso2022Jp escaped byteOut shiftJis shiftJisCode shiftJisPointer utf16 unit
+unfolding family traits fits filled account cutting after reports start opening openRefusal feeding feedRefusal finishing finishRefusal valid validRest unused possible decode reads ending oneError isoEnd shown broken before next cell utf8 utf8Low utf8High gb18030 gbCode gbPointer gbRange gbFourCode gbFourPointer big5 big5Pointer big5Pair eucJp eucJpCode eucJpPointer iso2022Jp escaped byteOut shiftJis shiftJisCode shiftJisPointer utf16 unit
 samples = record {
   no-bytes-1 = λ e a. (nothing-given e 0 a (lit≤ tt), nothing-given e 1 a (lit≤ tt));
   utf8-2 = (refl, refl);

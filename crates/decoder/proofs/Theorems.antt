@@ -9,8 +9,7 @@ use lib.Dec.{T, eqb, lit≤}
 use lib.ListN.{length, drop, length-append}
 use lib.Seq.{drop-append-seam}
 use borrow.Author.Tests.{eqb-true}
-use Rattle.standard.specs.Base.{_then_else_, every, Bytes, separators}
-use Rattle.standard.specs.Scalars.{scalars}
+use Rattle.standard.specs.Base.{_then_else_, every, Bytes, separators, scalars}
 use Rattle.standard.specs.Encodings.{family, traits, Tables, noTables}
 use Rattle.standard.specs.Machine.{Mode, replacement, fatal, finished, Ran}
 use Rattle.standard.specs.Machine.{error as failed}

@@ -6,13 +6,12 @@ use mathlib.Core.Option.{Option, some, none}
 use Prim.Native.Nat.{ℕ, _+_, _-_, _≤_}
 use lib.Dec.{T, eqb}
 use lib.ListN.{length, drop}
-use Rattle.standard.specs.Base.{_then_else_, Bytes, separators}
-use Rattle.standard.specs.Scalars.{scalars}
+use Rattle.standard.specs.Base.{_then_else_, Bytes, separators, scalars}
 use Rattle.standard.specs.Encodings.{family, traits, Tables, fits}
 use Rattle.standard.specs.Machine.{Mode, replacement, fatal, Result, finished, continue, tokens, error, error-with, Ran}
 use Rattle.standard.specs.Standard.{standard, dropMark, SoFar, standardSoFar}
 use Rattle.decoder.specs.Valid.{heldOf, valid}
-use Rattle.decoder.specs.Calls.{bit, closed, openRefusal, feedRefusal, feeding, finishRefusal}
+use Rattle.decoder.specs.Calls.{bit, closed, openRefusal, feedRefusal, feeding, finishRefusal, finishing}
 use Rattle.decoder.specs.Histories.{Call, feed, finish, History, noted, outcome, chunkOf, after, start, hasEnded, Reachable}
 use Rattle.decoder.specs.declared.Decoder.{Decoder}
 
@@ -117,6 +116,11 @@ pub record Demand3 (e m rule : ℕ) (calls : List Call) (h : History) : Type 0 w
   pub feed-room : (t : Tables) (chunk room : List ℕ) → length chunk + 3 ≤ length room → feedRefusal (h .decoder) t chunk room ≡ 7 → ⊥
   pub finish-room : (room : List ℕ) → 3 ≤ length room → finishRefusal (h .decoder) room ≡ 7 → ⊥
   pub only-scalars : Bytes (h .taken) → T (scalars (h .handed))
+
+-- No call writes past the room: whatever the record and what is lent, the room keeps its length.
+pub record RoomKept (d : Decoder) : Type 0 where
+  pub fed : (t : Tables) (chunk room : List ℕ) → length (feeding d t chunk room .room) ≡ length room
+  pub finished : (room : List ℕ) → length (finishing d room .room) ≡ length room
 
 -- Refusal 5 is given exactly when no calls leave the record. (A record's fields are bytes.)
 pub record Refusal5 (d : Decoder) : Type 0 where

@@ -9,8 +9,7 @@ use native.Mathlib.Nat.{div-div-eq-div-mul}
 use lib.Dec.{ltb, leb, eqb}
 use lib.ListN.{length, getD}
 use borrow.Author.Tests.{ltb-false, leb-true, leb-false, eqb-true, le-ltb, le-leb, ne-eqb, not-true}
-use Rattle.standard.specs.Base.{_then_else_, within}
-use Rattle.standard.specs.Scalars.{isScalar, mapped}
+use Rattle.standard.specs.Base.{_then_else_, within, isScalar, mapped}
 use Rattle.standard.specs.Encodings.{Tables, Family, UTF-8, single-byte, windows-1252, GB18030, Big5, EUC-JP, ISO-2022-JP, Shift-JIS, EUC-KR, Replacement, UTF-16BE, UTF-16LE, x-user-defined}
 use Rattle.standard.specs.Indexes.{indexCodePoint, indexPointer, windows1252}
 use Rattle.standard.specs.Machine.{Result, tokens, error-with}

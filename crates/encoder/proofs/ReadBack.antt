@@ -9,7 +9,7 @@ use lib.Dec.{ltb, eqb}
 use lib.ListN.{length, drop}
 use lib.Seq.{take-append-seam}
 use borrow.Author.Tests.{ltb-false, le-ltb, not-false}
-use Rattle.standard.specs.Scalars.{scalars}
+use Rattle.standard.specs.Base.{scalars}
 use Rattle.standard.specs.Encodings.{Family, family, traits, Tables, fits}
 use Rattle.standard.specs.Machine.{Result}
 use Rattle.standard.specs.Encoders.{encoder}

@@ -6,7 +6,7 @@ use Rattle.standard.specs.Indexes.{pointerFrom, irregular, countFrom, windows12
 use Rattle.standard.specs.Machine.{digits, reference}
 use Rattle.standard.specs.Encoders.{utf8-following, utf8-bytes, utf8-encode, single-encode}
 use Rattle.encoder.specs.Writer.{writing, encoding}
-use Rattle.encoder.specs.Statements.{Samples}
+use Rattle.encoder.specs.Samples.{Samples}
 
 pub samples : Samples
 unfolding every family traits fits pointerFrom irregular countFrom windows1252 digits reference utf8-following utf8-bytes utf8-encode single-encode writing encoding

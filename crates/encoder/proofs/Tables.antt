@@ -8,8 +8,7 @@ use native.Mathlib.Omega.{arith}
 use lib.Dec.{eqb}
 use lib.ListN.{length}
 use borrow.Author.Tests.{eqb-true, eq-eqb}
-use Rattle.standard.specs.Base.{_then_else_}
-use Rattle.standard.specs.Scalars.{mapped}
+use Rattle.standard.specs.Base.{_then_else_, mapped}
 use Rattle.standard.specs.Indexes.{indexCodePoint, pointerFrom}
 use Rattle.standard.proofs.Tests.{and-left, and-right}
 use Rattle.encoder.specs.Statements.{TableRule}

@@ -8,8 +8,7 @@ use native.Mathlib.Numerals.{add-one}
 use native.Mathlib.Omega.{arith}
 use lib.ListN.{length}
 use lib.Seq.{drop-append-seam}
-use Rattle.standard.specs.Base.{every}
-use Rattle.standard.specs.Scalars.{isScalar, scalars}
+use Rattle.standard.specs.Base.{every, isScalar, scalars}
 use Rattle.standard.specs.Encodings.{Tables, Family}
 use Rattle.standard.specs.Machine.{Token, token, Result, finished, continue, tokens, error, error-with, Processed, Mode, fatal, html, deliver, reference, stream, Ran, run}
 use Rattle.standard.specs.Encoders.{encoder, encode-handler, standardEncode}

@@ -5,8 +5,7 @@ use mathlib.Core.Option.{Option, some, none}
 use Prim.Native.Nat.{ℕ, suc}
 use lib.Dec.{ltb, eqb}
 use lib.ListN.{length, drop}
-use Rattle.standard.specs.Base.{_then_else_}
-use Rattle.standard.specs.Scalars.{scalars}
+use Rattle.standard.specs.Base.{_then_else_, scalars}
 use Rattle.standard.specs.Encodings.{family, Tables, fits}
 use Rattle.standard.specs.Machine.{Result, finished, continue, tokens, error, error-with, reference}
 use Rattle.standard.specs.Encoders.{encoder}

@@ -9,11 +9,13 @@ use lib.ListN.{length, getD, length-set}
 use lib.Seq.{getD-set-same, getD-set-other}
 use borrow.Author.Tests.{ltb-true, lt-ltb, le-ltb, eq-eqb, ne-eqb}
 use Rattle.standard.specs.Base.{_then_else_}
+use Rattle.standard.specs.Text.{bytes}
 use Rattle.index.specs.IndexLine.{value}
 use Rattle.index.specs.IndexRead.{Read, noEntry, bad, entry, front, behind, fits, read}
 use Rattle.index.specs.IndexCall.{without, fill, free, enter, indexLine}
-use Rattle.index.specs.Statements.{Fills, Answers, bytes, Samples}
-use Rattle.index.proofs.Reader.{split, reads}
+use Rattle.index.specs.Statements.{Fills, Answers, Samples}
+use Rattle.standard.proofs.Tests.{split}
+use Rattle.index.proofs.Reader.{reads}
 
 -- A line that is not too long is entered as it is read.
 short : (line table : List ℕ) (r : Read) → length line ≤ 1024 → read line ≡ r → indexLine line table ≡ enter r table

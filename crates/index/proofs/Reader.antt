@@ -7,21 +7,11 @@ use native.Mathlib.Omega.{arith}
 use lib.Dec.{T, leb, eqb}
 use lib.ListN.{length, drop, replicate}
 use borrow.Author.Tests.{leb-true, eqb-true, ne-eqb, not-true}
-use Rattle.standard.specs.Base.{within, every}
-use Rattle.standard.specs.Scalars.{mapped}
+use Rattle.standard.specs.Base.{within, every, mapped}
+use Rattle.standard.proofs.Tests.{split, and-both}
 use Rattle.index.specs.IndexLine.{decimal, hexadecimal, value, ending, NoEntry, empty, comment, Entry}
 use Rattle.index.specs.IndexRead.{Read, noEntry, bad, entry, front, behind, space, marked, fits, readParts, readCode, readPointer, isNoEntry, read}
 use Rattle.index.specs.Statements.{Reads}
-
--- Two cases by a test.
-pub split : {A : Type 0} (t : Bool) → (t ≡ true → A) → (t ≡ false → A) → A
-split true f g = f refl
-split false f g = g refl
-
--- Both halves of a conjunction hold.
-and : (a b : Bool) → a && b ≡ true → (a ≡ true) × (b ≡ true)
-and true b h = (refl, h)
-and false b h = absurd (subst T (sym h) tt)
 
 -- The front passes the test.
 front-every : (p : ℕ → Bool) (xs : List ℕ) → every p (front p xs) ≡ true
@@ -47,7 +37,7 @@ module _ (p : ℕ → Bool) where
   front-of [] [] h g = refl
   front-of [] (y ∷ ys) h g = rw (not-true (p y) g)
   front-of (x ∷ xs) ys h g =
-      let k : (p x ≡ true) × (every p xs ≡ true) = and (p x) (every p xs) h in
+      let k : (p x ≡ true) × (every p xs ≡ true) = and-both (p x) (every p xs) h in
       rw (k .0) (ap (λ l. x ∷ l) (front-of xs ys (k .1) g))
 
   -- `behind` gives the list behind them.
@@ -56,7 +46,7 @@ module _ (p : ℕ → Bool) where
   behind-of [] [] h g = refl
   behind-of [] (y ∷ ys) h g = rw (not-true (p y) g)
   behind-of (x ∷ xs) ys h g =
-      let k : (p x ≡ true) × (every p xs ≡ true) = and (p x) (every p xs) h in
+      let k : (p x ≡ true) × (every p xs ≡ true) = and-both (p x) (every p xs) h in
       rw (k .0) (behind-of xs ys (k .1) g)
 
 -- Bytes that are all spaces are 20 so many times.
@@ -64,7 +54,7 @@ all-spaces : (xs : List ℕ) → every space xs ≡ true → xs ≡ replicate (l
 unfolding every
 all-spaces [] h = refl
 all-spaces (x ∷ xs) h =
-    let k : (space x ≡ true) × (every space xs ≡ true) = and (space x) (every space xs) h in
+    let k : (space x ≡ true) × (every space xs ≡ true) = and-both (space x) (every space xs) h in
     rw (eqb-true x 0x20 (k .0)) (ap (λ l. 0x20 ∷ l) (all-spaces xs (k .1)))
 
 -- So many times 20 are all spaces.
@@ -76,11 +66,11 @@ spaces-all (suc n) = spaces-all n
 -- A tab and `0x` in front.
 is-marked : (xs : List ℕ) → marked xs ≡ true → xs ≡ 0x09 ∷ 0x30 ∷ 0x78 ∷ drop 3 xs
 is-marked [] h = absurd (subst T (sym h) tt)
-is-marked (a ∷ []) h = absurd (subst T (sym (and (eqb a 0x09) false h .1)) tt)
-is-marked (a ∷ b ∷ []) h = absurd (subst T (sym (and (eqb b 0x30) false (and (eqb a 0x09) (eqb b 0x30 && false) h .1) .1)) tt)
+is-marked (a ∷ []) h = absurd (subst T (sym (and-both (eqb a 0x09) false h .1)) tt)
+is-marked (a ∷ b ∷ []) h = absurd (subst T (sym (and-both (eqb b 0x30) false (and-both (eqb a 0x09) (eqb b 0x30 && false) h .1) .1)) tt)
 is-marked (a ∷ b ∷ c ∷ xs) h =
-    let i = and (eqb a 0x09) (eqb b 0x30 && eqb c 0x78) h in
-    let j = and (eqb b 0x30) (eqb c 0x78) (i .1) in
+    let i = and-both (eqb a 0x09) (eqb b 0x30 && eqb c 0x78) h in
+    let j = and-both (eqb b 0x30) (eqb c 0x78) (i .1) in
     rw (eqb-true a 0x09 (i .0), eqb-true b 0x30 (j .0), eqb-true c 0x78 (j .1))
 
 -- What the reader asks of the parts.
@@ -95,10 +85,10 @@ record Fits (ds xs hs rest : List ℕ) : Type 0 where
 fits-parts : (ds xs hs rest : List ℕ) → fits ds xs hs rest ≡ true → Fits ds xs hs rest
 unfolding fits
 fits-parts ds xs hs rest h =
-    let i = and (within 1 (length ds) 7) (marked xs && (within 4 (length hs) 6 && (ending rest && mapped (value 16 0 hs)))) h in
-    let j = and (marked xs) (within 4 (length hs) 6 && (ending rest && mapped (value 16 0 hs))) (i .1) in
-    let k = and (within 4 (length hs) 6) (ending rest && mapped (value 16 0 hs)) (j .1) in
-    let l = and (ending rest) (mapped (value 16 0 hs)) (k .1) in
+    let i = and-both (within 1 (length ds) 7) (marked xs && (within 4 (length hs) 6 && (ending rest && mapped (value 16 0 hs)))) h in
+    let j = and-both (marked xs) (within 4 (length hs) 6 && (ending rest && mapped (value 16 0 hs))) (i .1) in
+    let k = and-both (within 4 (length hs) 6) (ending rest && mapped (value 16 0 hs)) (j .1) in
+    let l = and-both (ending rest) (mapped (value 16 0 hs)) (k .1) in
     record { one-to-seven = i .0; mark = j .0; four-to-six = k .0; closes = l .0; is-mapped = l .1 }
 
 -- The parts hold, so does the test.
@@ -166,8 +156,8 @@ starts-digit : (ds ys : List ℕ) → every decimal ds ≡ true → within 1 (le
 unfolding every stops
 starts-digit [] ys h g = absurd (subst T (sym g) tt)
 starts-digit (d ∷ ds) ys h g =
-    let i = and (decimal d) (every decimal ds) h in
-    let j : 0x30 ≤ d = leb-true 0x30 d (and (leb 0x30 d) (leb d 0x39) (i .0) .0) in
+    let i = and-both (decimal d) (every decimal ds) h in
+    let j : 0x30 ≤ d = leb-true 0x30 d (and-both (leb 0x30 d) (leb d 0x39) (i .0) .0) in
     (rw (ne-eqb d 0x20 (omega arith)), ne-eqb d 0x23 (omega arith))
 
 -- Nor does a line that begins with spaces start with `#`.

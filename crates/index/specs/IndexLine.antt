@@ -5,8 +5,7 @@ use mathlib.Core.List.{List, [], _∷_, _++_}
 use Prim.Native.Nat.{ℕ, _+_, _-_, _*_}
 use lib.Dec.{ltb, eqb}
 use lib.ListN.{length, replicate}
-use Rattle.standard.specs.Base.{_then_else_, within, every}
-use Rattle.standard.specs.Scalars.{mapped}
+use Rattle.standard.specs.Base.{_then_else_, within, every, mapped}
 
 -- A decimal digit: 0-9.
 abbrev pub decimal : ℕ → Bool

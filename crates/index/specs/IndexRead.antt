@@ -4,8 +4,7 @@ use mathlib.Core.List.{List, [], _∷_}
 use Prim.Native.Nat.{ℕ}
 use lib.Dec.{eqb}
 use lib.ListN.{length, getD, drop}
-use Rattle.standard.specs.Base.{_then_else_, within}
-use Rattle.standard.specs.Scalars.{mapped}
+use Rattle.standard.specs.Base.{_then_else_, within, mapped}
 use Rattle.index.specs.IndexLine.{decimal, hexadecimal, value, ending}
 
 -- What a line is: no entry, a bad line, or an entry with its pointer and code point.

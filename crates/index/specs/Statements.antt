@@ -3,9 +3,9 @@ use mathlib.Core.Path.{_≡_}
 use mathlib.Core.Logic.{_↔_}
 use mathlib.Core.List.{List, [], _∷_, map}
 use Prim.Native.Nat.{ℕ, _≤_, _<_}
-use Prim.Native.Char.{code}
-use Prim.Native.String.{String, [] as []ˢ, _∷_ as _∷ˢ_}
+use Prim.Native.String.{String}
 use lib.ListN.{length, getD, replicate}
+use Rattle.standard.specs.Text.{bytes}
 use Rattle.index.specs.IndexLine.{NoEntry, Entry}
 use Rattle.index.specs.IndexRead.{Read, noEntry, bad, entry, read}
 use Rattle.index.specs.IndexCall.{Outcome, without, indexLine}
@@ -32,11 +32,6 @@ pub record Answers (line table : List ℕ) : Type 0 where
   pub no-room : length line ≤ 1024 → (p c : ℕ) → Entry line p c → ((p < length table) × (getD table p 0 ≡ 0) → ⊥) → indexLine line table ≡ without 13 table
   pub filled : length line ≤ 1024 → (p c : ℕ) → Entry line p c → p < length table → getD table p 0 ≡ 0 → Fills p c table (indexLine line table)
   pub unchanged : indexLine line table .answer .entry ≡ 0 → indexLine line table .table ≡ table
-
--- The bytes of a quoted text, all ASCII.
-unfoldable pub bytes : String → List ℕ
-bytes []ˢ = []
-bytes (c ∷ˢ s) = code c ∷ bytes s
 
 -- Texts that are all read as r.
 abbrev pub AllRead : Read → List String → Type 0

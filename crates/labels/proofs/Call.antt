@@ -8,7 +8,8 @@ use native.Mathlib.Omega.{arith}
 use lib.ListN.{length, take, drop, length-append, length-map}
 use lib.Seq.{take-at, drop-at}
 use Rattle.standard.specs.Base.{every}
-use Rattle.labels.specs.Labels.{table, bytes, name, white, fold, start, trimmed, same, among, find, answer, label}
+use Rattle.standard.specs.Text.{bytes}
+use Rattle.labels.specs.Labels.{table, name, white, fold, start, trimmed, same, among, find, answer, label}
 use Rattle.labels.specs.Statements.{labels, known, Finds, Answers, Insensitive, Samples}
 use Rattle.labels.specs.declared.Found.{Found}
 use Rattle.labels.proofs.Trimming.{trims, around, fold-all, fold-start, fold-trimmed}

@@ -12,9 +12,10 @@ use lib.Dec.{T, eqb}
 use native.Mathlib.Nat.{add-zero, zero-add}
 use lib.ListN.{length, getD, length-map, List·getD-eq-default}
 use borrow.Author.Tests.{eqb-true, not-true, eq-eqb}
-use Rattle.labels.specs.Labels.{table, bytes, name, fold, start, trimmed, same, among, find}
+use Rattle.standard.proofs.Tests.{split, and-both}
+use Rattle.standard.specs.Text.{bytes}
+use Rattle.labels.specs.Labels.{table, name, fold, start, trimmed, same, among, find}
 use Rattle.labels.specs.Statements.{labels, texts, Table}
-use Rattle.labels.proofs.Trimming.{split, and}
 
 -- The test `same` says that a list is a text's bytes.
 pub same-bytes : (l : List ℕ) (m : String) → same l m ≡ true → l ≡ bytes m
@@ -23,7 +24,7 @@ same-bytes [] []ˢ h = refl
 same-bytes [] (c ∷ˢ m) h = absurd (subst T (sym h) tt)
 same-bytes (b ∷ l) []ˢ h = absurd (subst T (sym h) tt)
 same-bytes (b ∷ l) (c ∷ˢ m) h =
-    let k : (eqb b (code c) ≡ true) × (same l m ≡ true) = and (eqb b (code c)) (same l m) h in
+    let k : (eqb b (code c) ≡ true) × (same l m ≡ true) = and-both (eqb b (code c)) (same l m) h in
     rw (eqb-true b (code c) (k .0), same-bytes l m (k .1))
 
 -- It holds of a text's own bytes.
@@ -97,9 +98,9 @@ pub record Good (e : ℕ) (l : List ℕ) : Type 0 where
 good-rule : (e : ℕ) (m : String) → good e m ≡ true → Good e (bytes m)
 unfolding good
 good-rule e m h =
-    let a = and (eqb (start (bytes m)) 0) (same (trimmed (bytes m)) m && (same (map fold (bytes m)) m && isSome e (find (bytes m) 0 table))) h in
-    let b = and (same (trimmed (bytes m)) m) (same (map fold (bytes m)) m && isSome e (find (bytes m) 0 table)) (a .1) in
-    let c = and (same (map fold (bytes m)) m) (isSome e (find (bytes m) 0 table)) (b .1) in
+    let a = and-both (eqb (start (bytes m)) 0) (same (trimmed (bytes m)) m && (same (map fold (bytes m)) m && isSome e (find (bytes m) 0 table))) h in
+    let b = and-both (same (trimmed (bytes m)) m) (same (map fold (bytes m)) m && isSome e (find (bytes m) 0 table)) (a .1) in
+    let c = and-both (same (map fold (bytes m)) m) (isSome e (find (bytes m) 0 table)) (b .1) in
     record {
       begins = eqb-true (start (bytes m)) 0 (a .0);
       plain = same-bytes (trimmed (bytes m)) m (b .0);
@@ -111,20 +112,20 @@ good-rule e m h =
 row-rule : (e : ℕ) (l : List ℕ) (ms : List String) → goods e ms ≡ true → List·Memᴰ l (map bytes ms) → Good e l
 unfolding goods
 row-rule e l [] h s = absurd (List·Memᴰ·not-nil s)
-row-rule e l (m ∷ ms) h s = pick (row-rule e l ms (and (good e m) (goods e ms) h .1)) (List·Memᴰ·cases-cons s)
+row-rule e l (m ∷ ms) h s = pick (row-rule e l ms (and-both (good e m) (goods e ms) h .1)) (List·Memᴰ·cases-cons s)
   where
     pick : (List·Memᴰ l (map bytes ms) → Good e l) → (l ≡ bytes m) ⊎ List·Memᴰ l (map bytes ms) → Good e l
-    pick f (inl p) = rw p (good-rule e m (and (good e m) (goods e ms) h .0))
+    pick f (inl p) = rw p (good-rule e m (and-both (good e m) (goods e ms) h .0))
     pick f (inr q) = f q
 
 -- It follows from the test of the table.
 table-rule : (l : List ℕ) (k : ℕ) (rs : List (String × List String)) (e : ℕ) → rows k rs ≡ true → List·Memᴰ l (map bytes (rowAt rs e .1)) → Good (k + e) l
 unfolding rows
 table-rule l k [] e h s = absurd (List·Memᴰ·not-nil s)
-table-rule l k (r ∷ rs) zero h s = rw (add-zero k) (row-rule k l (r .1) (and (goods k (r .1)) (goodName r && rows (suc k) rs) h .0) s)
+table-rule l k (r ∷ rs) zero h s = rw (add-zero k) (row-rule k l (r .1) (and-both (goods k (r .1)) (goodName r && rows (suc k) rs) h .0) s)
 table-rule l k (r ∷ rs) (suc e) h s =
-    let i = and (goods k (r .1)) (goodName r && rows (suc k) rs) h in
-    let j = table-rule l (suc k) rs e (and (goodName r) (rows (suc k) rs) (i .1) .1) s in
+    let i = and-both (goods k (r .1)) (goodName r && rows (suc k) rs) h in
+    let j = table-rule l (suc k) rs e (and-both (goodName r) (rows (suc k) rs) (i .1) .1) s in
     let p : k + suc e ≡ suc k + e = omega arith in rw p j
 
 -- Each label of the table is found as its number.
@@ -149,9 +150,9 @@ pub record Named (e : ℕ) : Type 0 where
 name-rule : (k : ℕ) (rs : List (String × List String)) (e : ℕ) → rows k rs ≡ true → e < length rs → goodName (rowAt rs e) ≡ true
 unfolding rows
 name-rule k [] e h g = absurd (omega arith)
-name-rule k (r ∷ rs) zero h g = and (goodName r) (rows (suc k) rs) (and (goods k (r .1)) (goodName r && rows (suc k) rs) h .1) .0
+name-rule k (r ∷ rs) zero h g = and-both (goodName r) (rows (suc k) rs) (and-both (goods k (r .1)) (goodName r && rows (suc k) rs) h .1) .0
 name-rule k (r ∷ rs) (suc e) h g =
-    name-rule (suc k) rs e (and (goodName r) (rows (suc k) rs) (and (goods k (r .1)) (goodName r && rows (suc k) rs) h .1) .1) (omega arith)
+    name-rule (suc k) rs e (and-both (goodName r) (rows (suc k) rs) (and-both (goods k (r .1)) (goodName r && rows (suc k) rs) h .1) .1) (omega arith)
 
 -- The number of rows.
 pub encodings : length table ≡ 40
@@ -164,8 +165,8 @@ unfolding name labels goodName
 named e g =
     let r = rowAt table e in
     let h = name-rule 0 table e tested (omega (arith, encodings)) in
-    let a = and (eqb (start (bytes (r .0))) 0) (same (trimmed (bytes (r .0))) (r .0) && among (map fold (bytes (r .0))) (r .1)) h in
-    let b = and (same (trimmed (bytes (r .0))) (r .0)) (among (map fold (bytes (r .0))) (r .1)) (a .1) in
+    let a = and-both (eqb (start (bytes (r .0))) 0) (same (trimmed (bytes (r .0))) (r .0) && among (map fold (bytes (r .0))) (r .1)) h in
+    let b = and-both (same (trimmed (bytes (r .0))) (r .0)) (among (map fold (bytes (r .0))) (r .1)) (a .1) in
     record {
       begins = eqb-true (start (bytes (r .0))) 0 (a .0);
       plain = same-bytes (trimmed (bytes (r .0))) (r .0) (b .0);
@@ -201,9 +202,9 @@ once : (ms : List String) (i j : ℕ) → distinct ms ≡ true → i < length ms
 unfolding distinct
 once [] i j h f g e = absurd (omega arith)
 once (m ∷ ms) zero zero h f g e = refl
-once (m ∷ ms) zero (suc j) h f g e = absurd (apart (bytes m) ms j (not-true (among (bytes m) ms) (and (not (among (bytes m) ms)) (distinct ms) h .0)) (omega arith) e)
-once (m ∷ ms) (suc i) zero h f g e = absurd (apart (bytes m) ms i (not-true (among (bytes m) ms) (and (not (among (bytes m) ms)) (distinct ms) h .0)) (omega arith) (sym e))
-once (m ∷ ms) (suc i) (suc j) h f g e = ap suc (once ms i j (and (not (among (bytes m) ms)) (distinct ms) h .1) (omega arith) (omega arith) e)
+once (m ∷ ms) zero (suc j) h f g e = absurd (apart (bytes m) ms j (not-true (among (bytes m) ms) (and-both (not (among (bytes m) ms)) (distinct ms) h .0)) (omega arith) e)
+once (m ∷ ms) (suc i) zero h f g e = absurd (apart (bytes m) ms i (not-true (among (bytes m) ms) (and-both (not (among (bytes m) ms)) (distinct ms) h .0)) (omega arith) (sym e))
+once (m ∷ ms) (suc i) (suc j) h f g e = ap suc (once ms i j (and-both (not (among (bytes m) ms)) (distinct ms) h .1) (omega arith) (omega arith) e)
 
 -- Above 39 there is no name and no label.
 above : (e : ℕ) → 40 ≤ e → (name e ≡ []) × (labels e ≡ [])

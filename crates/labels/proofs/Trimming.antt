@@ -8,25 +8,16 @@ use lib.Dec.{T, leb}
 use lib.ListN.{length, take, drop, take-append-drop}
 use borrow.Author.Tests.{leb-true, le-leb, lt-leb, ne-eqb}
 use Rattle.standard.specs.Base.{within, every}
+use Rattle.standard.proofs.Tests.{split, and-both}
 use Rattle.labels.specs.Labels.{white, fold, start, trimmed}
 use Rattle.labels.specs.Statements.{Trims}
-
--- Two cases by a test.
-pub split : {A : Type 0} (t : Bool) → (t ≡ true → A) → (t ≡ false → A) → A
-split true f g = f refl
-split false f g = g refl
-
--- Both halves of a conjunction hold.
-pub and : (a b : Bool) → a && b ≡ true → (a ≡ true) × (b ≡ true)
-and true b h = (refl, h)
-and false b h = absurd (subst T (sym h) tt)
 
 -- Every element of a joined list passes a test if those of the parts do.
 every-join : (p : ℕ → Bool) (xs ys : List ℕ) → every p xs ≡ true → every p ys ≡ true → every p (xs ++ ys) ≡ true
 unfolding every
 every-join p [] ys h g = g
 every-join p (x ∷ xs) ys h g =
-    let k : (p x ≡ true) × (every p xs ≡ true) = and (p x) (every p xs) h in
+    let k : (p x ≡ true) × (every p xs ≡ true) = and-both (p x) (every p xs) h in
     rw (k .0) (every-join p xs ys (k .1) g)
 
 -- Every element of a reversed list passes a test if those of the list do.
@@ -34,7 +25,7 @@ every-reverse : (p : ℕ → Bool) (xs : List ℕ) → every p xs ≡ true → e
 unfolding every
 every-reverse p [] h = refl
 every-reverse p (x ∷ xs) h =
-    let k : (p x ≡ true) × (every p xs ≡ true) = and (p x) (every p xs) h in
+    let k : (p x ≡ true) × (every p xs ≡ true) = and-both (p x) (every p xs) h in
     rw reverse-cons (every-join p (reverse xs) (x ∷ []) (every-reverse p xs (k .1)) (rw (k .0)))
 
 -- Without the white space in front.
@@ -86,7 +77,7 @@ skip : (before xs : List ℕ) → every white before ≡ true → trimStart (bef
 unfolding start every
 skip [] xs h = refl
 skip (b ∷ before) xs h =
-    let k : (white b ≡ true) × (every white before ≡ true) = and (white b) (every white before) h in
+    let k : (white b ≡ true) × (every white before ≡ true) = and-both (white b) (every white before) h in
     rw (k .0) (skip before xs (k .1))
 
 -- Nothing is left of white space alone.
@@ -109,7 +100,7 @@ around before xs behind h g = rw (skip before (xs ++ behind) h) (ap reverse (ski
 
 -- What the test for a letter says.
 letter : (b : ℕ) → within 0x41 b 0x5A ≡ true → (0x41 ≤ b) × (b ≤ 0x5A)
-letter b h = let k : (leb 0x41 b ≡ true) × (leb b 0x5A ≡ true) = and (leb 0x41 b) (leb b 0x5A) h in (leb-true 0x41 b (k .0), leb-true b 0x5A (k .1))
+letter b h = let k : (leb 0x41 b ≡ true) × (leb b 0x5A ≡ true) = and-both (leb 0x41 b) (leb b 0x5A) h in (leb-true 0x41 b (k .0), leb-true b 0x5A (k .1))
 
 -- No letter is white space.
 not-white : (b : ℕ) → 0x41 ≤ b → white b ≡ false

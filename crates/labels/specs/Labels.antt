@@ -8,6 +8,7 @@ use Prim.Native.String.{String, [] as []ˢ, _∷_ as _∷ˢ_}
 use lib.Dec.{eqb}
 use lib.ListN.{length, getD, drop}
 use Rattle.standard.specs.Base.{_then_else_, within}
+use Rattle.standard.specs.Text.{bytes}
 use Rattle.labels.specs.declared.Found.{Found}
 
 -- The table of 004, section 4.2: each encoding's name and its labels. Its number is its place, counted from 0.
@@ -53,11 +54,6 @@ table =
     ("UTF-16BE", "unicodefffe" ∷ "utf-16be" ∷ []) ∷
     ("UTF-16LE", "csunicode" ∷ "iso-10646-ucs-2" ∷ "ucs-2" ∷ "unicode" ∷ "unicodefeff" ∷ "utf-16" ∷ "utf-16le" ∷ []) ∷
     ("x-user-defined", "x-user-defined" ∷ []) ∷ []
-
--- The bytes of a quoted text, all ASCII.
-unfoldable pub bytes : String → List ℕ
-bytes []ˢ = []
-bytes (c ∷ˢ s) = code c ∷ bytes s
 
 -- The bytes of an encoding's name; none above 39.
 unfoldable pub name : ℕ → List ℕ

@@ -7,7 +7,8 @@ use Prim.Native.Nat.{ℕ, _+_, _≤_, _<_}
 use Prim.Native.String.{String}
 use lib.ListN.{length, getD, take, drop, replicate}
 use Rattle.standard.specs.Base.{every}
-use Rattle.labels.specs.Labels.{table, bytes, name, white, fold, start, trimmed, label}
+use Rattle.standard.specs.Text.{bytes}
+use Rattle.labels.specs.Labels.{table, name, white, fold, start, trimmed, label}
 use Rattle.labels.specs.declared.Found.{Found}
 
 -- The labels of an encoding number, as bytes; none above 39.

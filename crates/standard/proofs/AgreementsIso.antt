@@ -14,7 +14,7 @@ use Rattle.standard.specs.Machine.{Token, token, end-of-stream, finished
 use Rattle.standard.specs.Machine.{error as failed}
 use Rattle.standard.specs.Handlers.{orError, State, ASCII, Roman, katakana, lead-byte, trail-byte, escape-start, escape, ISO2022JP, escape-state, escape-end, iso-at, heldISO, decoder}
 use Rattle.standard.specs.Sequence.{Shift, Out, text, error, Next, more, item, shift, cell}
-use Rattle.standard.specs.Sequences.Iso2022Jp.{iso2022Jp, escaped, byteOut, codeOut, escapeEnd, trailNext}
+use Rattle.standard.specs.Sequences.Iso2022Jp.{iso2022Jp, escaped, byteOut, codeOut, isoPointer, escapeEnd, trailNext}
 use Rattle.standard.specs.Next.{next}
 use Rattle.standard.specs.Decode.{decode, reads, lastOut, isoEnd, ending}
 use Rattle.standard.proofs.Tests.{or-case}
@@ -137,7 +137,7 @@ module _ (t : Tables) where
       go false = sim-item waits 2 (iso0 double b false) refl
 
   at-trail : (b x : ℕ) (f : Bool) → Sim IsoAt sequences (shift 3 f) (b ∷ x ∷ []) (trailNext (t .first) b x) (handler (iso trail-byte lead-byte b false) (token x))
-  unfolding stream next iso2022Jp iso-at
+  unfolding stream next iso2022Jp iso-at isoPointer
   at-trail b x f = sim-test (eqb x 0x1B)
       (λ e. record { agree = (refl, record { held = 0x1B ∷ []; back = []; split = rw (eqb-true x 0x1B e); putBack = refl; stands = esc1 double b false; waits = refl }) })
       (λ _. go (within 0x21 x 0x7E))

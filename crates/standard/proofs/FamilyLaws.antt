@@ -7,8 +7,7 @@ use native.Mathlib.Omega.{arith}
 use lib.Dec.{T, ltb, leb, eqb, lit≤}
 use lib.ListN.{length}
 use borrow.Author.Tests.{ltb-false, leb-false, eqb-true, eqb-false, ne-eqb}
-use Rattle.standard.specs.Base.{_then_else_, within, separators}
-use Rattle.standard.specs.Scalars.{mapped}
+use Rattle.standard.specs.Base.{_then_else_, within, separators, mapped}
 use Rattle.standard.specs.Encodings.{Tables, Family, UTF-8, single-byte, windows-1252, GB18030, Big5, EUC-JP, ISO-2022-JP, Shift-JIS, EUC-KR, Replacement, UTF-16BE, UTF-16LE, x-user-defined, traits}
 use Rattle.standard.specs.Indexes.{windows1252}
 use Rattle.standard.specs.Sequence.{Shift, Out, text, error, Next, more, item, await, cell}
@@ -17,7 +16,7 @@ use Rattle.standard.specs.Sequences.SingleByte.{singleByte}
 use Rattle.standard.specs.Sequences.Gb18030.{gb18030, gbCode, gbPointer, gbRange, gbFourCode, gbFourPointer, gbFourth, gbThird, gbSecond}
 use Rattle.standard.specs.Sequences.Big5.{big5, big5Pointer, big5Pair, big5Trail}
 use Rattle.standard.specs.Sequences.EucJp.{eucJp, eucJpCode, eucJpKana, eucJpThree}
-use Rattle.standard.specs.Sequences.Iso2022Jp.{iso2022Jp, escaped, byteOut, katakanaOut, codeOut, pairOut, escapeEnd, escapeNext, trailNext, leadNext}
+use Rattle.standard.specs.Sequences.Iso2022Jp.{iso2022Jp, escaped, byteOut, katakanaOut, codeOut, isoPointer, pairOut, escapeEnd, escapeNext, trailNext, leadNext}
 use Rattle.standard.specs.Sequences.ShiftJis.{shiftJis, shiftJisCode, shiftJisPointer}
 use Rattle.standard.specs.Sequences.EucKr.{eucKr, eucKrCode, eucKrPointer}
 use Rattle.standard.specs.Sequences.Replacement.{replacement}
@@ -262,7 +261,7 @@ escape-fine s b c us ys = test (eqb c 0x24 || eqb c 0x28)
 lead-fine : (index : List ℕ) (b : ℕ) (zs ys : List ℕ) → Fine false (b ∷ zs) (leadNext index b zs) (leadNext index b (zs ++ ys))
 lead-fine index b zs ys = test (within 0x21 b 0x7E)
     (λ _. awaits-any (λ l. b ∷ l) zs ys (lit≤ tt) (λ c us.
-    test (eqb c 0x1B) (λ _. any 1 (lit≤ tt) (omega arith) (lit≤ tt)) (λ _. any 2 (lit≤ tt) (omega arith) (omega (arith, pair-one (within 0x21 c 0x7E) (cell index ((b - 0x21) * 94 + (c - 0x21))))))))
+    test (eqb c 0x1B) (λ _. any 1 (lit≤ tt) (omega arith) (lit≤ tt)) (λ _. any 2 (lit≤ tt) (omega arith) (omega (arith, pair-one (within 0x21 c 0x7E) (cell index (isoPointer b c)))))))
     (λ _. any 1 (lit≤ tt) (omega arith) (lit≤ tt))
 
 pub iso-fine : (t : Tables) (s : Shift) (xs ys : List ℕ) → Fine false xs (iso2022Jp t s xs) (iso2022Jp t s (xs ++ ys))

@@ -7,8 +7,7 @@ use native.Mathlib.Omega.{arith}
 use lib.Dec.{T, ltb, leb, eqb, lit≤, ltb→lt}
 use lib.ListN.{getD}
 use borrow.Author.Tests.{ltb-true, ltb-false, leb-true, leb-false, le-leb, eqb-true, eqb-false, ne-eqb}
-use Rattle.standard.specs.Base.{_then_else_, within, every, Bytes}
-use Rattle.standard.specs.Scalars.{isScalar, scalars, mapped}
+use Rattle.standard.specs.Base.{_then_else_, within, every, Bytes, isScalar, scalars, mapped}
 use Rattle.standard.specs.Encodings.{Tables, Family, UTF-8, single-byte, windows-1252, GB18030, Big5, EUC-JP, ISO-2022-JP, Shift-JIS, EUC-KR, Replacement, UTF-16BE, UTF-16LE, x-user-defined}
 use Rattle.standard.specs.Indexes.{windows1252}
 use Rattle.standard.specs.Sequence.{Shift, Out, text, error, Next, more, item, await, cell, code, trailed}
@@ -17,7 +16,7 @@ use Rattle.standard.specs.Sequences.SingleByte.{singleByte}
 use Rattle.standard.specs.Sequences.Gb18030.{gb18030, gbCode, gbRange, gbFourCode, gbFourPointer, gbThird}
 use Rattle.standard.specs.Sequences.Big5.{big5, big5Pointer, big5Pair, big5Trail}
 use Rattle.standard.specs.Sequences.EucJp.{eucJp, eucJpCode, eucJpKana}
-use Rattle.standard.specs.Sequences.Iso2022Jp.{iso2022Jp, escaped, byteOut, codeOut, pairOut, escapeNext, leadNext}
+use Rattle.standard.specs.Sequences.Iso2022Jp.{iso2022Jp, escaped, byteOut, codeOut, isoPointer, pairOut, escapeNext, leadNext}
 use Rattle.standard.specs.Sequences.ShiftJis.{shiftJis, shiftJisCode}
 use Rattle.standard.specs.Sequences.EucKr.{eucKr, eucKrCode}
 use Rattle.standard.specs.Sequences.Replacement.{replacement}
@@ -347,7 +346,7 @@ pair-scalars : (index : List ℕ) (b c : ℕ) → Scalar (pairOut index b c)
 pair-scalars index b c = choice (within 0x21 c 0x7E) (codeOut (cell index p)) error (code-scalars (cell index p) (cell-point index p)) wrong
   where
     p : ℕ
-    p = (b - 0x21) * 94 + (c - 0x21)
+    p = isoPointer b c
 
 lead-scalars : (index : List ℕ) (b : ℕ) (zs : List ℕ) → Bytes zs → Gives (leadNext index b zs)
 lead-scalars index b zs r = front-test (within 0x21 b 0x7E)

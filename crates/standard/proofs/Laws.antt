@@ -7,8 +7,7 @@ use native.Mathlib.Omega.{arith}
 use lib.Dec.{T, ltb, leb, eqb, lit≤}
 use lib.ListN.{length, getD, take}
 use borrow.Author.Tests.{ltb-true, ltb-false, leb-true, eqb-false, le-ltb}
-use Rattle.standard.specs.Base.{_then_else_, within, separators}
-use Rattle.standard.specs.Scalars.{isScalar, mapped}
+use Rattle.standard.specs.Base.{_then_else_, within, separators, isScalar, mapped}
 use Rattle.standard.specs.Sequence.{Shift, Out, text, error, Next, more, item, await, cell, bad, scalar, code, trailed, pair}
 use Rattle.standard.specs.Decode.{given}
 use Rattle.standard.proofs.Tests.{and-left, under}

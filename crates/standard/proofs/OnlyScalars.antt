@@ -3,8 +3,7 @@ use mathlib.Core.Bool.{true}
 use mathlib.Core.List.{List, [], _∷_, _++_}
 use Prim.Native.Nat.{ℕ}
 use lib.Dec.{T, ltb}
-use Rattle.standard.specs.Base.{every, Bytes}
-use Rattle.standard.specs.Scalars.{isScalar, scalars}
+use Rattle.standard.specs.Base.{every, Bytes, isScalar, scalars}
 use Rattle.standard.specs.Encodings.{Tables, Family, UTF-8, single-byte, windows-1252, GB18030, Big5, EUC-JP, ISO-2022-JP, Shift-JIS, EUC-KR, Replacement, UTF-16BE, UTF-16LE, x-user-defined}
 use Rattle.standard.specs.Sequence.{Shift, Out, text, error, Next, more, item}
 use Rattle.standard.specs.Next.{next}

@@ -75,9 +75,9 @@ standard-is t f m xs p = go f (agrees t f)
     done n (token x ∷ input) out = run-finished replacement-handler m n true (token x ∷ input) out refl
 
     go : (f : Family) → Agrees t f → standard t f m xs ≡ replay (ends failed) m (everything t f plain xs) [] (ends finished)
-    go f (steps a) = machine (keeps f) (next t f) (next-laws t f) (decoder t f) (ending t f) a m xs p (5 * length xs + 2) (omega arith)
+    go f (steps a) = machine (keeps f) (next t f) (next-laws t f) (decoder t f) (ending t f) a m xs p (5 * length xs + 1) (omega arith)
     go f early = early-is t (ends failed) m (ends finished) (run replacement-handler m)
-        (λ n b input out. run-out replacement-handler m n false (token b ∷ input) out error refl) (λ n out. run-finished replacement-handler m n false [] out refl) done xs (5 * length xs + 2) (omega arith) ∙
+        (λ n b input out. run-out replacement-handler m n false (token b ∷ input) out error refl) (λ n out. run-finished replacement-handler m n false [] out refl) done xs (5 * length xs + 1) (omega arith) ∙
         ap (λ (is : List Out). replay (ends failed) m is [] (ends finished)) (sym (all-early t plain xs))
 
 -- In mode "replacement" it finishes with everything shown.

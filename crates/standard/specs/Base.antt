@@ -1,5 +1,5 @@
--- What all definitions share: tests over numbers and lists. Assumes nothing.
-use mathlib.Core.Bool.{Bool, true, false, _&&_}
+-- What all definitions share: tests over numbers and lists, bytes, and scalars. Assumes nothing.
+use mathlib.Core.Bool.{Bool, true, false, _&&_, not}
 use mathlib.Core.List.{List, [], _∷_}
 use Prim.Native.Nat.{ℕ}
 use lib.Dec.{T, ltb, leb}
@@ -31,3 +31,14 @@ Bytes xs = T (below 256 xs)
 unfoldable pub separators : List ℕ → List ℕ
 separators [] = []
 separators (x ∷ xs) = ltb x 0x30 then x ∷ separators xs else separators xs
+
+-- Document 01, "What the reader covers": a scalar is a number 0 to 0x10FFFF outside 0xD800 to 0xDFFF.
+abbrev pub isScalar : ℕ → Bool
+isScalar c = leb c 0x10FFFF && not (within 0xD800 c 0xDFFF)
+
+abbrev pub scalars : List ℕ → Bool
+scalars cs = every isScalar cs
+
+-- "Tables the caller lends": a cell that is not a scalar of at least 0x80 counts as unmapped.
+abbrev pub mapped : ℕ → Bool
+mapped c = leb 0x80 c && isScalar c

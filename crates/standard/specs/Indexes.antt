@@ -5,8 +5,7 @@ use mathlib.Core.Option.{Option, some, none}
 use Prim.Native.Nat.{ℕ, zero, suc, _+_, _-_}
 use lib.Dec.{ltb, leb, eqb}
 use lib.ListN.{getD}
-use Rattle.standard.specs.Base.{_then_else_}
-use Rattle.standard.specs.Scalars.{mapped}
+use Rattle.standard.specs.Base.{_then_else_, mapped}
 
 -- The index code point for a pointer, or null (none). 01: the cell at the pointer, null if it counts as unmapped.
 unfoldable pub indexCodePoint : List ℕ → ℕ → Option ℕ

@@ -4,8 +4,7 @@ use mathlib.Core.List.{List, [], _∷_}
 use Prim.Native.Nat.{ℕ}
 use lib.Dec.{ltb, eqb}
 use lib.ListN.{getD}
-use Rattle.standard.specs.Base.{_then_else_}
-use Rattle.standard.specs.Scalars.{mapped}
+use Rattle.standard.specs.Base.{_then_else_, mapped}
 
 -- What the bytes before leave behind. ISO-2022-JP: its output state (0 ASCII, 1 Roman, 2 katakana, 3 lead byte) and its output flag;
 -- replacement: the flag says that the error was given; UTF-8 and UTF-16: the flag says that a mark at the front is to be dropped.

@@ -11,7 +11,7 @@ use Rattle.standard.specs.Handlers.{decoder}
 
 -- A new decoder run on the whole input: 000's `run`. The fuel is enough, since the theorems equate this with `some`.
 unfoldable pub standard : Tables → Family → Mode → List ℕ → Option Ran
-standard t f m xs = run (decoder t f .handler) m (5 * length xs + 2) (decoder t f .new) (stream xs) []
+standard t f m xs = run (decoder t f .handler) m (5 * length xs + 1) (decoder t f .new) (stream xs) []
 
 -- 01, rule "drop": the first scalar is dropped if it is U+FEFF.
 abbrev pub dropMark : List ℕ → List ℕ

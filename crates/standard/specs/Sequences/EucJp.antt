@@ -7,8 +7,11 @@ use Rattle.standard.specs.Base.{_then_else_, within}
 use Rattle.standard.specs.Encodings.{Tables}
 use Rattle.standard.specs.Sequence.{Next, await, cell, scalar, bad, trailed, pair}
 
+unfoldable pub eucJpPointer : ℕ → ℕ → ℕ
+eucJpPointer lead trail = (lead - 0xA1) * 94 + (trail - 0xA1)
+
 unfoldable pub eucJpCode : List ℕ → ℕ → ℕ → ℕ
-eucJpCode index lead trail = within 0xA1 trail 0xFE then cell index ((lead - 0xA1) * 94 + (trail - 0xA1)) else 0
+eucJpCode index lead trail = within 0xA1 trail 0xFE then cell index (eucJpPointer lead trail) else 0
 
 -- after 8E: half-width katakana
 abbrev pub eucJpKana : ℕ → ℕ

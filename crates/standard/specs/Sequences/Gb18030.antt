@@ -3,9 +3,8 @@ use mathlib.Core.Bool.{Bool, true, false, _&&_, _||_}
 use mathlib.Core.List.{List, [], _∷_}
 use Prim.Native.Nat.{ℕ, _+_, _-_, _*_}
 use lib.Dec.{ltb, leb, eqb}
-use Rattle.standard.specs.Base.{_then_else_, within}
+use Rattle.standard.specs.Base.{_then_else_, within, mapped}
 use Rattle.standard.specs.Encodings.{Tables}
-use Rattle.standard.specs.Scalars.{mapped}
 use Rattle.standard.specs.Sequence.{Next, await, cell, scalar, bad, code, pair}
 
 unfoldable pub gbPointer : ℕ → ℕ → ℕ

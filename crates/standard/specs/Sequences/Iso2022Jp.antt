@@ -30,9 +30,12 @@ byteOut state b =
 abbrev pub codeOut : ℕ → Out
 codeOut c = eqb c 0 then error else text (c ∷ [])
 
+unfoldable pub isoPointer : ℕ → ℕ → ℕ
+isoPointer lead trail = (lead - 0x21) * 94 + (trail - 0x21)
+
 -- what a lead and a trail byte give
 abbrev pub pairOut : List ℕ → ℕ → ℕ → Out
-pairOut jis0208 b c = within 0x21 c 0x7E then codeOut (cell jis0208 ((b - 0x21) * 94 + (c - 0x21))) else error
+pairOut jis0208 b c = within 0x21 c 0x7E then codeOut (cell jis0208 (isoPointer b c)) else error
 
 -- The end of an escape: it chooses the output state, and is an error where nothing came since the one before; or it is no escape.
 abbrev pub escapeEnd : Shift → ℕ → ℕ → Next
