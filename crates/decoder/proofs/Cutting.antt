@@ -2,7 +2,7 @@
 use mathlib.Core.Path.{_≡_, refl, sym, ap, _∙_, subst}
 use mathlib.Core.Bool.{Bool, true, false, _&&_, _||_, and-false}
 use mathlib.Core.List.{List, [], _∷_, _++_, append-assoc, append-nil}
-use Prim.Native.Nat.{ℕ, _+_, _≤_}
+use Prim.Native.Nat.{ℕ, _≤_}
 use native.Mathlib.Omega.{arith}
 use lib.Dec.{T, eqb}
 use lib.ListN.{length, take, drop}
@@ -25,7 +25,7 @@ use Rattle.decoder.specs.Statements.{Piece, joined, cutting, reports, Ac
 use Rattle.decoder.specs.Whole.{dealt, wholeAccount}
 use Rattle.decoder.specs.declared.Decoder.{Decoder}
 use Rattle.decoder.proofs.Records.{shift-holding, held-holding}
-use Rattle.decoder.proofs.Steps.{Stands, reads, ended, readOf, Step, refused, fed, reported, few, feed-holding, finish-holding, feed-not-11, finish-not-11, feed-open, finish-open, stepped, still, opened-is, stands-new}
+use Rattle.decoder.proofs.Steps.{Stands, reads, ended, readOf, Step, refused, fed, reported, few, feed-holding, finish-holding, feed-not-11, finish-not-11, feed-open, finish-open, stepped, still, opened-is}
 use Rattle.decoder.proofs.Invariants.{Tracks, tracks-new, tracks-step}
 
 -- in refusing mode nothing before was an error

@@ -11,19 +11,19 @@ use Rattle.standard.specs.Base.{separators}
 use Rattle.standard.specs.Encodings.{family, Tables, noTables}
 use Rattle.standard.specs.Sequence.{Shift, Out, more}
 use Rattle.standard.specs.Next.{next}
-use Rattle.standard.specs.Decode.{Read, decode, shown, broken, before}
+use Rattle.standard.specs.Decode.{decode, shown, broken, before}
 use Rattle.standard.proofs.Tests.{and-left}
 use Rattle.standard.proofs.FamilyLaws.{keeps, next-laws}
 use Rattle.standard.proofs.Walk.{at-more, chunks, decode-more}
 use Rattle.standard.proofs.AnyTables.{Place, place, tables-meet}
 use Rattle.standard.proofs.Items.{before-length}
-use Rattle.standard.proofs.Reading.{separators-append, Reading, reading, Ending, ending-is, empty}
+use Rattle.standard.proofs.Reading.{separators-append, reading, ending-is, empty}
 use Rattle.decoder.specs.Valid.{shiftOf, heldOf}
-use Rattle.decoder.specs.Calls.{bit, holding, closed}
-use Rattle.decoder.specs.Histories.{Call, feed, finish, History, accepted, noted, outcome, chunkOf, after, ends, anyEnds}
+use Rattle.decoder.specs.Calls.{bit, holding}
+use Rattle.decoder.specs.Histories.{Call, feed, finish, History, accepted, after, ends, anyEnds}
 use Rattle.decoder.specs.declared.Decoder.{Decoder}
 use Rattle.decoder.proofs.Records.{bit-back, shift-holding, held-holding}
-use Rattle.decoder.proofs.Steps.{Stands, reads, ended, readOf, endOf, Step, refused, fed, reported, closes, closes-reported, Stepped, few, stepped, still}
+use Rattle.decoder.proofs.Steps.{Stands, reads, ended, readOf, endOf, Step, refused, fed, reported, closes, closes-reported, few, stepped, still}
 
 -- The bytes taken are bytes used up, and then the bytes held; no more characters were handed out than bytes used up, and the same separators.
 pub record Kept (e m : ℕ) (taken handed held : List ℕ) : Type 0 where

@@ -4,17 +4,17 @@ use mathlib.Core.Bool.{Bool, true, false, not, _&&_, _||_, and-false}
 use mathlib.Core.List.{List, [], _∷_, _++_}
 use Prim.Native.Nat.{ℕ, zero, suc, _+_, _≤_, _^_}
 use native.Mathlib.Omega.{arith}
-use lib.Dec.{T, ltb, leb, eqb, lit≤, leb→le, eqb→eq}
-use lib.ListN.{length, take, replicate, length-append, length-replicate}
-use borrow.Author.Tests.{eq-eqb, eqb-true, le-ltb, not-true}
-use Rattle.standard.specs.Base.{_then_else_, every, below, Bytes}
+use lib.Dec.{T, eqb, lit≤, leb→le, eqb→eq}
+use lib.ListN.{length, replicate, length-append, length-replicate}
+use borrow.Author.Tests.{eq-eqb, le-ltb, not-true}
+use Rattle.standard.specs.Base.{every, below, Bytes}
 use Rattle.standard.specs.Encodings.{Family, UTF-8, single-byte, windows-1252, GB18030, Big5, EUC-JP, ISO-2022-JP, Shift-JIS, EUC-KR, Replacement, UTF-16BE, UTF-16LE, x-user-defined, family, traits, Tables, noTables, fits}
 use Rattle.standard.specs.Sequence.{Shift, Out, text, error, more, shift, cell}
 use Rattle.standard.specs.Sequences.Iso2022Jp.{iso2022Jp, escaped, isoPointer, byteOut}
 use Rattle.standard.specs.Sequences.Replacement.{replacement}
 use Rattle.standard.specs.Next.{next}
 use Rattle.standard.specs.Decode.{Read, reads, decode, ending, shown, broken, oneError, isoEnd}
-use Rattle.standard.proofs.Tests.{T-true, and-left, and-right, and-T-left, and-T-right}
+use Rattle.standard.proofs.Tests.{T-true, and-T-left, and-T-right}
 use Rattle.standard.proofs.Every.{bytes-append, bytes-take}
 use Rattle.standard.proofs.FamilyLaws.{keeps, next-laws}
 use Rattle.standard.proofs.Walk.{stop, chunks, decode-more}
@@ -22,10 +22,10 @@ use Rattle.standard.proofs.AnyTables.{more-any}
 use Rattle.standard.proofs.Reading.{empty}
 use Rattle.decoder.specs.Valid.{shiftOf, heldOf, possible, valid}
 use Rattle.decoder.specs.Calls.{holding, closed, newShift, openRefusal, opening, Outcome, write, handOut, handOutRead, feedRefusal, feeding, finishRefusal, finishing}
-use Rattle.decoder.specs.Histories.{accepted, Reachable, opened, fed, finished}
+use Rattle.decoder.specs.Histories.{Reachable, opened, fed, finished}
 use Rattle.decoder.specs.Samples.{secondCells, filled}
 use Rattle.decoder.specs.declared.Decoder.{Decoder}
-use Rattle.decoder.proofs.Steps.{few, readOf, feed-holding, finish-holding}
+use Rattle.decoder.proofs.Steps.{few, feed-holding, finish-holding}
 use Rattle.decoder.proofs.Validity.{parts, valid-holding, still-possible, still-more, is-holding, is-closed, new-possible}
 
 -- Tables to lend: every cell is U+3000; no ranges.

@@ -17,7 +17,7 @@ use Rattle.standard.proofs.Items.{before-length}
 use Rattle.standard.proofs.Reading.{reading, ending-is}
 use Rattle.decoder.specs.Valid.{shiftOf, heldOf, valid}
 use Rattle.decoder.specs.Calls.{holding, closed, newShift, openRefusal, Outcome, refuse, write, handOut, handOutRead, feedRefusal, feeding, finishRefusal, finishing}
-use Rattle.decoder.specs.Histories.{Call, feed, History, noted, start}
+use Rattle.decoder.specs.Histories.{feed, History, start}
 use Rattle.decoder.specs.Statements.{Piece, Accepts, Roomy, RoomKept}
 use Rattle.decoder.specs.declared.Decoder.{Decoder}
 use Rattle.decoder.proofs.Steps.{Stands, reads, ended, Step, refused, fed, reported, stepped, still, opened-is, stands-new}

@@ -1,14 +1,12 @@
 -- The sample readings hold. Assumes nothing.
 use mathlib.Core.Path.{_≡_, refl, _∙_}
-use mathlib.Core.Bool.{Bool, true, false}
-use mathlib.Core.List.{List, [], _∷_}
-use Prim.Native.Nat.{ℕ, _+_, _≤_}
-use native.Mathlib.Omega.{arith}
+use mathlib.Core.List.{[], _∷_}
+use Prim.Native.Nat.{ℕ, _≤_}
 use lib.Dec.{lit≤}
-use lib.ListN.{length, replicate}
+use lib.ListN.{replicate}
 use borrow.Author.Tests.{le-ltb}
-use Rattle.standard.specs.Encodings.{Family, family, traits, fits, noTables}
-use Rattle.standard.specs.Sequence.{Shift, Out, cell}
+use Rattle.standard.specs.Encodings.{family, traits, fits, noTables}
+use Rattle.standard.specs.Sequence.{cell}
 use Rattle.standard.specs.Sequences.Utf8.{utf8, utf8Low, utf8High}
 use Rattle.standard.specs.Sequences.Gb18030.{gb18030, gbCode, gbPointer, gbRange, gbFourCode, gbFourPointer}
 use Rattle.standard.specs.Sequences.Big5.{big5, big5Pointer, big5Pair}
@@ -24,9 +22,9 @@ use Rattle.standard.proofs.Reading.{empty, ending-any}
 use Rattle.decoder.specs.Valid.{possible, unused, validRest, valid}
 use Rattle.decoder.specs.Calls.{newShift, openRefusal, opening, feedRefusal, feeding, finishRefusal, finishing}
 use Rattle.decoder.specs.Histories.{after, start}
-use Rattle.decoder.specs.Statements.{Piece, joined, cutting, reports, account, Accepts, Roomy}
+use Rattle.decoder.specs.Statements.{joined, cutting, reports, account, Roomy}
 use Rattle.decoder.specs.Whole.{dealt, wholeAccount}
-use Rattle.decoder.specs.Samples.{filled, gives, Unmapped, Samples}
+use Rattle.decoder.specs.Samples.{filled, gives, Samples}
 use Rattle.decoder.proofs.Cutting.{cut-is-whole}
 use Rattle.decoder.proofs.Reaching.{filled-fits, no-bytes}
 use Rattle.decoder.proofs.Rooms.{roomy}

@@ -1,28 +1,28 @@
 -- The shifts that a decoder can come to stay possible. Assumes nothing.
-use mathlib.Core.Path.{_≡_, refl, sym, ap, subst}
-use mathlib.Core.Bool.{Bool, true, false, not, _&&_, _||_}
+use mathlib.Core.Path.{_≡_, refl, sym, subst}
+use mathlib.Core.Bool.{Bool, true, false, _&&_, _||_}
 use mathlib.Core.List.{List, [], _∷_}
 use Prim.Native.Nat.{ℕ, _≤_}
 use native.Mathlib.Omega.{arith}
-use lib.Dec.{T, ltb, leb, eqb, lit≤, leb→le, eqb→eq}
+use lib.Dec.{T, leb, eqb, lit≤, leb→le}
 use borrow.Author.Tests.{leb-false, le-leb, eq-eqb}
 use Rattle.standard.specs.Base.{_then_else_, within}
 use Rattle.standard.specs.Encodings.{Tables, Family, UTF-8, single-byte, windows-1252, GB18030, Big5, EUC-JP, ISO-2022-JP, Shift-JIS, EUC-KR, Replacement, UTF-16BE, UTF-16LE, x-user-defined}
-use Rattle.standard.specs.Sequence.{Shift, Out, text, error, Next, more, item, await, shift, plain}
+use Rattle.standard.specs.Sequence.{Shift, Out, text, error, Next, more, item, shift, plain}
 use Rattle.standard.specs.Sequences.Utf8.{utf8}
 use Rattle.standard.specs.Sequences.SingleByte.{singleByte}
 use Rattle.standard.specs.Sequences.Gb18030.{gb18030}
 use Rattle.standard.specs.Sequences.Big5.{big5, big5Pair}
 use Rattle.standard.specs.Sequences.EucJp.{eucJp}
-use Rattle.standard.specs.Sequences.Iso2022Jp.{iso2022Jp, escaped, escapeNext, leadNext}
+use Rattle.standard.specs.Sequences.Iso2022Jp.{iso2022Jp, escaped}
 use Rattle.standard.specs.Sequences.ShiftJis.{shiftJis}
 use Rattle.standard.specs.Sequences.EucKr.{eucKr}
 use Rattle.standard.specs.Sequences.Replacement.{replacement}
 use Rattle.standard.specs.Sequences.Utf16.{utf16}
 use Rattle.standard.specs.Sequences.UserDefined.{userDefined}
 use Rattle.standard.specs.Next.{unmark, unmarked, next}
-use Rattle.standard.specs.Decode.{Read, decode, broken}
-use Rattle.standard.proofs.Tests.{and-T-left, and-T-right}
+use Rattle.standard.specs.Decode.{decode, broken}
+use Rattle.standard.proofs.Tests.{and-T-right}
 use Rattle.standard.proofs.FamilyLaws.{keeps, next-laws}
 use Rattle.standard.proofs.Walk.{walk}
 use Rattle.standard.proofs.Fronts.{Front, front-test, front-await, front-item}

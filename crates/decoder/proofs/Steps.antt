@@ -1,6 +1,6 @@
 -- What a call does to a history, by cases, and the induction over every list of calls. Assumes nothing.
 use mathlib.Core.Path.{_≡_, refl, sym, ap, _∙_, subst}
-use mathlib.Core.Bool.{Bool, true, false, not, _&&_, _||_}
+use mathlib.Core.Bool.{Bool, true, false, not, _&&_}
 use mathlib.Core.List.{List, [], _∷_, _++_, append-nil}
 use Prim.Native.Nat.{ℕ, _+_, _≤_}
 use lib.Dec.{T, ltb, eqb}
@@ -16,7 +16,7 @@ use Rattle.standard.proofs.FamilyLaws.{keeps, next-laws}
 use Rattle.standard.proofs.Walk.{at-more}
 use Rattle.standard.proofs.AnyTables.{more-any}
 use Rattle.standard.proofs.Reading.{reading, empty}
-use Rattle.decoder.specs.Valid.{shiftOf, heldOf, valid}
+use Rattle.decoder.specs.Valid.{valid}
 use Rattle.decoder.specs.Calls.{holding, closed, newShift, openRefusal, opening, Outcome, refuse, write, handOut, handOutRead, feedRefusal, feeding, finishRefusal, finishing}
 use Rattle.decoder.specs.Histories.{Call, feed, finish, History, accepted, noted, outcome, chunkOf, after, start}
 use Rattle.decoder.specs.declared.Decoder.{Decoder}

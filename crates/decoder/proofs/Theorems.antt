@@ -1,9 +1,9 @@
 -- The promises of specs/Statements.antt. Assumes nothing.
 use mathlib.Core.Path.{_≡_, refl, sym, ap, _∙_, subst}
-use mathlib.Core.Bool.{Bool, true, false, _&&_, _||_, not, and-false}
+use mathlib.Core.Bool.{Bool, true, false, _&&_}
 use mathlib.Core.List.{List, [], _∷_, _++_, append-nil}
-use mathlib.Core.Option.{Option, some, none}
-use Prim.Native.Nat.{ℕ, _+_, _-_, _≤_}
+use mathlib.Core.Option.{some}
+use Prim.Native.Nat.{ℕ, _-_, _≤_}
 use native.Mathlib.Omega.{arith}
 use lib.Dec.{T, eqb, lit≤}
 use lib.ListN.{length, drop, length-append}
@@ -11,30 +11,30 @@ use lib.Seq.{drop-append-seam}
 use borrow.Author.Tests.{eqb-true}
 use Rattle.standard.specs.Base.{_then_else_, every, Bytes, separators, scalars}
 use Rattle.standard.specs.Encodings.{family, traits, Tables, noTables}
-use Rattle.standard.specs.Machine.{Mode, replacement, fatal, finished, Ran}
+use Rattle.standard.specs.Machine.{replacement, fatal, finished, Ran}
 use Rattle.standard.specs.Machine.{error as failed}
-use Rattle.standard.specs.Standard.{standard, dropMark, SoFar, standardSoFar}
+use Rattle.standard.specs.Standard.{standard, dropMark, standardSoFar}
 use Rattle.standard.specs.Sequence.{Shift, Out, more, shift, plain}
 use Rattle.standard.specs.Next.{next}
 use Rattle.standard.specs.Decode.{decode, shown, broken, before, everything}
 use Rattle.standard.proofs.Every.{bytes-append, bytes-left, bytes-right}
 use Rattle.standard.proofs.FamilyLaws.{keeps, next-laws}
 use Rattle.standard.proofs.Walk.{at-more}
-use Rattle.standard.proofs.AnyTables.{Place, place, tables-meet}
+use Rattle.standard.proofs.AnyTables.{Place, tables-meet}
 use Rattle.standard.proofs.Reading.{separators-append, empty}
-use Rattle.standard.proofs.Whole.{standard-replacing, standard-fatal, Unmarked, unmarked-is}
+use Rattle.standard.proofs.Whole.{standard-replacing, standard-fatal, unmarked-is}
 use Rattle.standard.proofs.Paused.{so-far}
 use Rattle.standard.proofs.OnlyScalars.{scalars-append, decode-scalars, decode-before-scalars, ending-scalars, ending-before-scalars}
-use Rattle.decoder.specs.Valid.{shiftOf, heldOf, valid}
+use Rattle.decoder.specs.Valid.{shiftOf, heldOf}
 use Rattle.decoder.specs.Calls.{bit, holding, closed, newShift, openRefusal}
-use Rattle.decoder.specs.Histories.{Call, History, after, start, anyEnds, hasEnded, Reachable}
-use Rattle.decoder.specs.Statements.{Piece, joined, cutting, Account, account, Accepts, AllFeeds, isError, drops, accountOf, standardAccount, unmarked, heldIn, Demand2, Demand3, Refusal5}
+use Rattle.decoder.specs.Histories.{Call, History, after, start, anyEnds, hasEnded}
+use Rattle.decoder.specs.Statements.{joined, AllFeeds, drops, accountOf, standardAccount, unmarked, heldIn, Demand2, Demand3, Refusal5}
 use Rattle.decoder.specs.Whole.{dealt, wholeAccount}
 use Rattle.decoder.specs.declared.Decoder.{Decoder}
-use Rattle.decoder.proofs.Records.{bit-back, shift-holding, held-holding}
+use Rattle.decoder.proofs.Records.{bit-back, held-holding}
 use Rattle.decoder.proofs.Steps.{Stands, reads, ended, Step, refused, fed, reported, closes, closes-reported, few, still, every-list, opened-is, refused-opening, stands-new}
 use Rattle.decoder.proofs.Invariants.{Kept, kept-none, kept-step, Tracks, tracks-new, tracks-step, ended-after}
-use Rattle.decoder.proofs.Cutting.{Follows, feeds-follow, cut-is-whole}
+use Rattle.decoder.proofs.Cutting.{feeds-follow, cut-is-whole}
 use Rattle.decoder.proofs.Validity.{reachable-valid}
 use Rattle.decoder.proofs.Reaching.{valid-reachable}
 use Rattle.decoder.proofs.Rooms.{feed-room, finish-room, roomy}

@@ -1,14 +1,14 @@
 -- The test behind refusal 5 holds of every record that calls leave. Assumes nothing.
 use mathlib.Core.Path.{_≡_, refl, sym, ap, _∙_, subst}
-use mathlib.Core.Bool.{Bool, true, false, not, _&&_, _||_, and-false}
+use mathlib.Core.Bool.{Bool, true, false, _&&_, _||_}
 use mathlib.Core.List.{List, [], _∷_, _++_}
 use Prim.Native.Nat.{ℕ, zero, suc, _≤_}
 use native.Mathlib.Omega.{arith}
 use lib.Dec.{T, ltb, leb, eqb, lit≤}
 use lib.ListN.{length, take, getD}
-use borrow.Author.Tests.{ltb-false, eqb-true, eq-eqb, ne-eqb, le-leb, leb-true, eqb-false}
+use borrow.Author.Tests.{ltb-false, eqb-true, eq-eqb, le-leb, leb-true, eqb-false}
 use Rattle.standard.specs.Base.{_then_else_}
-use Rattle.standard.specs.Encodings.{Family, UTF-8, single-byte, windows-1252, GB18030, Big5, EUC-JP, ISO-2022-JP, Shift-JIS, EUC-KR, Replacement, UTF-16BE, UTF-16LE, x-user-defined, family, traits, Tables, noTables}
+use Rattle.standard.specs.Encodings.{Family, UTF-8, single-byte, windows-1252, GB18030, Big5, EUC-JP, ISO-2022-JP, Shift-JIS, EUC-KR, Replacement, UTF-16BE, UTF-16LE, x-user-defined, family, traits, noTables}
 use Rattle.standard.specs.Sequence.{Shift, Next, more, item, shift}
 use Rattle.standard.specs.Next.{next}
 use Rattle.standard.specs.Decode.{broken}
@@ -17,7 +17,7 @@ use Rattle.standard.proofs.FamilyLaws.{keeps, next-laws}
 use Rattle.standard.proofs.AnyTables.{more-any}
 use Rattle.standard.proofs.Reading.{reading, empty}
 use Rattle.decoder.specs.Valid.{shiftOf, heldOf, possible, isMore, unused, validRest, valid}
-use Rattle.decoder.specs.Calls.{bit, holding, closed, newShift, openRefusal, opening, feeding, finishing}
+use Rattle.decoder.specs.Calls.{bit, holding, closed, newShift, openRefusal, opening}
 use Rattle.decoder.specs.Histories.{Call, feed, finish, History, outcome, Reachable, opened, fed, finished}
 use Rattle.decoder.specs.declared.Decoder.{Decoder}
 use Rattle.decoder.specs.declared.Answer.{Answer}

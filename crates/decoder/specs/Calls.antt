@@ -5,7 +5,7 @@ use Prim.Native.Nat.{ℕ, _+_}
 use lib.Dec.{ltb, eqb}
 use lib.ListN.{length, getD, drop}
 use Rattle.standard.specs.Base.{_then_else_}
-use Rattle.standard.specs.Encodings.{Family, family, traits, Tables, noTables, fits}
+use Rattle.standard.specs.Encodings.{family, traits, Tables, noTables, fits}
 use Rattle.standard.specs.Sequence.{Shift, Out, shift}
 use Rattle.standard.specs.Next.{next}
 use Rattle.standard.specs.Decode.{Read, decode, ending, shown, broken, before}

@@ -8,10 +8,10 @@ use lib.Dec.{T, eqb}
 use lib.ListN.{length, drop}
 use Rattle.standard.specs.Base.{_then_else_, Bytes, separators, scalars}
 use Rattle.standard.specs.Encodings.{family, traits, Tables, fits}
-use Rattle.standard.specs.Machine.{Mode, replacement, fatal, Result, finished, continue, tokens, error, error-with, Ran}
+use Rattle.standard.specs.Machine.{replacement, fatal, Result, finished, continue, tokens, error, error-with, Ran}
 use Rattle.standard.specs.Standard.{standard, dropMark, SoFar, standardSoFar}
 use Rattle.decoder.specs.Valid.{heldOf, valid}
-use Rattle.decoder.specs.Calls.{bit, closed, openRefusal, feedRefusal, feeding, finishRefusal, finishing}
+use Rattle.decoder.specs.Calls.{bit, closed, feedRefusal, feeding, finishRefusal, finishing}
 use Rattle.decoder.specs.Histories.{Call, feed, finish, History, noted, outcome, chunkOf, after, start, hasEnded, Reachable}
 use Rattle.decoder.specs.declared.Decoder.{Decoder}
 

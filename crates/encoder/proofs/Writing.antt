@@ -11,7 +11,7 @@ use lib.Seq.{drop-append-seam}
 use Rattle.standard.specs.Base.{every, isScalar, scalars}
 use Rattle.standard.specs.Encodings.{Tables, Family}
 use Rattle.standard.specs.Machine.{Token, token, Result, finished, continue, tokens, error, error-with, Processed, Mode, fatal, html, deliver, reference, stream, Ran, run}
-use Rattle.standard.specs.Encoders.{encoder, encode-handler, standardEncode}
+use Rattle.standard.specs.Encoders.{encode-handler, standardEncode}
 use Rattle.standard.specs.Sequence.{Out, text, plain}
 use Rattle.standard.specs.Next.{next}
 use Rattle.standard.specs.Decode.{Read, put, decode, shown, broken}

@@ -1,5 +1,5 @@
 -- Document 01, "Writing rules": what the writer answers: refusal, bytes written, the unwritable scalar's index, and the room afterwards. Assumes nothing.
-use mathlib.Core.Bool.{Bool, true, false, not}
+use mathlib.Core.Bool.{not}
 use mathlib.Core.List.{List, [], _∷_, _++_}
 use mathlib.Core.Option.{Option, some, none}
 use Prim.Native.Nat.{ℕ, suc}

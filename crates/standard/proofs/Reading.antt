@@ -2,20 +2,20 @@
 use mathlib.Core.Path.{_≡_, refl, sym, ap, _∙_}
 use mathlib.Core.Bool.{Bool, true, false}
 use mathlib.Core.List.{List, [], _∷_, _++_, append-assoc, append-nil}
-use Prim.Native.Nat.{ℕ, suc, _≤_}
+use Prim.Native.Nat.{ℕ, _≤_}
 use native.Mathlib.Omega.{arith}
 use lib.Dec.{T, ltb, lit≤}
 use lib.ListN.{length, take, drop, length-append, take-append-drop}
 use lib.Seq.{length-take-le}
 use Rattle.standard.specs.Base.{_then_else_, separators}
 use Rattle.standard.specs.Encodings.{Tables, Family, UTF-8, single-byte, windows-1252, GB18030, Big5, EUC-JP, ISO-2022-JP, Shift-JIS, EUC-KR, Replacement, UTF-16BE, UTF-16LE, x-user-defined, traits}
-use Rattle.standard.specs.Sequence.{Shift, Out, text, error, Next, more, item}
+use Rattle.standard.specs.Sequence.{Shift, Out, Next, more, item}
 use Rattle.standard.specs.Sequences.Iso2022Jp.{iso2022Jp}
 use Rattle.standard.specs.Next.{next}
 use Rattle.standard.specs.Decode.{Read, put, decode, oneError, lastOut, isoEnd, ending, given, shown}
 use Rattle.standard.proofs.Laws.{Laws, none0, none1}
 use Rattle.standard.proofs.FamilyLaws.{keeps, next-laws}
-use Rattle.standard.proofs.Walk.{stop, at-item, at-more, nothing, walk}
+use Rattle.standard.proofs.Walk.{stop, at-item, nothing, walk}
 use Rattle.standard.proofs.Items.{shown-cons}
 
 pub separators-append : (xs ys : List ℕ) → separators (xs ++ ys) ≡ separators xs ++ separators ys

@@ -1,15 +1,14 @@
 -- Decoding, for any decoder that keeps the laws: its induction, and that bytes that follow change nothing before them. Assumes nothing.
-use mathlib.Core.Path.{_≡_, refl, sym, ap, _∙_, subst}
-use mathlib.Core.Bool.{Bool, true, false}
-use mathlib.Core.List.{List, [], _∷_, _++_, append-assoc, append-nil}
-use Prim.Native.Nat.{ℕ, zero, suc, _+_, _-_, _≤_, _<_}
+use mathlib.Core.Path.{_≡_, refl, sym, ap, _∙_}
+use mathlib.Core.Bool.{Bool}
+use mathlib.Core.List.{List, [], _++_}
+use Prim.Native.Nat.{ℕ, zero, suc, _≤_}
 use native.Mathlib.Omega.{arith}
-use lib.Dec.{T}
-use lib.ListN.{length, take, drop, length-drop}
+use lib.ListN.{length, drop, length-drop}
 use lib.Seq.{drop-append-le}
 use Rattle.standard.specs.Sequence.{Shift, Out, Next, more, item}
 use Rattle.standard.specs.Decode.{Read, put, reads, decode}
-use Rattle.standard.proofs.Laws.{Laws, Fine, Law}
+use Rattle.standard.proofs.Laws.{Laws, Law}
 
 abbrev pub stop : Shift → List ℕ → Read
 stop s xs = record { items = []; shift = s; rest = xs }

@@ -1,6 +1,6 @@
 -- Document 01, "Labels and encoding numbers" and "Tables the caller lends": the decoder of each encoding number, and what 01 says of it. Assumes nothing.
 use mathlib.Core.Bool.{Bool, true, false, _&&_}
-use mathlib.Core.List.{List, [], _∷_}
+use mathlib.Core.List.{List, []}
 use Prim.Native.Nat.{ℕ, _%_}
 use lib.Dec.{leb, eqb}
 use lib.ListN.{length}
