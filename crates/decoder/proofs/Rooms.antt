@@ -112,6 +112,7 @@ handed-length e m is d room h = go (eqb m 1 && broken is)
   where
     given : Bool → Outcome
     given b = b then write 11 (before is) (closed e m) room else write 0 (shown is) d room
+
     go : (b : Bool) → length (given b .room) ≡ length room
     go true = written-length (before is) room (omega (arith, before-length is))
     go false = written-length (shown is) room h
@@ -128,6 +129,7 @@ feed-enough d t chunk room h = go (not (fits (family (d .encoding)) t)) (ltb 655
   where
     number : (c e f : Bool) → ℕ
     number c e f = c then 4 else e then 8 else f then 7 else 0
+
     go : (c e f : Bool) → ltb (length room) (length chunk + d .held) ≡ f → eqb (number c e f) 0 ≡ true → length chunk + d .held ≤ length room
     go true e f s q = absurd (subst T (sym q) tt)
     go false true f s q = absurd (subst T (sym q) tt)
@@ -140,6 +142,7 @@ finish-enough d room h = go (ltb (length room) (d .held)) refl (room-left (not (
   where
     number : Bool → ℕ
     number f = f then 7 else 0
+
     go : (f : Bool) → ltb (length room) (d .held) ≡ f → eqb (number f) 0 ≡ true → d .held ≤ length room
     go true s q = absurd (subst T (sym q) tt)
     go false s q = ltb-false (length room) (d .held) s
@@ -153,10 +156,13 @@ feed-keeps d t chunk room = go (eqb (feedRefusal d t chunk room) 0) refl
   where
     f : Family
     f = family (d .encoding)
+
     r : Read
     r = decode (next t (family (d .encoding))) (shiftOf d) (heldOf d ++ chunk)
+
     given : Bool → Outcome
     given b = b then handOutRead (d .encoding) (d .mode) r room else refuse (feedRefusal d t chunk room) d room
+
     go : (b : Bool) → eqb (feedRefusal d t chunk room) 0 ≡ b → length (given b .room) ≡ length room
     go true q =
         let R = reading (keeps f) (next t f) (next-laws t f) (shiftOf d) (heldOf d ++ chunk) in
@@ -170,8 +176,10 @@ finish-keeps d room = go (eqb (finishRefusal d room) 0) refl
   where
     is : List Out
     is = ending noTables (family (d .encoding)) (shiftOf d) (heldOf d)
+
     given : Bool → Outcome
     given b = b then handOut (d .encoding) (d .mode) is (closed (d .encoding) (d .mode)) room else refuse (finishRefusal d room) d room
+
     go : (b : Bool) → eqb (finishRefusal d room) 0 ≡ b → length (given b .room) ≡ length room
     go true q = handed-length (d .encoding) (d .mode) is (closed (d .encoding) (d .mode)) room
         (omega (arith, finish-enough d room q, ending-is noTables (family (d .encoding)) (shiftOf d) (heldOf d) .count, held-length d))
