@@ -1,4 +1,40 @@
-// The line rule of the published index files: document 01, "Index line".
+// Index tables: document 01, "Tables the caller lends" and "Index line".
+
+// What the bytes 80 to 9F map to in windows-1252.
+pub const IRREGULAR: [u32; 32] = [
+    0x20AC,
+    0x0081,
+    0x201A,
+    0x0192,
+    0x201E,
+    0x2026,
+    0x2020,
+    0x2021,
+    0x02C6,
+    0x2030,
+    0x0160,
+    0x2039,
+    0x0152,
+    0x008D,
+    0x017D,
+    0x008F,
+    0x0090,
+    0x2018,
+    0x2019,
+    0x201C,
+    0x201D,
+    0x2022,
+    0x2013,
+    0x2014,
+    0x02DC,
+    0x2122,
+    0x0161,
+    0x203A,
+    0x0153,
+    0x009D,
+    0x017E,
+    0x0178,
+];
 
 // What the index line call answers: the entry's pointer or 0, the refusal number or 0, and 1 where the line is an entry, else 0.
 #[repr(C)]
