@@ -1,3 +1,4 @@
 pub mod Cells
+pub mod Parts
 pub mod Reader
 pub mod Call

@@ -1,5 +1,7 @@
 // Index tables: document 01, "Tables the caller lends" and "Index line".
 
+mod reading;
+
 // What the bytes 80 to 9F map to in windows-1252.
 pub const IRREGULAR: [u32; 32] = [
     0x20AC,
