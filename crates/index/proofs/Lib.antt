@@ -1,4 +1,5 @@
 pub mod Cells
 pub mod Parts
+pub mod Search
 pub mod Reader
 pub mod Call

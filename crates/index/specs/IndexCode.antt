@@ -1,12 +1,15 @@
--- What the code's parts of an index line give, in the words of the reader. Assumes nothing.
+-- What the code's values stand for: the parts of an index line in the words of the reader, and a pointer. Assumes nothing.
 use mathlib.Core.Path.{_≡_}
 use mathlib.Core.Bool.{Bool}
 use mathlib.Core.List.{List}
+use mathlib.Core.Option.{Option, some, none}
 use Prim.Native.Nat.{ℕ, _≤_, max}
 use lib.ListN.{length, drop}
 use lib.Seq.{slice}
 use Rattle.index.specs.IndexLine.{decimal, hexadecimal}
 use Rattle.index.specs.IndexRead.{Read, noEntry, bad, entry, front, behind, space, readCode}
+use Rattle.index.specs.declared.Found.{Found}
+use Rattle.index.specs.declared.Found.the-variants.{At, Missing}
 use Rattle.index.specs.declared.reading.Kind.{Kind}
 use Rattle.index.specs.declared.reading.Kind.the-variants.{Space, Decimal, Hexadecimal}
 use Rattle.index.specs.declared.reading.Reading.{Reading}
@@ -34,3 +37,8 @@ readOf (Entry p c) = entry p c
 -- What is read behind the spaces, where the decimal digits stand between two places.
 abbrev pub entryAt : List ℕ → ℕ → ℕ → Read
 entryAt line start tab = readCode (slice start tab line) (drop tab line)
+
+-- The standard's word for a pointer that may be null.
+abbrev pub pointerOf : Found → Option ℕ
+pointerOf (At p) = some p
+pointerOf Missing = none

@@ -2,6 +2,8 @@
 
 mod reading;
 
+use reading::Reading;
+
 // What the bytes 80 to 9F map to in windows-1252.
 pub const IRREGULAR: [u32; 32] = [
     0x20AC,
@@ -46,9 +48,23 @@ pub struct Line {
     pub entry: u8,
 }
 
+// Where a code point stands in a table.
+pub enum Found {
+    At(usize),
+    Missing,
+}
+
 ghost use mathlib.Core.Path.{_≡_};
+ghost use mathlib.Core.Bool.{true};
 ghost use Rattle.standard.specs.Base.{mapped};
 ghost use Rattle.standard.specs.Sequence.{cell};
+ghost use Rattle.standard.specs.Indexes.{indexPointer, pointerFrom};
+ghost use Rattle.index.specs.IndexRead.{entry};
+ghost use Rattle.index.specs.IndexCall.{enter, indexLine};
+ghost use Rattle.index.specs.IndexCode.{pointerOf};
+ghost use lib.Seq.{slice};
+ghost use Prim.Native.Nat.{_≤_, min};
+ghost use lib.ListN.{length};
 
 // Does a cell count as mapped: is it a scalar of at least 0x80?
 pub fn mapped(c: u32) -> bool
@@ -75,4 +91,95 @@ pub fn cell(table: &[u32], p: usize) -> u32
     }
     let c = table[p];
     if mapped(c) { c } else { 0 }
+}
+
+fn least(a: usize, b: usize) -> usize
+    ensures { λ r. ⌜ r ≡ min a b ⌝ }
+{
+    if a < b { a } else { b }
+}
+
+// The first place from `start` on and before `end` whose cell is `c`.
+fn find(table: &[u32], start: usize, end: usize, c: u32) -> Found
+    requires { ⌜ (mapped c ≡ true) × (end ≤ length (now table)) ⌝ }
+    ensures { λ r. ⌜ pointerOf r ≡ pointerFrom start (slice start end (now (table .entry))) c ⌝ }
+{
+    let mut i = start;
+    while i < end {
+        if table[i] == c {
+            return Found::At(i);
+        }
+        i += 1;
+    }
+    Found::Missing
+}
+
+// The pointer of a code point in a stretch of a table, from `start` on and before `end`: the first whose cell counts as mapped and equals it.
+pub fn pointer_between(table: &[u32], start: usize, end: usize, c: u32) -> Found
+    ensures { λ r. ⌜ pointerOf r ≡ pointerFrom start (slice start end (now (table .entry))) c ⌝ }
+{
+    if !mapped(c) {
+        return Found::Missing;
+    }
+    find(table, start, least(end, table.len()), c)
+}
+
+// The pointer of a code point in a table.
+pub fn pointer(table: &[u32], c: u32) -> Found
+    ensures { λ r. ⌜ pointerOf r ≡ indexPointer (now (table .entry)) c ⌝ }
+{
+    pointer_between(table, 0, table.len(), c)
+}
+
+// An entry fills the cell at its pointer. 13: there is none, or it is not 0.
+fn enter(table: &mut [u32], pointer: u32, c: u32) -> Line
+    ensures { λ r. ⌜ (r ≡ enter (entry pointer c) (now (table .entry)) .answer) × (now (table .exit) ≡ enter (entry pointer c) (now (table .entry)) .table) ⌝ }
+{
+    let at = pointer as usize;
+    if table.len() <= at {
+        return Line {
+            pointer: 0,
+            refusal: 13,
+            entry: 0,
+        };
+    }
+    if table[at] != 0 {
+        return Line {
+            pointer: 0,
+            refusal: 13,
+            entry: 0,
+        };
+    }
+    table[at] = c;
+    Line {
+        pointer,
+        refusal: 0,
+        entry: 1,
+    }
+}
+
+// The index line call: what a line of a published index file is, and its entry put into the table. 8: a line above 1,024 bytes. 12: a bad line.
+pub fn index_line(line: &[u8], table: &mut [u32]) -> Line
+    ensures { λ r. ⌜ (r ≡ indexLine (now (line .entry)) (now (table .entry)) .answer) × (now (table .exit) ≡ indexLine (now (line .entry)) (now (table .entry)) .table) ⌝ }
+{
+    if 1024 < line.len() {
+        return Line {
+            pointer: 0,
+            refusal: 8,
+            entry: 0,
+        };
+    }
+    match reading::read(line) {
+        Reading::NoEntry => Line {
+            pointer: 0,
+            refusal: 0,
+            entry: 0,
+        },
+        Reading::Bad => Line {
+            pointer: 0,
+            refusal: 12,
+            entry: 0,
+        },
+        Reading::Entry(pointer, c) => enter(table, pointer, c),
+    }
 }
