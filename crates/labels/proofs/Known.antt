@@ -42,7 +42,7 @@ among-stands l (m ∷ ms) h = split (same l m)
     (λ g. List·Memᴰ·tail (among-stands l ms (rw g at h)))
 
 -- A row of the table by its place.
-abbrev rowAt : List (String × List String) → ℕ → String × List String
+abbrev pub rowAt : List (String × List String) → ℕ → String × List String
 rowAt rs e = getD rs e ("", [])
 
 -- What is found as k stands in the row of k.
@@ -54,13 +54,49 @@ found-stands l n (r ∷ rs) k h = split (among l (r .1))
     (λ g. let i : (e : ℕ) × (k ≡ suc n + e) × List·Memᴰ l (map bytes (rowAt rs e .1)) = found-stands l (suc n) rs k (rw g at h) in
     (suc (i .0), omega (arith, i .1), i .2))
 
+-- The test of each label of a row.
+unfoldable pub eachOf : (String → Bool) → List String → Bool
+eachOf p [] = true
+eachOf p (m ∷ ms) = p m && eachOf p ms
+
+-- The test of each label of all rows, the first being number e.
+unfoldable pub each : (ℕ → String → Bool) → ℕ → List (String × List String) → Bool
+each p e [] = true
+each p e (r ∷ rs) = eachOf (p e) (r .1) && each p (suc e) rs
+
+-- The bytes of a text that passes a test.
+pub record Passes (p : String → Bool) (l : List ℕ) : Type 0 where
+  pub text : String
+  pub is : l ≡ bytes text
+  pub passes : p text ≡ true
+
+-- What stands in a row that is tested passes.
+row-rule : (p : String → Bool) (l : List ℕ) (ms : List String) → eachOf p ms ≡ true → List·Memᴰ l (map bytes ms) → Passes p l
+unfolding eachOf
+row-rule p l [] h s = absurd (List·Memᴰ·not-nil s)
+row-rule p l (m ∷ ms) h s = pick (row-rule p l ms (and-both (p m) (eachOf p ms) h .1)) (List·Memᴰ·cases-cons s)
+  where
+    pick : (List·Memᴰ l (map bytes ms) → Passes p l) → (l ≡ bytes m) ⊎ List·Memᴰ l (map bytes ms) → Passes p l
+    pick f (inl q) = record { text = m; is = q; passes = and-both (p m) (eachOf p ms) h .0 }
+    pick f (inr q) = f q
+
+-- What stands in a table that is tested passes.
+pub each-rule : (p : ℕ → String → Bool) (l : List ℕ) (k : ℕ) (rs : List (String × List String)) (e : ℕ) → each p k rs ≡ true → List·Memᴰ l (map bytes (rowAt rs e .1)) →
+    Passes (p (k + e)) l
+unfolding each
+each-rule p l k [] e h s = absurd (List·Memᴰ·not-nil s)
+each-rule p l k (r ∷ rs) zero h s = rw (add-zero k) (row-rule (p k) l (r .1) (and-both (eachOf (p k) (r .1)) (each p (suc k) rs) h .0) s)
+each-rule p l k (r ∷ rs) (suc e) h s =
+    let j = each-rule p l (suc k) rs e (and-both (eachOf (p k) (r .1)) (each p (suc k) rs) h .1) s in
+    let q : k + suc e ≡ suc k + e = omega arith in rw q j
+
 -- Is it this number?
-abbrev isSome : ℕ → Option ℕ → Bool
+abbrev pub isSome : ℕ → Option ℕ → Bool
 isSome e none = false
 isSome e (some k) = eqb k e
 
 -- What `isSome` says.
-is-some : (e : ℕ) (o : Option ℕ) → isSome e o ≡ true → o ≡ some e
+pub is-some : (e : ℕ) (o : Option ℕ) → isSome e o ≡ true → o ≡ some e
 is-some e none h = absurd (subst T (sym h) tt)
 is-some e (some k) h = ap some (eqb-true k e h)
 
@@ -68,24 +104,24 @@ is-some e (some k) h = ap some (eqb-true k e h)
 good : ℕ → String → Bool
 good e m = eqb (start (bytes m)) 0 && (same (trimmed (bytes m)) m && (same (map fold (bytes m)) m && isSome e (find (bytes m) 0 table)))
 
--- The test of the labels of a row.
-goods : ℕ → List String → Bool
-goods e [] = true
-goods e (m ∷ ms) = good e m && goods e ms
-
 -- The test of a name: it is its own trimmed form, and folded it is one of the labels.
 goodName : String × List String → Bool
 goodName r = eqb (start (bytes (r .0))) 0 && (same (trimmed (bytes (r .0))) (r .0) && among (map fold (bytes (r .0))) (r .1))
 
--- The test of all rows, the first being number e.
-rows : ℕ → List (String × List String) → Bool
-rows e [] = true
-rows e (r ∷ rs) = goods e (r .1) && (goodName r && rows (suc e) rs)
+-- The test of all names.
+names : List (String × List String) → Bool
+names [] = true
+names (r ∷ rs) = goodName r && names rs
 
 -- The table passes.
-tested : rows 0 table ≡ true
-unfolding rows goods good goodName table bytes start trimmed same among find
+tested : each good 0 table ≡ true
+unfolding each eachOf good table bytes start trimmed same among find
 tested = refl
+
+-- So do the names.
+names-tested : names table ≡ true
+unfolding names goodName table bytes start trimmed same among
+names-tested = refl
 
 -- The rule for each label of the table.
 pub record Good (e : ℕ) (l : List ℕ) : Type 0 where
@@ -108,30 +144,14 @@ good-rule e m h =
       found = is-some e (find (bytes m) 0 table) (c .1);
     }
 
--- It follows from the test of its row.
-row-rule : (e : ℕ) (l : List ℕ) (ms : List String) → goods e ms ≡ true → List·Memᴰ l (map bytes ms) → Good e l
-unfolding goods
-row-rule e l [] h s = absurd (List·Memᴰ·not-nil s)
-row-rule e l (m ∷ ms) h s = pick (row-rule e l ms (and-both (good e m) (goods e ms) h .1)) (List·Memᴰ·cases-cons s)
-  where
-    pick : (List·Memᴰ l (map bytes ms) → Good e l) → (l ≡ bytes m) ⊎ List·Memᴰ l (map bytes ms) → Good e l
-    pick f (inl p) = rw p (good-rule e m (and-both (good e m) (goods e ms) h .0))
-    pick f (inr q) = f q
-
--- It follows from the test of the table.
-table-rule : (l : List ℕ) (k : ℕ) (rs : List (String × List String)) (e : ℕ) → rows k rs ≡ true → List·Memᴰ l (map bytes (rowAt rs e .1)) → Good (k + e) l
-unfolding rows
-table-rule l k [] e h s = absurd (List·Memᴰ·not-nil s)
-table-rule l k (r ∷ rs) zero h s = rw (add-zero k) (row-rule k l (r .1) (and-both (goods k (r .1)) (goodName r && rows (suc k) rs) h .0) s)
-table-rule l k (r ∷ rs) (suc e) h s =
-    let i = and-both (goods k (r .1)) (goodName r && rows (suc k) rs) h in
-    let j = table-rule l (suc k) rs e (and-both (goodName r) (rows (suc k) rs) (i .1) .1) s in
-    let p : k + suc e ≡ suc k + e = omega arith in rw p j
+-- So it holds of what passes the test.
+passes-good : (e : ℕ) (l : List ℕ) → Passes (good e) l → Good e l
+passes-good e l i = rw (i .is) (good-rule e (i .text) (i .passes))
 
 -- Each label of the table is found as its number.
 pub stands-good : (e : ℕ) (l : List ℕ) → List·Memᴰ l (labels e) → Good e l
 unfolding labels
-stands-good e l s = rw (zero-add e) at (table-rule l 0 table e tested s)
+stands-good e l s = passes-good e l (rw (zero-add e) at (each-rule good l 0 table e tested s))
 
 -- What is found stands in the table.
 pub good-stands : (e : ℕ) (l : List ℕ) → find l 0 table ≡ some e → List·Memᴰ l (labels e)
@@ -147,12 +167,11 @@ pub record Named (e : ℕ) : Type 0 where
   pub stands : List·Memᴰ (map fold (name e)) (labels e)
 
 -- Each row passes the test of its name.
-name-rule : (k : ℕ) (rs : List (String × List String)) (e : ℕ) → rows k rs ≡ true → e < length rs → goodName (rowAt rs e) ≡ true
-unfolding rows
-name-rule k [] e h g = absurd (omega arith)
-name-rule k (r ∷ rs) zero h g = and-both (goodName r) (rows (suc k) rs) (and-both (goods k (r .1)) (goodName r && rows (suc k) rs) h .1) .0
-name-rule k (r ∷ rs) (suc e) h g =
-    name-rule (suc k) rs e (and-both (goodName r) (rows (suc k) rs) (and-both (goods k (r .1)) (goodName r && rows (suc k) rs) h .1) .1) (omega arith)
+name-rule : (rs : List (String × List String)) (e : ℕ) → names rs ≡ true → e < length rs → goodName (rowAt rs e) ≡ true
+unfolding names
+name-rule [] e h g = absurd (omega arith)
+name-rule (r ∷ rs) zero h g = and-both (goodName r) (names rs) h .0
+name-rule (r ∷ rs) (suc e) h g = name-rule rs e (and-both (goodName r) (names rs) h .1) (omega arith)
 
 -- The number of rows.
 pub encodings : length table ≡ 40
@@ -164,7 +183,7 @@ pub named : (e : ℕ) → e < 40 → Named e
 unfolding name labels goodName
 named e g =
     let r = rowAt table e in
-    let h = name-rule 0 table e tested (omega (arith, encodings)) in
+    let h = name-rule table e names-tested (omega (arith, encodings)) in
     let a = and-both (eqb (start (bytes (r .0))) 0) (same (trimmed (bytes (r .0))) (r .0) && among (map fold (bytes (r .0))) (r .1)) h in
     let b = and-both (same (trimmed (bytes (r .0))) (r .0)) (among (map fold (bytes (r .0))) (r .1)) (a .1) in
     record {

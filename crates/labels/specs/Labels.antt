@@ -1,15 +1,16 @@
 -- Document 01, "Labels and encoding numbers": the table of 004, trimming, folding, and what the label call answers. Assumes nothing.
 use mathlib.Core.Bool.{Bool, true, false, _&&_, _||_}
-use mathlib.Core.List.{List, [], _∷_, map, reverse}
+use mathlib.Core.List.{List, [], _∷_, _++_, map, reverse}
 use mathlib.Core.Option.{Option, some, none}
 use Prim.Native.Nat.{ℕ, suc, _+_}
 use Prim.Native.Char.{code}
 use Prim.Native.String.{String, [] as []ˢ, _∷_ as _∷ˢ_}
-use lib.Dec.{eqb}
+use lib.Dec.{ltb, eqb}
 use lib.ListN.{length, getD, drop}
 use Rattle.standard.specs.Base.{_then_else_, within}
 use Rattle.standard.specs.Text.{bytes}
 use Rattle.labels.specs.declared.Found.{Found}
+use Rattle.labels.specs.declared.Named.{Named}
 
 -- The table of 004, section 4.2: each encoding's name and its labels. Its number is its place, counted from 0.
 unfoldable pub table : List (String × List String)
@@ -101,3 +102,19 @@ answer xs none = record { start = 0; length = 0; refusal = 1; encoding = 0 }
 -- The label call: the trimmed label is compared with its letters folded.
 unfoldable pub label : List ℕ → Found
 label xs = answer xs (find (map fold (trimmed xs)) 0 table)
+
+-- What the name call leaves: its answer, and every byte of the room.
+pub record Naming : Type 0 where
+  pub answer : Named
+  pub room : List ℕ
+
+-- A refused name leaves the room as it was.
+abbrev pub unnamed : ℕ → List ℕ → Naming
+unnamed n room = record { answer = record { length = 0; refusal = n }; room = room }
+
+-- The name call: 2 above 39; 7 where the room is smaller than the name; else the name at the front of the room.
+unfoldable pub naming : ℕ → List ℕ → Naming
+naming e room =
+    ltb 39 e then unnamed 2 room else
+    ltb (length room) (length (name e)) then unnamed 7 room else
+    record { answer = record { length = length (name e); refusal = 0 }; room = name e ++ drop (length (name e)) room }
