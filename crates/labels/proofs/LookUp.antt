@@ -55,8 +55,8 @@ enough zero (suc k) l g h f = rw (le-ltb (length l) (length g) (omega arith))
 enough (suc j) zero l g h f = rw (le-ltb (length l) (length g) (omega arith))
 enough (suc j) (suc k) l g h f = split (ltb (length l) (length g))
     (λ t. split (begins l g)
-      (λ b. rw (t, b))
-      (λ b. rw (t, b) (enough j k l (drop (length l + 1) g) (simp length-drop (omega arith)) (simp length-drop (omega arith)))))
+    (λ b. rw (t, b))
+    (λ b. rw (t, b) (enough j k l (drop (length l + 1) g) (simp length-drop (omega arith)) (simp length-drop (omega arith)))))
     (λ t. rw t)
 
 -- One place of the search.
@@ -152,12 +152,12 @@ unfolding known seekIn
 sought zero l g e h s = let z : _≡_ {A = ℕ} 0 1 = cc in absurd (omega arith)
 sought (suc k) l g e h s = split (ltb (length l) (length g))
     (λ t.
-      let i = and-both (isSome (getD g (length l) 0) (find (take (length l) g) 0 table)) (known k (length l) (drop (length l + 1) g)) (rw t at h) in
-      split (begins l g)
-        (λ b. let j : some (getD g (length l) 0) ≡ some e = rw (t, b) at s in
-          let p : find (take (length l) g) 0 table ≡ some (getD g (length l) 0) = is-some _ _ (i .0) in
-          (rw (begins-take l g b) at p) ∙ j)
-        (λ b. sought k l (drop (length l + 1) g) e (i .1) (rw (t, b) at s)))
+    let i = and-both (isSome (getD g (length l) 0) (find (take (length l) g) 0 table)) (known k (length l) (drop (length l + 1) g)) (rw t at h) in
+    split (begins l g)
+    (λ b. let j : some (getD g (length l) 0) ≡ some e = rw (t, b) at s in
+    let p : find (take (length l) g) 0 table ≡ some (getD g (length l) 0) = is-some _ _ (i .0) in
+    (rw (begins-take l g b) at p) ∙ j)
+    (λ b. sought k l (drop (length l + 1) g) e (i .1) (rw (t, b) at s)))
     (λ t. let j : none ≡ some e = rw t at s in let z : _≡_ {A = ℕ} 0 1 = cc in absurd (omega arith))
 
 -- What is looked up is in the table, with its number.
@@ -222,4 +222,3 @@ module _ (xs part : List ℕ) (e : ℕ) (p : part ≡ trimmed xs) (h : e ≡ num
 
   pub call-known : (a : ℕ) → a ≡ start xs → (e ≡ 40 → ⊥) → _≡_ {A = Found} (record { start = a; length = length part; refusal = 0; encoding = e }) (label xs)
   call-known a q z = sym (called ∙ ap (answer xs) (something (find (map fold part) 0 table) refl z) ∙ rw (q, p))
-
