@@ -8,8 +8,8 @@ use Prim.Native.Nat.{ℕ, zero, suc, _+_, _≤_, _<_}
 use Prim.Native.Char.{code}
 use Prim.Native.String.{String, [] as []ˢ, _∷_ as _∷ˢ_}
 use native.Mathlib.Omega.{arith}
-use lib.Dec.{T, eqb}
 use native.Mathlib.Nat.{add-zero, zero-add}
+use lib.Dec.{T, eqb}
 use lib.ListN.{length, getD, length-map, List·getD-eq-default}
 use borrow.Author.Tests.{eqb-true, not-true, eq-eqb}
 use Rattle.standard.proofs.Tests.{split, and-both}

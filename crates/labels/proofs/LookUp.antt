@@ -17,9 +17,9 @@ use Rattle.standard.specs.Text.{bytes}
 use Rattle.standard.proofs.Tests.{split, and-both}
 use Rattle.labels.specs.Labels.{table, fold, start, trimmed, same, among, find, answer, label}
 use Rattle.labels.specs.LookUp.{rowGroup, group, groups, labels, startsFrom, starts, begins, seekIn, seek, number}
-use Rattle.labels.specs.Statements as statements
 use Rattle.labels.specs.declared.Found.{Found}
 use Rattle.labels.proofs.Known.{the-table, isSome, is-some, eachOf, each, each-rule, good-stands}
+use Rattle.labels.specs.Statements as statements
 
 -- One byte of the comparison.
 module _ (l g : List ℕ) (i : ℕ) (h : i < length l) (f : i < length g) where

@@ -1,8 +1,10 @@
 // Labels to encodings: document 01, "Labels and encoding numbers".
 mod tables;
 
-use tables::{LABELS, NAMES, NAME_STARTS, STARTS};
-
+use tables::LABELS;
+use tables::NAME_STARTS;
+use tables::NAMES;
+use tables::STARTS;
 ghost use mathlib.Core.Path.{_≡_};
 ghost use mathlib.Core.List.{map, _++_};
 ghost use Prim.Native.Nat.{_+_, _-_, _≤_, _<_};

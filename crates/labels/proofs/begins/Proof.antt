@@ -1,17 +1,15 @@
-use Rattle.labels.proofs.LookUp.{begins-other, begins-same, begins-end}
-use Rattle.labels.specs.LookUp.{begins}
-use Rattle.labels.specs.Labels.{fold}
-use lib.ListN.{length, drop}
-use Prim.Native.Nat.{_-_, _≤_}
+-- The invariant: from here on the comparison gives what it gives on the whole. Assumes nothing.
 use mathlib.Core.List.{map}
 use mathlib.Core.Path.{_≡_, refl, sym, _∙_}
-use borrow.Author.Needs.{needs}
+use Prim.Native.Nat.{_-_, _≤_}
 use native.Mathlib.Omega.{arith}
+use lib.ListN.{length, drop}
+use borrow.Author.Needs.{needs}
+use Rattle.labels.specs.LookUp.{begins}
+use Rattle.labels.specs.Labels.{fold}
+use Rattle.labels.proofs.LookUp.{begins-other, begins-same, begins-end}
 use Rattle.labels.proofs.begins.Statement.{statement}
 use Rattle.labels.proofs.begins.Tie as tie
-use Rattle.labels.proofs.begins.Reads as reads
-use Rattle.labels.proofs.begins.Lts as lts
-use Rattle.labels.proofs.fold.Reads as fold-reads
 
 abbrev Inv-loop : tie.InvT-loop
 Inv-loop label group i₀ i = (i ≤ length label) × (length label ≤ length group) × (begins (map fold (drop i label)) (drop i group) ≡ begins (map fold label) group)
@@ -19,39 +17,30 @@ Inv-loop label group i₀ i = (i ≤ length label) × (length label ≤ length g
 abbrev μ-loop : tie.MeasureT-loop
 μ-loop label group i₀ i = length label - i
 
--- src/lib.rt:163:5
 loop-holds : tie.Need-loop-holds Inv-loop μ-loop
 loop-holds c = (search needs, search needs, refl)
 
--- src/lib.rt:164:17
 shared-slice-read-fold : tie.Need-shared-slice-read-fold Inv-loop μ-loop
 shared-slice-read-fold c = search needs
 
--- src/lib.rt:164:12
 fold-requires : tie.Need-fold-requires Inv-loop μ-loop
 fold-requires c κs = search needs
 
--- src/lib.rt:164:30
 shared-slice-read-if1 : tie.Need-shared-slice-read-if1 Inv-loop μ-loop
 shared-slice-read-if1 c = search needs
 
--- src/lib.rt:165:13
 returns : tie.Need-returns Inv-loop μ-loop
 returns c = sym (begins-other ((c .before .before .before .before .before .before .before .before .args) .label .now) ((c .before .before .before .before .before .before .before .before .args) .group .now) (c .before .before .before .before .before .loop .i) (omega arith) (omega arith) _ (c .before .before .fold .ensures) (c .if1 .taken)) ∙ c .before .before .before .before .before .loop .inv .2
 
--- src/lib.rt:167:9
 add-i : tie.Need-add-i Inv-loop μ-loop
 add-i c = search needs
 
--- src/lib.rt:163:5
 loop-less : tie.Need-loop-less Inv-loop μ-loop
 loop-less c = search needs
 
--- src/lib.rt:163:5
 loop-again : tie.Need-loop-again Inv-loop μ-loop
 loop-again c = (search needs, search needs, sym (begins-same ((c .before .before .before .before .before .before .before .before .args) .label .now) ((c .before .before .before .before .before .before .before .before .args) .group .now) (c .before .before .before .before .before .loop .i) (omega arith) (omega arith) _ (c .before .before .fold .ensures) (c .if1 .left)) ∙ c .before .before .before .before .before .loop .inv .2)
 
--- src/lib.rt:158:1
 returns-2 : tie.Need-returns-2 Inv-loop μ-loop
 returns-2 c = sym (begins-end ((c .before .before .before .before .args) .label .now) ((c .before .before .before .before .args) .group .now) (c .before .loop .i) (omega arith)) ∙ c .before .loop .inv .2
 

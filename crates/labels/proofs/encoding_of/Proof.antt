@@ -1,42 +1,32 @@
-use Rattle.labels.proofs.LookUp.{group-rule, far, near}
+-- The constant is the list of labels, by computation; the rest is the rule of a group, and that the look-ups agree. Assumes nothing.
+use native.Mathlib.Omega.{arith}
+use lib.ListN.{length}
+use borrow.Author.Needs.{needs}
+use Rattle.standard.specs.Text.{bytes}
 use Rattle.labels.specs.LookUp.{labels, groups, group, rowGroup}
 use Rattle.labels.specs.Labels.{table}
-use Rattle.standard.specs.Text.{bytes}
-use lib.ListN.{length}
-use native.Mathlib.Omega.{arith}
-use borrow.Author.Needs.{needs}
+use Rattle.labels.proofs.LookUp.{group-rule, far, near}
 use Rattle.labels.proofs.encoding_of.Statement.{statement}
 use Rattle.labels.proofs.encoding_of.Tie as tie
-use Rattle.labels.proofs.encoding_of.Reads as reads
-use Rattle.labels.proofs.encoding_of.Lts as lts
-use Rattle.labels.proofs.group_start.Reads as group-start-reads
-use Rattle.labels.proofs.seek_between.Reads as seek-between-reads
 
--- src/lib.rt:209:9
 returns : tie.Need-returns
 returns c = far ((c .before .before .args) .label .now) (omega arith)
 
--- src/lib.rt:211:25
 slice-aggregate-seek-between : tie.Need-slice-aggregate-seek-between
 slice-aggregate-seek-between c = search needs
 
--- src/lib.rt:211:34
 group-start-requires : tie.Need-group-start-requires
 group-start-requires c κs = search needs
 
--- src/lib.rt:211:62
 add-group-start : tie.Need-add-group-start
 add-group-start c = search needs
 
--- src/lib.rt:211:50
 group-start-requires-2 : tie.Need-group-start-requires-2
 group-start-requires-2 c κs = search needs
 
--- src/lib.rt:211:5
 seek-between-requires : tie.Need-seek-between-requires
 seek-between-requires c κs = (omega (arith, group-rule (length ((c .before .before .before .before .before .args) .label .now)) (omega arith) .ordered), omega (arith, group-rule (length ((c .before .before .before .before .before .args) .label .now)) (omega arith) .within))
 
--- src/lib.rt:204:1
 returns-2 : tie.Need-returns-2
 unfolding labels groups group rowGroup table bytes
 returns-2 c = near ((c .before .before .before .before .before .before .args) .label .now) _ (c .before .before .group-start .result) (c .before .group-start2 .result) (omega arith) (c .before .before .group-start .ensures) (c .before .group-start2 .ensures) (c .seek-between .ensures)

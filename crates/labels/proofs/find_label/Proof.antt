@@ -1,31 +1,21 @@
-use Rattle.labels.proofs.LookUp.{call-unknown, call-known}
-use native.Mathlib.Omega.{arith}
+-- The trimmed label, looked up. Assumes nothing.
 use borrow.Author.Needs.{needs}
+use Rattle.labels.proofs.LookUp.{call-unknown, call-known}
 use Rattle.labels.proofs.find_label.Statement.{statement}
 use Rattle.labels.proofs.find_label.Tie as tie
-use Rattle.labels.proofs.find_label.Reads as reads
-use Rattle.labels.proofs.find_label.Lts as lts
-use Rattle.labels.proofs.encoding_of.Reads as encoding-of-reads
-use Rattle.labels.proofs.front.Reads as front-reads
-use Rattle.labels.proofs.trim.Reads as trim-reads
 
--- src/lib.rt:218:9
 front-requires : tie.Need-front-requires
 front-requires c κs = search needs
 
--- src/lib.rt:219:9
 trim-requires : tie.Need-trim-requires
 trim-requires c κs = search needs
 
--- src/lib.rt:220:9
 encoding-of-requires : tie.Need-encoding-of-requires
 encoding-of-requires c κs = search needs
 
--- src/lib.rt:222:9
 returns : tie.Need-returns
 returns c = call-unknown ((c .before .before .before .before .before .args) .bytes .now) (c .before .before .trim .result .now) (c .before .encoding-of .result) (c .before .before .trim .ensures) (c .before .encoding-of .ensures) (c .if1 .taken)
 
--- src/lib.rt:215:1
 returns-2 : tie.Need-returns-2
 returns-2 c = call-known ((c .before .before .before .before .before .args) .bytes .now) (c .before .before .trim .result .now) (c .before .encoding-of .result) (c .before .before .trim .ensures) (c .before .encoding-of .ensures) (c .before .before .before .front .result) (c .before .before .before .front .ensures .0) (c .if1 .left)
 

@@ -1,55 +1,41 @@
-use Rattle.labels.proofs.Names.{name-rule, name-above, name-short, name-answer, name-room}
-use Rattle.labels.specs.LookUp.{names, namesOf}
-use Rattle.labels.specs.Labels.{table, Naming}
-use Rattle.standard.specs.Text.{bytes}
-use lib.ListN.{length}
+-- The constant is the list of names, by computation; the rest is the rule of a name. Assumes nothing.
 use mathlib.Core.Path.{sym, ap, _∙_}
 use native.Mathlib.Omega.{arith}
 use borrow.Author.Needs.{needs}
+use Rattle.standard.specs.Text.{bytes}
+use Rattle.labels.specs.LookUp.{names, namesOf}
+use Rattle.labels.specs.Labels.{table, Naming}
+use Rattle.labels.proofs.Names.{name-rule, name-above, name-short, name-answer, name-room}
 use Rattle.labels.proofs.name.Statement.{statement}
 use Rattle.labels.proofs.name.Tie as tie
-use Rattle.labels.proofs.name.Reads as reads
-use Rattle.labels.proofs.name.Lts as lts
-use Rattle.labels.proofs.copy.Reads as copy-reads
-use Rattle.labels.proofs.name_start.Reads as name-start-reads
 
--- src/lib.rt:252:9
 returns : tie.Need-returns
 returns c = (sym (ap (λ (n : Naming). n .answer) (name-above ((c .before .before .args) .encoding) ((c .before .before .args) .room .now) (omega arith))), sym (ap (λ (n : Naming). n .room) (name-above ((c .before .before .args) .encoding) ((c .before .before .args) .room .now) (omega arith))))
 
--- src/lib.rt:255:9
 name-start-requires : tie.Need-name-start-requires
 name-start-requires c κs = search needs
 
--- src/lib.rt:256:24
 add-name-start : tie.Need-add-name-start
 add-name-start c = search needs
 
--- src/lib.rt:256:13
 name-start-requires-2 : tie.Need-name-start-requires-2
 name-start-requires-2 c κs = search needs
 
--- src/lib.rt:256:13
 sub-n : tie.Need-sub-n
 sub-n c = omega (arith, name-rule ((c .before .before .before .before .args) .encoding) (omega arith) .ordered)
 
--- src/lib.rt:258:9
 returns-2 : tie.Need-returns-2
 returns-2 c = (sym (ap (λ (n : Naming). n .answer) (name-short ((c .before .before .before .before .before .args) .encoding) (c .before .before .name-start .result) (c .before .name-start2 .result) ((c .before .before .before .before .before .args) .room .now) (c .before .before .name-start .ensures) (c .before .name-start2 .ensures) (omega arith) (c .if2 .taken))), sym (ap (λ (n : Naming). n .room) (name-short ((c .before .before .before .before .before .args) .encoding) (c .before .before .name-start .result) (c .before .name-start2 .result) ((c .before .before .before .before .before .args) .room .now) (c .before .before .name-start .ensures) (c .before .name-start2 .ensures) (omega arith) (c .if2 .taken))))
 
--- src/lib.rt:260:10
 slice-aggregate-copy : tie.Need-slice-aggregate-copy
 slice-aggregate-copy c = search needs
 
--- src/lib.rt:260:5
 copy-requires : tie.Need-copy-requires
 copy-requires c κs = (omega (arith, name-rule ((c .before .before .before .before .before .before .before .args) .encoding) (omega arith) .ordered, name-rule ((c .before .before .before .before .before .before .before .args) .encoding) (omega arith) .within), search needs)
 
--- src/lib.rt:248:1
 same-length : tie.Need-same-length
 same-length c = search needs
 
--- src/lib.rt:248:1
 returns-3 : tie.Need-returns-3
 unfolding names namesOf table bytes
 returns-3 c = (name-answer ((c .before .before .before .before .before .before .before .before .before .before .args) .encoding) (c .before .before .before .before .before .before .before .name-start .result) (c .before .before .before .before .before .before .name-start2 .result) ((c .before .before .before .before .before .before .before .before .before .before .args) .room .now) (c .before .before .before .before .before .before .before .name-start .ensures) (c .before .before .before .before .before .before .name-start2 .ensures) (omega arith) (c .before .before .before .before .before .if2 .left), c .before .before .copy .ensures ∙ name-room ((c .before .before .before .before .before .before .before .before .before .before .args) .encoding) (c .before .before .before .before .before .before .before .name-start .result) (c .before .before .before .before .before .before .name-start2 .result) ((c .before .before .before .before .before .before .before .before .before .before .args) .room .now) (c .before .before .before .before .before .before .before .name-start .ensures) (c .before .before .before .before .before .before .name-start2 .ensures) (omega arith) (c .before .before .before .before .before .if2 .left))

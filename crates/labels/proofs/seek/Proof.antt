@@ -1,19 +1,16 @@
-use Rattle.labels.proofs.Ends.{rest}
-use lib.ListN.{length-take, length-drop}
-use Prim.Native.Nat.{_+_}
-use Rattle.labels.proofs.LookUp.{step-found, step-next, step-end}
-use Rattle.labels.specs.LookUp.{seek, number}
-use Rattle.labels.specs.Labels.{fold}
-use lib.ListN.{length}
+-- The invariant: the search from here on gives what it gives on the whole group. Assumes nothing.
 use mathlib.Core.List.{map}
 use mathlib.Core.Path.{_≡_, refl, sym, ap, _∙_}
-use borrow.Author.Needs.{needs}
+use Prim.Native.Nat.{_+_}
 use native.Mathlib.Omega.{arith}
+use lib.ListN.{length}
+use borrow.Author.Needs.{needs}
+use Rattle.labels.specs.LookUp.{seek, number}
+use Rattle.labels.specs.Labels.{fold}
+use Rattle.labels.proofs.Ends.{rest}
+use Rattle.labels.proofs.LookUp.{step-found, step-next, step-end}
 use Rattle.labels.proofs.seek.Statement.{statement}
 use Rattle.labels.proofs.seek.Tie as tie
-use Rattle.labels.proofs.seek.Reads as reads
-use Rattle.labels.proofs.seek.Lts as lts
-use Rattle.labels.proofs.begins.Reads as begins-reads
 
 abbrev Inv-loop : tie.InvT-loop
 Inv-loop label group n rest₀ rest = (n ≡ length label) × (seek (map fold label) rest ≡ seek (map fold label) group)
@@ -21,47 +18,36 @@ Inv-loop label group n rest₀ rest = (n ≡ length label) × (seek (map fold la
 abbrev μ-loop : tie.MeasureT-loop
 μ-loop label group n rest₀ rest = length rest
 
--- src/lib.rt:178:5
 loop-holds : tie.Need-loop-holds Inv-loop μ-loop
 loop-holds c = (refl, refl)
 
--- src/lib.rt:179:12
 begins-requires : tie.Need-begins-requires Inv-loop μ-loop
 begins-requires c κs = search needs
 
--- src/lib.rt:180:20
 shared-slice-read-result : tie.Need-shared-slice-read-result Inv-loop μ-loop
 shared-slice-read-result c = search needs
 
--- src/lib.rt:180:13
 returns : tie.Need-returns Inv-loop μ-loop
 returns c = sym (ap number (step-found ((c .before .before .before .before .before .before .before .args) .label .now) (c .before .before .before .before .loop .rest .now) (length ((c .before .before .before .before .before .before .before .args) .label .now)) refl (omega arith) (sym (c .before .before .begins .ensures) ∙ c .before .if1 .taken))) ∙ ap number (c .before .before .before .before .loop .inv .1)
 
--- src/lib.rt:182:22
 add-rest : tie.Need-add-rest Inv-loop μ-loop
 add-rest c = search needs
 
--- src/lib.rt:182:16
 sub-rest : tie.Need-sub-rest Inv-loop μ-loop
 sub-rest c = search needs
 
--- src/lib.rt:182:16
 part-rest-start : tie.Need-part-rest-start Inv-loop μ-loop
 part-rest-start c = search needs
 
--- src/lib.rt:182:16
 part-rest-end : tie.Need-part-rest-end Inv-loop μ-loop
 part-rest-end c = search needs
 
--- src/lib.rt:178:5
 loop-less : tie.Need-loop-less Inv-loop μ-loop
 loop-less c = omega (arith, c .rest .given .2)
 
--- src/lib.rt:178:5
 loop-again : tie.Need-loop-again Inv-loop μ-loop
 loop-again c = (refl, ap (λ g. seek (map fold ((c .before .before .before .before .before .before .before .args) .label .now)) g) (rest (c .before .before .before .before .loop .rest .now) (length ((c .before .before .before .before .before .before .before .args) .label .now) + 1)) ∙ sym (step-next ((c .before .before .before .before .before .before .before .args) .label .now) (c .before .before .before .before .loop .rest .now) (length ((c .before .before .before .before .before .before .before .args) .label .now)) refl (omega arith) (sym (c .before .before .begins .ensures) ∙ c .before .if1 .left)) ∙ c .before .before .before .before .loop .inv .1)
 
--- src/lib.rt:173:1
 returns-2 : tie.Need-returns-2 Inv-loop μ-loop
 returns-2 c = sym (ap number (step-end ((c .before .before .before .before .args) .label .now) (c .before .loop .rest .now) (length ((c .before .before .before .before .args) .label .now)) refl (omega arith))) ∙ ap number (c .before .loop .inv .1)
 
