@@ -29,7 +29,11 @@ white-requires : tie.Need-white-requires Inv-loop μ-loop
 white-requires c κs = search needs
 
 returns : tie.Need-returns Inv-loop μ-loop
-returns c = (search needs, back-other ((c .before .before .before .before .before .before .args) .s .now) (c .before .before .before .before .loop .e) (omega arith) (omega arith) (sym (c .before .white .ensures) ∙ not-true _ (c .if1 .taken)) ∙ c .before .before .before .before .loop .inv .1)
+returns c =
+    let args = c .before .before .before .before .before .before .args in
+    let at-loop = c .before .before .before .before .loop in
+    let at-white = c .before .white in
+    (search needs, back-other (args .s .now) (at-loop .e) (omega arith) (omega arith) (sym (at-white .ensures) ∙ not-true _ (c .if1 .taken)) ∙ at-loop .inv .1)
 
 sub-e : tie.Need-sub-e Inv-loop μ-loop
 sub-e c = search needs
@@ -38,7 +42,11 @@ loop-less : tie.Need-loop-less Inv-loop μ-loop
 loop-less c = search needs
 
 loop-again : tie.Need-loop-again Inv-loop μ-loop
-loop-again c = (search needs, sym (back-white ((c .before .before .before .before .before .before .args) .s .now) (c .before .before .before .before .loop .e) (omega arith) (omega arith) (sym (c .before .white .ensures) ∙ not-false _ (c .if1 .left))) ∙ c .before .before .before .before .loop .inv .1)
+loop-again c =
+    let args = c .before .before .before .before .before .before .args in
+    let at-loop = c .before .before .before .before .loop in
+    let at-white = c .before .white in
+    (search needs, sym (back-white (args .s .now) (at-loop .e) (omega arith) (omega arith) (sym (at-white .ensures) ∙ not-false _ (c .if1 .left))) ∙ at-loop .inv .1)
 
 returns-2 : tie.Need-returns-2 Inv-loop μ-loop
 returns-2 c = (search needs, back-end ((c .before .before .before .args) .s .now) (c .before .loop .e) (omega arith) ∙ c .before .loop .inv .1)

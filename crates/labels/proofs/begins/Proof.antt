@@ -30,7 +30,11 @@ shared-slice-read-if1 : tie.Need-shared-slice-read-if1 Inv-loop μ-loop
 shared-slice-read-if1 c = search needs
 
 returns : tie.Need-returns Inv-loop μ-loop
-returns c = sym (begins-other ((c .before .before .before .before .before .before .before .before .args) .label .now) ((c .before .before .before .before .before .before .before .before .args) .group .now) (c .before .before .before .before .before .loop .i) (omega arith) (omega arith) _ (c .before .before .fold .ensures) (c .if1 .taken)) ∙ c .before .before .before .before .before .loop .inv .2
+returns c =
+    let args = c .before .before .before .before .before .before .before .before .args in
+    let at-loop = c .before .before .before .before .before .loop in
+    let at-fold = c .before .before .fold in
+    sym (begins-other (args .label .now) (args .group .now) (at-loop .i) (omega arith) (omega arith) _ (at-fold .ensures) (c .if1 .taken)) ∙ at-loop .inv .2
 
 add-i : tie.Need-add-i Inv-loop μ-loop
 add-i c = search needs
@@ -39,10 +43,17 @@ loop-less : tie.Need-loop-less Inv-loop μ-loop
 loop-less c = search needs
 
 loop-again : tie.Need-loop-again Inv-loop μ-loop
-loop-again c = (search needs, search needs, sym (begins-same ((c .before .before .before .before .before .before .before .before .args) .label .now) ((c .before .before .before .before .before .before .before .before .args) .group .now) (c .before .before .before .before .before .loop .i) (omega arith) (omega arith) _ (c .before .before .fold .ensures) (c .if1 .left)) ∙ c .before .before .before .before .before .loop .inv .2)
+loop-again c =
+    let args = c .before .before .before .before .before .before .before .before .args in
+    let at-loop = c .before .before .before .before .before .loop in
+    let at-fold = c .before .before .fold in
+    (search needs, search needs, sym (begins-same (args .label .now) (args .group .now) (at-loop .i) (omega arith) (omega arith) _ (at-fold .ensures) (c .if1 .left)) ∙ at-loop .inv .2)
 
 returns-2 : tie.Need-returns-2 Inv-loop μ-loop
-returns-2 c = sym (begins-end ((c .before .before .before .before .args) .label .now) ((c .before .before .before .before .args) .group .now) (c .before .loop .i) (omega arith)) ∙ c .before .loop .inv .2
+returns-2 c =
+    let args = c .before .before .before .before .args in
+    let at-loop = c .before .loop in
+    sym (begins-end (args .label .now) (args .group .now) (at-loop .i) (omega arith)) ∙ at-loop .inv .2
 
 pub begins-spec : {M : Type 1} → statement M
 begins-spec =

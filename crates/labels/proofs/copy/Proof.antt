@@ -34,13 +34,19 @@ loop-less : tie.Need-loop-less Inv-loop μ-loop
 loop-less c = search needs
 
 loop-again : tie.Need-loop-again Inv-loop μ-loop
-loop-again c = (search needs, search needs, search needs, simp length-set (omega arith), ap (λ r. set r (c .before .before .loop .i) (getD ((c .before .before .before .args) .bytes .now) ((c .before .before .before .args) .from + c .before .before .loop .i) 0)) (c .before .before .loop .inv .4) ∙ copied ((c .before .before .before .args) .bytes .now) ((c .before .before .before .args) .room .now) ((c .before .before .before .args) .from) (c .before .before .loop .i) (omega arith) (omega arith))
+loop-again c =
+    let args = c .before .before .before .args in
+    let at-loop = c .before .before .loop in
+    (search needs, search needs, search needs, simp length-set (omega arith), ap (λ r. set r (at-loop .i) (getD (args .bytes .now) (args .from + at-loop .i) 0)) (at-loop .inv .4) ∙ copied (args .bytes .now) (args .room .now) (args .from) (at-loop .i) (omega arith) (omega arith))
 
 same-length : tie.Need-same-length Inv-loop μ-loop
 same-length c = search needs
 
 returns : tie.Need-returns Inv-loop μ-loop
-returns c = copy-end ((c .before .before .args) .bytes .now) ((c .before .before .args) .room .now) _ ((c .before .before .args) .from) (c .before .loop .i) ((c .before .before .args) .count) (omega arith) (omega arith) (c .before .loop .inv .4)
+returns c =
+    let args = c .before .before .args in
+    let at-loop = c .before .loop in
+    copy-end (args .bytes .now) (args .room .now) _ (args .from) (at-loop .i) (args .count) (omega arith) (omega arith) (at-loop .inv .4)
 
 pub copy-spec : {M : Type 1} → statement M
 copy-spec =

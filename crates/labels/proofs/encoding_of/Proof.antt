@@ -25,11 +25,17 @@ group-start-requires-2 : tie.Need-group-start-requires-2
 group-start-requires-2 c κs = search needs
 
 seek-between-requires : tie.Need-seek-between-requires
-seek-between-requires c κs = (omega (arith, group-rule (length ((c .before .before .before .before .before .args) .label .now)) (omega arith) .ordered), omega (arith, group-rule (length ((c .before .before .before .before .before .args) .label .now)) (omega arith) .within))
+seek-between-requires c κs =
+    let args = c .before .before .before .before .before .args in
+    (omega (arith, group-rule (length (args .label .now)) (omega arith) .ordered), omega (arith, group-rule (length (args .label .now)) (omega arith) .within))
 
 returns-2 : tie.Need-returns-2
 unfolding labels groups group rowGroup table bytes
-returns-2 c = near ((c .before .before .before .before .before .before .args) .label .now) _ (c .before .before .group-start .result) (c .before .group-start2 .result) (omega arith) (c .before .before .group-start .ensures) (c .before .group-start2 .ensures) (c .seek-between .ensures)
+returns-2 c =
+    let args = c .before .before .before .before .before .before .args in
+    let at-group-start = c .before .before .group-start in
+    let at-group-start2 = c .before .group-start2 in
+    near (args .label .now) _ (at-group-start .result) (at-group-start2 .result) (omega arith) (at-group-start .ensures) (at-group-start2 .ensures) (c .seek-between .ensures)
 
 pub encoding-of-spec : {M : Type 1} → statement M
 encoding-of-spec =

@@ -14,10 +14,19 @@ encoding-of-requires : tie.Need-encoding-of-requires
 encoding-of-requires c κs = search needs
 
 returns : tie.Need-returns
-returns c = call-unknown ((c .before .before .before .before .before .args) .bytes .now) (c .before .before .trim .result .now) (c .before .encoding-of .result) (c .before .before .trim .ensures) (c .before .encoding-of .ensures) (c .if1 .taken)
+returns c =
+    let args = c .before .before .before .before .before .args in
+    let at-trim = c .before .before .trim in
+    let at-encoding-of = c .before .encoding-of in
+    call-unknown (args .bytes .now) (at-trim .result .now) (at-encoding-of .result) (at-trim .ensures) (at-encoding-of .ensures) (c .if1 .taken)
 
 returns-2 : tie.Need-returns-2
-returns-2 c = call-known ((c .before .before .before .before .before .args) .bytes .now) (c .before .before .trim .result .now) (c .before .encoding-of .result) (c .before .before .trim .ensures) (c .before .encoding-of .ensures) (c .before .before .before .front .result) (c .before .before .before .front .ensures .0) (c .if1 .left)
+returns-2 c =
+    let args = c .before .before .before .before .before .args in
+    let at-trim = c .before .before .trim in
+    let at-encoding-of = c .before .encoding-of in
+    let at-front = c .before .before .before .front in
+    call-known (args .bytes .now) (at-trim .result .now) (at-encoding-of .result) (at-trim .ensures) (at-encoding-of .ensures) (at-front .result) (at-front .ensures .0) (c .if1 .left)
 
 pub find-label-spec : {M : Type 1} → statement M
 find-label-spec =

@@ -27,7 +27,11 @@ white-requires : tie.Need-white-requires Inv-loop μ-loop
 white-requires c κs = search needs
 
 returns : tie.Need-returns Inv-loop μ-loop
-returns c = (sym (start-other ((c .before .before .before .before .before .before .args) .s .now) (c .before .before .before .before .loop .i) (omega arith) (sym (c .before .white .ensures) ∙ not-true _ (c .if1 .taken))) ∙ c .before .before .before .before .loop .inv .1, search needs)
+returns c =
+    let args = c .before .before .before .before .before .before .args in
+    let at-loop = c .before .before .before .before .loop in
+    let at-white = c .before .white in
+    (sym (start-other (args .s .now) (at-loop .i) (omega arith) (sym (at-white .ensures) ∙ not-true _ (c .if1 .taken))) ∙ at-loop .inv .1, search needs)
 
 add-i : tie.Need-add-i Inv-loop μ-loop
 add-i c = search needs
@@ -36,10 +40,17 @@ loop-less : tie.Need-loop-less Inv-loop μ-loop
 loop-less c = search needs
 
 loop-again : tie.Need-loop-again Inv-loop μ-loop
-loop-again c = (search needs, sym (start-white ((c .before .before .before .before .before .before .args) .s .now) (c .before .before .before .before .loop .i) (omega arith) (sym (c .before .white .ensures) ∙ not-false _ (c .if1 .left))) ∙ c .before .before .before .before .loop .inv .1)
+loop-again c =
+    let args = c .before .before .before .before .before .before .args in
+    let at-loop = c .before .before .before .before .loop in
+    let at-white = c .before .white in
+    (search needs, sym (start-white (args .s .now) (at-loop .i) (omega arith) (sym (at-white .ensures) ∙ not-false _ (c .if1 .left))) ∙ at-loop .inv .1)
 
 returns-2 : tie.Need-returns-2 Inv-loop μ-loop
-returns-2 c = (sym (start-end ((c .before .before .before .args) .s .now) (c .before .loop .i) (omega arith) (omega arith)) ∙ c .before .loop .inv .1, search needs)
+returns-2 c =
+    let args = c .before .before .before .args in
+    let at-loop = c .before .loop in
+    (sym (start-end (args .s .now) (at-loop .i) (omega arith) (omega arith)) ∙ at-loop .inv .1, search needs)
 
 pub front-spec : {M : Type 1} → statement M
 front-spec =

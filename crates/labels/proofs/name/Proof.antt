@@ -10,7 +10,9 @@ use Rattle.labels.proofs.name.Statement.{statement}
 use Rattle.labels.proofs.name.Tie as tie
 
 returns : tie.Need-returns
-returns c = (sym (ap (λ (n : Naming). n .answer) (name-above ((c .before .before .args) .encoding) ((c .before .before .args) .room .now) (omega arith))), sym (ap (λ (n : Naming). n .room) (name-above ((c .before .before .args) .encoding) ((c .before .before .args) .room .now) (omega arith))))
+returns c =
+    let args = c .before .before .args in
+    (sym (ap (λ (n : Naming). n .answer) (name-above (args .encoding) (args .room .now) (omega arith))), sym (ap (λ (n : Naming). n .room) (name-above (args .encoding) (args .room .now) (omega arith))))
 
 name-start-requires : tie.Need-name-start-requires
 name-start-requires c κs = search needs
@@ -25,20 +27,32 @@ sub-n : tie.Need-sub-n
 sub-n c = omega (arith, name-rule ((c .before .before .before .before .args) .encoding) (omega arith) .ordered)
 
 returns-2 : tie.Need-returns-2
-returns-2 c = (sym (ap (λ (n : Naming). n .answer) (name-short ((c .before .before .before .before .before .args) .encoding) (c .before .before .name-start .result) (c .before .name-start2 .result) ((c .before .before .before .before .before .args) .room .now) (c .before .before .name-start .ensures) (c .before .name-start2 .ensures) (omega arith) (c .if2 .taken))), sym (ap (λ (n : Naming). n .room) (name-short ((c .before .before .before .before .before .args) .encoding) (c .before .before .name-start .result) (c .before .name-start2 .result) ((c .before .before .before .before .before .args) .room .now) (c .before .before .name-start .ensures) (c .before .name-start2 .ensures) (omega arith) (c .if2 .taken))))
+returns-2 c =
+    let args = c .before .before .before .before .before .args in
+    let at-name-start = c .before .before .name-start in
+    let at-name-start2 = c .before .name-start2 in
+    (sym (ap (λ (n : Naming). n .answer) (name-short (args .encoding) (at-name-start .result) (at-name-start2 .result) (args .room .now) (at-name-start .ensures) (at-name-start2 .ensures) (omega arith) (c .if2 .taken))), sym (ap (λ (n : Naming). n .room) (name-short (args .encoding) (at-name-start .result) (at-name-start2 .result) (args .room .now) (at-name-start .ensures) (at-name-start2 .ensures) (omega arith) (c .if2 .taken))))
 
 slice-aggregate-copy : tie.Need-slice-aggregate-copy
 slice-aggregate-copy c = search needs
 
 copy-requires : tie.Need-copy-requires
-copy-requires c κs = (omega (arith, name-rule ((c .before .before .before .before .before .before .before .args) .encoding) (omega arith) .ordered, name-rule ((c .before .before .before .before .before .before .before .args) .encoding) (omega arith) .within), search needs)
+copy-requires c κs =
+    let args = c .before .before .before .before .before .before .before .args in
+    (omega (arith, name-rule (args .encoding) (omega arith) .ordered, name-rule (args .encoding) (omega arith) .within), search needs)
 
 same-length : tie.Need-same-length
 same-length c = search needs
 
 returns-3 : tie.Need-returns-3
 unfolding names namesOf table bytes
-returns-3 c = (name-answer ((c .before .before .before .before .before .before .before .before .before .before .args) .encoding) (c .before .before .before .before .before .before .before .name-start .result) (c .before .before .before .before .before .before .name-start2 .result) ((c .before .before .before .before .before .before .before .before .before .before .args) .room .now) (c .before .before .before .before .before .before .before .name-start .ensures) (c .before .before .before .before .before .before .name-start2 .ensures) (omega arith) (c .before .before .before .before .before .if2 .left), c .before .before .copy .ensures ∙ name-room ((c .before .before .before .before .before .before .before .before .before .before .args) .encoding) (c .before .before .before .before .before .before .before .name-start .result) (c .before .before .before .before .before .before .name-start2 .result) ((c .before .before .before .before .before .before .before .before .before .before .args) .room .now) (c .before .before .before .before .before .before .before .name-start .ensures) (c .before .before .before .before .before .before .name-start2 .ensures) (omega arith) (c .before .before .before .before .before .if2 .left))
+returns-3 c =
+    let args = c .before .before .before .before .before .before .before .before .before .before .args in
+    let at-name-start = c .before .before .before .before .before .before .before .name-start in
+    let at-name-start2 = c .before .before .before .before .before .before .name-start2 in
+    let at-if2 = c .before .before .before .before .before .if2 in
+    let at-copy = c .before .before .copy in
+    (name-answer (args .encoding) (at-name-start .result) (at-name-start2 .result) (args .room .now) (at-name-start .ensures) (at-name-start2 .ensures) (omega arith) (at-if2 .left), at-copy .ensures ∙ name-room (args .encoding) (at-name-start .result) (at-name-start2 .result) (args .room .now) (at-name-start .ensures) (at-name-start2 .ensures) (omega arith) (at-if2 .left))
 
 pub name-spec : {M : Type 1} → statement M
 name-spec =

@@ -28,7 +28,12 @@ shared-slice-read-result : tie.Need-shared-slice-read-result Inv-loop μ-loop
 shared-slice-read-result c = search needs
 
 returns : tie.Need-returns Inv-loop μ-loop
-returns c = sym (ap number (step-found ((c .before .before .before .before .before .before .before .args) .label .now) (c .before .before .before .before .loop .rest .now) (length ((c .before .before .before .before .before .before .before .args) .label .now)) refl (omega arith) (sym (c .before .before .begins .ensures) ∙ c .before .if1 .taken))) ∙ ap number (c .before .before .before .before .loop .inv .1)
+returns c =
+    let args = c .before .before .before .before .before .before .before .args in
+    let at-loop = c .before .before .before .before .loop in
+    let at-begins = c .before .before .begins in
+    let at-if1 = c .before .if1 in
+    sym (ap number (step-found (args .label .now) (at-loop .rest .now) (length (args .label .now)) refl (omega arith) (sym (at-begins .ensures) ∙ at-if1 .taken))) ∙ ap number (at-loop .inv .1)
 
 add-rest : tie.Need-add-rest Inv-loop μ-loop
 add-rest c = search needs
@@ -46,10 +51,18 @@ loop-less : tie.Need-loop-less Inv-loop μ-loop
 loop-less c = omega (arith, c .rest .given .2)
 
 loop-again : tie.Need-loop-again Inv-loop μ-loop
-loop-again c = (refl, ap (λ g. seek (map fold ((c .before .before .before .before .before .before .before .args) .label .now)) g) (rest (c .before .before .before .before .loop .rest .now) (length ((c .before .before .before .before .before .before .before .args) .label .now) + 1)) ∙ sym (step-next ((c .before .before .before .before .before .before .before .args) .label .now) (c .before .before .before .before .loop .rest .now) (length ((c .before .before .before .before .before .before .before .args) .label .now)) refl (omega arith) (sym (c .before .before .begins .ensures) ∙ c .before .if1 .left)) ∙ c .before .before .before .before .loop .inv .1)
+loop-again c =
+    let args = c .before .before .before .before .before .before .before .args in
+    let at-loop = c .before .before .before .before .loop in
+    let at-begins = c .before .before .begins in
+    let at-if1 = c .before .if1 in
+    (refl, ap (λ g. seek (map fold (args .label .now)) g) (rest (at-loop .rest .now) (length (args .label .now) + 1)) ∙ sym (step-next (args .label .now) (at-loop .rest .now) (length (args .label .now)) refl (omega arith) (sym (at-begins .ensures) ∙ at-if1 .left)) ∙ at-loop .inv .1)
 
 returns-2 : tie.Need-returns-2 Inv-loop μ-loop
-returns-2 c = sym (ap number (step-end ((c .before .before .before .before .args) .label .now) (c .before .loop .rest .now) (length ((c .before .before .before .before .args) .label .now)) refl (omega arith))) ∙ ap number (c .before .loop .inv .1)
+returns-2 c =
+    let args = c .before .before .before .before .args in
+    let at-loop = c .before .loop in
+    sym (ap number (step-end (args .label .now) (at-loop .rest .now) (length (args .label .now)) refl (omega arith))) ∙ ap number (at-loop .inv .1)
 
 pub seek-spec : {M : Type 1} → statement M
 seek-spec =

@@ -29,7 +29,11 @@ part-result-end : tie.Need-part-result-end
 part-result-end c = search needs
 
 returns : tie.Need-returns
-returns c = both-ends ((c .before .before .before .before .before .args) .label .now) (c .before .before .before .front .result) (c .before .back .result) (c .before .before .before .front .ensures .0) (c .before .back .ensures .1)
+returns c =
+    let args = c .before .before .before .before .before .args in
+    let at-front = c .before .before .before .front in
+    let at-back = c .before .back in
+    both-ends (args .label .now) (at-front .result) (at-back .result) (at-front .ensures .0) (at-back .ensures .1)
 
 pub trim-spec : {M : Type 1} → statement M
 trim-spec =
