@@ -183,17 +183,34 @@ agree l none (some e) h g = sym h ∙ find-look l e g
 pub right : (l : List ℕ) → look l ≡ find l 0 table
 right l = agree l (look l) (find l 0 table) refl refl
 
--- The code's answers: for a label of more than 19 bytes, and for another.
+-- Are two lists the same? A constant of the code is compared with its definition by this test.
+unfoldable pub alike : List ℕ → List ℕ → Bool
+alike [] [] = true
+alike [] (y ∷ ys) = false
+alike (x ∷ xs) [] = false
+alike (x ∷ xs) (y ∷ ys) = eqb x y && alike xs ys
+
+pub alike-same : (xs ys : List ℕ) → alike xs ys ≡ true → xs ≡ ys
+unfolding alike
+alike-same [] [] h = refl
+alike-same [] (y ∷ ys) h = absurd (subst T (sym h) tt)
+alike-same (x ∷ xs) [] h = absurd (subst T (sym h) tt)
+alike-same (x ∷ xs) (y ∷ ys) h =
+    let k : (eqb x y ≡ true) × (alike xs ys ≡ true) = and-both (eqb x y) (alike xs ys) h in
+    rw (eqb-true x y (k .0), alike-same xs ys (k .1))
+
+-- The code's answer for a label of more than 19 bytes.
 pub far : (label : List ℕ) → 19 < length label → 40 ≡ number (find (map fold label) 0 table)
 far label h =
     let p : look (map fold label) ≡ none = rw (lt-ltb 19 (length (map fold label)) (omega (arith, length-map label fold))) in
     ap number (sym p ∙ right (map fold label))
 
-pub near : (label : List ℕ) (r from to : ℕ) → length label ≤ 19 → from ≡ getD starts (length label) 0 → to ≡ getD starts (length label + 1) 0 →
-    r ≡ number (seek (map fold label) (take (to - from) (drop from labels))) → r ≡ number (find (map fold label) 0 table)
-near label r from to h p q e =
+-- The code's answer for another.
+pub near : (label constant : List ℕ) (r from to : ℕ) → length label ≤ 19 → from ≡ getD starts (length label) 0 → to ≡ getD starts (length label + 1) 0 →
+    r ≡ number (seek (map fold label) (take (to - from) (drop from constant))) → alike constant labels ≡ true → r ≡ number (find (map fold label) 0 table)
+near label constant r from to h p q e t =
     let n : length (map fold label) ≡ length label = length-map label fold in
-    let g : take (to - from) (drop from labels) ≡ groupAt (length (map fold label)) = rw (p, q, n) in
+    let g : take (to - from) (drop from constant) ≡ groupAt (length (map fold label)) = rw (p, q, n, alike-same constant labels t) in
     let k : look (map fold label) ≡ seek (map fold label) (groupAt (length (map fold label))) = rw (le-ltb 19 (length (map fold label)) (omega arith)) in
     e ∙ ap number (ap (seek (map fold label)) g ∙ sym k ∙ right (map fold label))
 

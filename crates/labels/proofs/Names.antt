@@ -15,7 +15,7 @@ use Rattle.labels.specs.Labels.{table, name, same, Naming, unnamed, nami
 use Rattle.labels.specs.LookUp.{namesOf, nameStartsFrom, names, nameStarts}
 use Rattle.labels.specs.declared.Named.{Named}
 use Rattle.labels.proofs.Known.{same-bytes}
-use Rattle.labels.proofs.LookUp.{below, below-at}
+use Rattle.labels.proofs.LookUp.{below, below-at, alike, alike-same}
 
 -- The test of a name: the code's part of the names is the name.
 goodName : ℕ → Bool
@@ -66,8 +66,10 @@ module _ (e a b : ℕ) (room : List ℕ) (p : a ≡ getD nameStarts e 0) (q : b 
   pub name-answer : b - a ≤ length room → _≡_ {A = Named} (record { length = b - a; refusal = 0 }) (naming e room .answer)
   name-answer f = sym (ap (λ (n : Naming). n .answer) (fits f) ∙ rw (← name-length))
 
-  pub name-room : b - a ≤ length room → take (b - a) (drop a names) ++ drop (b - a) room ≡ naming e room .room
-  name-room f = sym (ap (λ (n : Naming). n .room) (fits f) ∙ rw (← name-length, placed))
+  pub name-room : (constant after : List ℕ) → b - a ≤ length room → after ≡ take (b - a) (drop a constant) ++ drop (b - a) room → alike constant names ≡ true → after ≡ naming e room .room
+  name-room constant after f o t =
+      let c : take (b - a) (drop a constant) ≡ name e = ap (λ l. take (b - a) (drop a l)) (alike-same constant names t) ∙ placed in
+      o ∙ rw c (sym (ap (λ (n : Naming). n .room) (fits f) ∙ rw (← name-length)))
 
 pub name-above : (e : ℕ) (room : List ℕ) → 39 < e → naming e room ≡ unnamed 2 room
 unfolding naming

@@ -1,11 +1,12 @@
 -- The constant is the list of labels, by computation; the rest is the rule of a group, and that the look-ups agree. Assumes nothing.
+use mathlib.Core.Path.{refl}
 use native.Mathlib.Omega.{arith}
 use lib.ListN.{length}
 use borrow.Author.Needs.{needs}
 use Rattle.standard.specs.Text.{bytes}
 use Rattle.labels.specs.LookUp.{labels, groups, group, rowGroup}
 use Rattle.labels.specs.Labels.{table}
-use Rattle.labels.proofs.LookUp.{group-rule, far, near}
+use Rattle.labels.proofs.LookUp.{group-rule, alike, far, near}
 use Rattle.labels.proofs.encoding_of.Statement.{statement}
 use Rattle.labels.proofs.encoding_of.Tie as tie
 
@@ -30,12 +31,12 @@ seek-between-requires c κs =
     (omega (arith, group-rule (length (args .label .now)) (omega arith) .ordered), omega (arith, group-rule (length (args .label .now)) (omega arith) .within))
 
 returns-2 : tie.Need-returns-2
-unfolding labels groups group rowGroup table bytes
+unfolding alike labels groups group rowGroup table bytes
 returns-2 c =
     let args = c .before .before .before .before .before .before .args in
     let at-group-start = c .before .before .group-start in
     let at-group-start2 = c .before .group-start2 in
-    near (args .label .now) _ (at-group-start .result) (at-group-start2 .result) (omega arith) (at-group-start .ensures) (at-group-start2 .ensures) (c .seek-between .ensures)
+    near (args .label .now) _ _ (at-group-start .result) (at-group-start2 .result) (omega arith) (at-group-start .ensures) (at-group-start2 .ensures) (c .seek-between .ensures) refl
 
 pub encoding-of-spec : {M : Type 1} → statement M
 encoding-of-spec =

@@ -1,10 +1,11 @@
 -- The constant is the list of names, by computation; the rest is the rule of a name. Assumes nothing.
-use mathlib.Core.Path.{sym, ap, _∙_}
+use mathlib.Core.Path.{refl, sym, ap}
 use native.Mathlib.Omega.{arith}
 use borrow.Author.Needs.{needs}
 use Rattle.standard.specs.Text.{bytes}
 use Rattle.labels.specs.LookUp.{names, namesOf}
 use Rattle.labels.specs.Labels.{table, Naming}
+use Rattle.labels.proofs.LookUp.{alike}
 use Rattle.labels.proofs.Names.{name-rule, name-above, name-short, name-answer, name-room}
 use Rattle.labels.proofs.name.Statement.{statement}
 use Rattle.labels.proofs.name.Tie as tie
@@ -45,14 +46,14 @@ same-length : tie.Need-same-length
 same-length c = search needs
 
 returns-3 : tie.Need-returns-3
-unfolding names namesOf table bytes
+unfolding alike names namesOf table bytes
 returns-3 c =
     let args = c .before .before .before .before .before .before .before .before .before .before .args in
     let at-name-start = c .before .before .before .before .before .before .before .name-start in
     let at-name-start2 = c .before .before .before .before .before .before .name-start2 in
     let at-if2 = c .before .before .before .before .before .if2 in
     let at-copy = c .before .before .copy in
-    (name-answer (args .encoding) (at-name-start .result) (at-name-start2 .result) (args .room .now) (at-name-start .ensures) (at-name-start2 .ensures) (omega arith) (at-if2 .left), at-copy .ensures ∙ name-room (args .encoding) (at-name-start .result) (at-name-start2 .result) (args .room .now) (at-name-start .ensures) (at-name-start2 .ensures) (omega arith) (at-if2 .left))
+    (name-answer (args .encoding) (at-name-start .result) (at-name-start2 .result) (args .room .now) (at-name-start .ensures) (at-name-start2 .ensures) (omega arith) (at-if2 .left), name-room (args .encoding) (at-name-start .result) (at-name-start2 .result) (args .room .now) (at-name-start .ensures) (at-name-start2 .ensures) (omega arith) _ _ (at-if2 .left) (at-copy .ensures) refl)
 
 pub name-spec : {M : Type 1} → statement M
 name-spec =
