@@ -8,3 +8,7 @@ pub mod Reaching
 pub mod Rooms
 pub mod Samples
 pub mod Theorems
+pub mod Loop
+pub mod Numbers
+pub mod Checks
+pub mod Dispatch

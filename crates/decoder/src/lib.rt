@@ -1,4 +1,35 @@
-// The decoder's record and what its calls answer.
+// The decoder: its record, opening, feed and finish.
+
+use sequences::Sequence;
+use sequences::drop_mark;
+use sequences::big5::big5;
+use sequences::euc_jp::euc_jp;
+use sequences::euc_kr::euc_kr;
+use sequences::gb18030::gb18030;
+use sequences::iso_2022_jp::iso_2022_jp;
+use sequences::replacement::replacement;
+use sequences::shift_jis::shift_jis;
+use sequences::single_byte::single_byte;
+use sequences::user_defined::user_defined;
+use sequences::utf8::utf8;
+use sequences::utf_16::utf_16;
+use sequences::windows_1252::windows_1252;
+
+ghost use mathlib.Core.Path.{_≡_};
+ghost use mathlib.Core.Bool.{true, false, _&&_, _||_, not};
+ghost use mathlib.Core.List.{_∷_, [], _++_};
+ghost use Prim.Native.Nat.{_+_, _-_, _%_, _≤_, _<_};
+ghost use lib.Dec.{ltb, leb, eqb};
+ghost use lib.ListN.{length, getD, drop};
+ghost use Rattle.standard.specs.Base.{_then_else_};
+ghost use Rattle.standard.specs.Encodings.{family, ISO-2022-JP, traits, secondFits, fits, noTables};
+ghost use Rattle.standard.specs.Sequence.{shift};
+ghost use Rattle.standard.specs.Next.{next};
+ghost use Rattle.standard.specs.Decode.{decode, ending, lastOut, given};
+ghost use Rattle.sequences.specs.Code.{nextOf, outOf, front, lent};
+ghost use Rattle.decoder.specs.Valid.{shiftOf, heldOf, possible, isMore, unused, validRest, valid};
+ghost use Rattle.decoder.specs.Calls.{bit, opening, closed, handOut, handOutRead, feedRefusal, feeding, finishRefusal, finishing};
+ghost use Rattle.decoder.specs.Code.{patch, closing, leaving};
 
 // What a decoder keeps from call to call. Every field is a number in use; one that is not in use is 0.
 #[repr(C)]
@@ -26,4 +57,470 @@ pub struct Answer {
     pub written: usize,
     pub refusal: u8,
     pub decoder: Decoder,
+}
+
+// The sequence at the front of up to four bytes.
+fn next(t1: &[u32], t2: &[u32], encoding: u8, state: u8, flag: u8, b0: u8, b1: u8, b2: u8, b3: u8, have: usize) -> Sequence
+    ensures { λ r. ⌜ nextOf r ≡ next (lent (now (t1 .entry)) (now (t2 .entry))) (family encoding) (shift state (eqb flag 1)) (front have b0 b1 b2 b3) ⌝ }
+{
+    if encoding == 0 {
+        let q = utf8(b0, b1, b2, b3, have);
+        return drop_mark(q, flag == 1);
+    }
+    if encoding == 21 {
+        return windows_1252(b0, b1, b2, b3, have);
+    }
+    if encoding <= 28 {
+        return single_byte(t1, b0, b1, b2, b3, have);
+    }
+    if encoding <= 30 {
+        return gb18030(t1, t2, b0, b1, b2, b3, have);
+    }
+    if encoding == 31 {
+        return big5(t1, b0, b1, b2, b3, have);
+    }
+    if encoding == 32 {
+        return euc_jp(t1, t2, b0, b1, b2, b3, have);
+    }
+    if encoding == 33 {
+        return iso_2022_jp(t1, t2, state, flag, b0, b1, b2, b3, have);
+    }
+    if encoding == 34 {
+        return shift_jis(t1, b0, b1, b2, b3, have);
+    }
+    if encoding == 35 {
+        return euc_kr(t1, b0, b1, b2, b3, have);
+    }
+    if encoding == 36 {
+        return replacement(state, flag, b0, b1, b2, b3, have);
+    }
+    if encoding <= 38 {
+        let q = utf_16(encoding == 37, b0, b1, b2, b3, have);
+        return drop_mark(q, flag == 1);
+    }
+    user_defined(b0, b1, b2, b3, have)
+}
+
+// The byte at a place of the bytes held and then the chunk; 0 past their end.
+fn byte_at(d: Decoder, chunk: &[u8], i: usize) -> u8
+    requires { ⌜ (d .held ≤ 3) × (i < 65544) ⌝ }
+    ensures { λ r. ⌜ r ≡ getD (heldOf d ++ now (chunk .entry)) i 0 ⌝ }
+{
+    let held = d.held as usize;
+    if held <= i {
+        let j = i - held;
+        if j < chunk.len() {
+            return chunk[j];
+        }
+        return 0;
+    }
+    if i == 0 {
+        return d.first;
+    }
+    if i == 1 {
+        return d.second;
+    }
+    d.third
+}
+
+// The scalars of a sequence, written from a place on; an error is U+FFFD. The place after them.
+fn put(room: &mut [u32], written: usize, q: Sequence) -> usize
+    requires { ⌜ written + length (given (outOf q)) ≤ length (now room) ⌝ }
+    ensures { λ r. ⌜ (r ≡ written + length (given (outOf q))) × (now (room .exit) ≡ patch written (given (outOf q)) (now (room .entry))) ⌝ }
+{
+    let count = q.count;
+    if count == 3 {
+        room[written] = 0xFFFD;
+        return written + 1;
+    }
+    if count == 0 {
+        return written;
+    }
+    let first = q.first;
+    let second = q.second;
+    room[written] = first;
+    if count == 1 {
+        return written + 1;
+    }
+    room[written + 1] = second;
+    written + 2
+}
+
+// Does an error end the decoder?
+fn stops(mode: u8, count: u8) -> bool
+    ensures { λ r. ⌜ r ≡ (eqb mode 1 && eqb count 3) ⌝ }
+{
+    if mode == 1 {
+        return count == 3;
+    }
+    false
+}
+
+// 1 for 1, and 0 for any other number
+fn bit(flag: u8) -> u8
+    ensures { λ r. ⌜ r ≡ bit (eqb flag 1) ⌝ }
+{
+    if flag == 1 {
+        return 1;
+    }
+    0
+}
+
+// The answer that ends a decoder.
+fn ends(encoding: u8, mode: u8, refusal: u8, written: usize) -> Answer
+    ensures { λ r. ⌜ r ≡ closing encoding mode refusal written ⌝ }
+{
+    Answer { written, refusal, decoder: Decoder { encoding, mode, state: 0, flag: 0, held: 0, first: 0, second: 0, third: 0, ended: 1 } }
+}
+
+// The sequence at a place of the bytes held and then the chunk.
+fn sequence_at(d: Decoder, chunk: &[u8], t1: &[u32], t2: &[u32], at: usize, state: u8, flag: u8) -> Sequence
+    requires { ⌜ (d .held ≤ 3) × (length (now chunk) ≤ 65536) × (at ≤ d .held + length (now chunk)) ⌝ }
+    ensures { λ r. ⌜ nextOf r ≡ next (lent (now (t1 .entry)) (now (t2 .entry))) (family (d .encoding)) (shift state (eqb flag 1)) (drop at (heldOf d ++ now (chunk .entry))) ⌝ }
+{
+    let have = d.held as usize + chunk.len() - at;
+    let b0 = byte_at(d, chunk, at);
+    let b1 = byte_at(d, chunk, at + 1);
+    let b2 = byte_at(d, chunk, at + 2);
+    let b3 = byte_at(d, chunk, at + 3);
+    next(t1, t2, d.encoding, state, flag, b0, b1, b2, b3, have)
+}
+
+// The answer of a feed that has read all sequences: at most three bytes are left, and held.
+fn holds(d: Decoder, chunk: &[u8], at: usize, state: u8, flag: u8, written: usize) -> Answer
+    requires { ⌜ (d .held ≤ 3) × (length (now chunk) ≤ 65536) × (at ≤ d .held + length (now chunk)) × (d .held + length (now chunk) - at ≤ 3) ⌝ }
+    ensures { λ r. ⌜ r ≡ leaving (d .encoding) (d .mode) (shift state (eqb flag 1)) (drop at (heldOf d ++ now (chunk .entry))) written ⌝ }
+{
+    let have = d.held as usize + chunk.len() - at;
+    let first = byte_at(d, chunk, at);
+    let second = byte_at(d, chunk, at + 1);
+    let third = byte_at(d, chunk, at + 2);
+    let kept = bit(flag);
+    Answer { written, refusal: 0, decoder: Decoder { encoding: d.encoding, mode: d.mode, state, flag: kept, held: have as u8, first, second, third, ended: 0 } }
+}
+
+// An accepted feed: sequence after sequence, from the bytes held and then the chunk.
+fn read(d: Decoder, chunk: &[u8], t1: &[u32], t2: &[u32], room: &mut [u32]) -> Answer
+    requires { ⌜ (d .held ≤ 3) × (length (now chunk) ≤ 65536) × (length (now chunk) + d .held ≤ length (now room)) ⌝ }
+    ensures { λ r. ⌜ (r ≡ handOutRead (d .encoding) (d .mode) (decode (next (lent (now (t1 .entry)) (now (t2 .entry))) (family (d .encoding))) (shiftOf d) (heldOf d ++ now (chunk .entry))) (now (room .entry)) .answer)
+        × (now (room .exit) ≡ handOutRead (d .encoding) (d .mode) (decode (next (lent (now (t1 .entry)) (now (t2 .entry))) (family (d .encoding))) (shiftOf d) (heldOf d ++ now (chunk .entry))) (now (room .entry)) .room) ⌝ }
+{
+    let mut at: usize = 0;
+    let mut state = d.state;
+    let mut flag = d.flag;
+    let mut written: usize = 0;
+    loop {
+        let q = sequence_at(d, chunk, t1, t2, at, state, flag);
+        if q.width == 0 {
+            return holds(d, chunk, at, state, flag, written);
+        }
+        if stops(d.mode, q.count) {
+            return ends(d.encoding, d.mode, 11, written);
+        }
+        written = put(room, written, q);
+        at += q.width as usize;
+        state = q.state;
+        flag = q.flag;
+    }
+}
+
+// What the byte after 1B gives at the end of input in ISO-2022-JP: it is read for itself.
+fn last_scalar(state: u8, flag: u8, b: u8) -> u32
+    ensures { λ r. ⌜ (r ∷ []) ≡ given (lastOut (next noTables ISO-2022-JP (shift state (eqb flag 1)) (b ∷ []))) ⌝ }
+{
+    let none = [0u32; 1];
+    let empty = &none[0..0];
+    let q = next(empty, empty, 33, state, flag, b, 0, 0, 0, 1);
+    if q.width == 0 {
+        return 0xFFFD;
+    }
+    if q.count == 3 {
+        return 0xFFFD;
+    }
+    q.first
+}
+
+// The end of input, after an accepted finish.
+fn end(d: Decoder, room: &mut [u32]) -> Answer
+    requires { ⌜ (d .held ≤ 3) × (d .held ≤ length (now room)) ⌝ }
+    ensures { λ r. ⌜ (r ≡ handOut (d .encoding) (d .mode) (ending noTables (family (d .encoding)) (shiftOf d) (heldOf d)) (closed (d .encoding) (d .mode)) (now (room .entry)) .answer)
+        × (now (room .exit) ≡ handOut (d .encoding) (d .mode) (ending noTables (family (d .encoding)) (shiftOf d) (heldOf d)) (closed (d .encoding) (d .mode)) (now (room .entry)) .room) ⌝ }
+{
+    if d.held == 0 {
+        return ends(d.encoding, d.mode, 0, 0);
+    }
+    if d.mode == 1 {
+        return ends(d.encoding, d.mode, 11, 0);
+    }
+    room[0] = 0xFFFD;
+    if d.held == 1 {
+        return ends(d.encoding, d.mode, 0, 1);
+    }
+    if d.encoding != 33 {
+        return ends(d.encoding, d.mode, 0, 1);
+    }
+    room[1] = last_scalar(d.state, d.flag, d.second);
+    ends(d.encoding, d.mode, 0, 2)
+}
+
+// The cells of the first table of an encoding.
+fn first_cells(encoding: u8) -> usize
+    ensures { λ r. ⌜ r ≡ traits (family encoding) .first ⌝ }
+{
+    if encoding == 0 {
+        return 0;
+    }
+    if encoding == 21 {
+        return 0;
+    }
+    if encoding <= 28 {
+        return 128;
+    }
+    if encoding <= 30 {
+        return 23940;
+    }
+    if encoding == 31 {
+        return 19782;
+    }
+    if encoding <= 34 {
+        return 11280;
+    }
+    if encoding == 35 {
+        return 23940;
+    }
+    0
+}
+
+// Does a second table of so many cells fit?
+fn second_fits(encoding: u8, size: usize) -> bool
+    ensures { λ r. ⌜ r ≡ secondFits (traits (family encoding) .second) size ⌝ }
+{
+    if encoding == 29 {
+        return ranges_fit(size);
+    }
+    if encoding == 30 {
+        return ranges_fit(size);
+    }
+    if encoding == 32 {
+        return size == 8836;
+    }
+    size == 0
+}
+
+// The ranges have an even length, at most 414.
+fn ranges_fit(size: usize) -> bool
+    ensures { λ r. ⌜ r ≡ (eqb (size % 2) 0 && leb size 414) ⌝ }
+{
+    if size % 2 == 0 {
+        return size <= 414;
+    }
+    false
+}
+
+// Are the lent tables' lengths as they must be?
+fn tables_fit(encoding: u8, t1: &[u32], t2: &[u32]) -> bool
+    ensures { λ r. ⌜ r ≡ fits (family encoding) (lent (now (t1 .entry)) (now (t2 .entry))) ⌝ }
+{
+    if t1.len() == first_cells(encoding) {
+        return second_fits(encoding, t2.len());
+    }
+    false
+}
+
+// Does rule "drop" apply to an encoding?
+fn marked(encoding: u8) -> bool
+    ensures { λ r. ⌜ r ≡ traits (family encoding) .mark ⌝ }
+{
+    if encoding == 0 {
+        return true;
+    }
+    if encoding == 37 {
+        return true;
+    }
+    encoding == 38
+}
+
+// Can a decoder of this encoding and mode come to this shift?
+fn possible(encoding: u8, mode: u8, state: u8, flag: u8) -> bool
+    ensures { λ r. ⌜ r ≡ possible (family encoding) mode (shift state (eqb flag 1)) ⌝ }
+{
+    if encoding == 33 {
+        return state <= 3;
+    }
+    if state != 0 {
+        return false;
+    }
+    if flag != 1 {
+        return true;
+    }
+    if marked(encoding) {
+        return true;
+    }
+    if encoding == 36 {
+        return mode == 0;
+    }
+    false
+}
+
+// Is byte n, counted from 0, in use, or else 0?
+fn free(n: u8, held: u8, b: u8) -> bool
+    ensures { λ r. ⌜ r ≡ (ltb n held || eqb b 0) ⌝ }
+{
+    if n < held {
+        return true;
+    }
+    b == 0
+}
+
+// Are the bytes that are not in use 0?
+fn unused(d: Decoder) -> bool
+    ensures { λ r. ⌜ r ≡ unused d ⌝ }
+{
+    if free(2, d.held, d.third) {
+        if free(1, d.held, d.second) {
+            return free(0, d.held, d.first);
+        }
+        return false;
+    }
+    false
+}
+
+// Are the bytes held a started sequence? No table is looked into.
+fn started(d: Decoder) -> bool
+    requires { ⌜ d .held ≤ 3 ⌝ }
+    ensures { λ r. ⌜ r ≡ isMore (next noTables (family (d .encoding)) (shiftOf d) (heldOf d)) ⌝ }
+{
+    let none = [0u32; 1];
+    let empty = &none[0..0];
+    let q = next(empty, empty, d.encoding, d.state, d.flag, d.first, d.second, d.third, 0, d.held as usize);
+    q.width == 0
+}
+
+// What the test of a record says of one that has ended, and of one that has not.
+fn valid_rest(d: Decoder) -> bool
+    requires { ⌜ d .held ≤ 3 ⌝ }
+    ensures { λ r. ⌜ r ≡ validRest d ⌝ }
+{
+    if d.ended != 1 {
+        if possible(d.encoding, d.mode, d.state, d.flag) {
+            return started(d);
+        }
+        return false;
+    }
+    if d.held != 0 {
+        return false;
+    }
+    if d.state != 0 {
+        return false;
+    }
+    d.flag == 0
+}
+
+// Do some opening, accepted feeds and finish leave this record?
+fn valid(d: Decoder) -> bool
+    ensures { λ r. ⌜ r ≡ valid d ⌝ }
+{
+    if 39 < d.encoding {
+        return false;
+    }
+    if 1 < d.mode {
+        return false;
+    }
+    if 1 < d.flag {
+        return false;
+    }
+    if 3 < d.held {
+        return false;
+    }
+    if 1 < d.ended {
+        return false;
+    }
+    if unused(d) {
+        return valid_rest(d);
+    }
+    false
+}
+
+// The refusal number of a feed, or 0.
+fn feed_refusal(d: Decoder, chunk: &[u8], t1: &[u32], t2: &[u32], room: &[u32]) -> u8
+    ensures { λ r. ⌜ r ≡ feedRefusal d (lent (now (t1 .entry)) (now (t2 .entry))) (now (chunk .entry)) (now (room .entry)) ⌝ }
+{
+    if valid(d) {
+        if d.ended == 1 {
+            return 6;
+        }
+        if tables_fit(d.encoding, t1, t2) {
+            if 65536 < chunk.len() {
+                return 8;
+            }
+            if room.len() < chunk.len() + d.held as usize {
+                return 7;
+            }
+            return 0;
+        }
+        return 4;
+    }
+    5
+}
+
+// The refusal number of a finish, or 0.
+fn finish_refusal(d: Decoder, room: &[u32]) -> u8
+    ensures { λ r. ⌜ r ≡ finishRefusal d (now (room .entry)) ⌝ }
+{
+    if valid(d) {
+        if d.ended == 1 {
+            return 6;
+        }
+        if room.len() < d.held as usize {
+            return 7;
+        }
+        return 0;
+    }
+    5
+}
+
+impl Decoder {
+    // A new decoder of an encoding number, in a mode (0 replacing, 1 refusing), by a byte order mark rule (0 drop, 1 keep).
+    pub fn open(encoding: u8, mode: u8, rule: u8) -> Answer
+        ensures { λ r. ⌜ r ≡ opening encoding mode rule ⌝ }
+    {
+        if 39 < encoding {
+            return ends(0, 0, 2, 0);
+        }
+        if 1 < mode {
+            return ends(0, 0, 3, 0);
+        }
+        if 1 < rule {
+            return ends(0, 0, 3, 0);
+        }
+        if rule == 0 {
+            if marked(encoding) {
+                return Answer { written: 0, refusal: 0, decoder: Decoder { encoding, mode, state: 0, flag: 1, held: 0, first: 0, second: 0, third: 0, ended: 0 } };
+            }
+        }
+        Answer { written: 0, refusal: 0, decoder: Decoder { encoding, mode, state: 0, flag: 0, held: 0, first: 0, second: 0, third: 0, ended: 0 } }
+    }
+
+    // Decodes a chunk into the room: the bytes held and then the chunk, with the tables that the encoding wants.
+    pub fn feed(self, chunk: &[u8], t1: &[u32], t2: &[u32], room: &mut [u32]) -> Answer
+        ensures { λ r. ⌜ (r ≡ feeding self (lent (now (t1 .entry)) (now (t2 .entry))) (now (chunk .entry)) (now (room .entry)) .answer)
+            × (now (room .exit) ≡ feeding self (lent (now (t1 .entry)) (now (t2 .entry))) (now (chunk .entry)) (now (room .entry)) .room) ⌝ }
+    {
+        let n = feed_refusal(self, chunk, t1, t2, room);
+        if n == 0 {
+            return read(self, chunk, t1, t2, room);
+        }
+        Answer { written: 0, refusal: n, decoder: self }
+    }
+
+    // The end of input: what it gives for the bytes held.
+    pub fn finish(self, room: &mut [u32]) -> Answer
+        ensures { λ r. ⌜ (r ≡ finishing self (now (room .entry)) .answer) × (now (room .exit) ≡ finishing self (now (room .entry)) .room) ⌝ }
+    {
+        let n = finish_refusal(self, room);
+        if n == 0 {
+            return end(self, room);
+        }
+        Answer { written: 0, refusal: n, decoder: self }
+    }
 }

@@ -1,0 +1,18 @@
+use borrow.Author.Tests.{lt-ltb, le-ltb}
+use borrow.Author.Needs.{needs}
+use native.Mathlib.Omega.{arith}
+use Rattle.decoder.proofs.free.Statement.{statement}
+use Rattle.decoder.proofs.free.Tie as tie
+use Rattle.decoder.proofs.free.Reads as reads
+use Rattle.decoder.proofs.free.Lts as lts
+
+-- src/lib.rt:298:9
+returns : tie.Need-returns
+returns c = rw (lt-ltb ((c .before .args) .n) ((c .before .args) .held) (omega arith))
+
+-- src/lib.rt:294:1
+returns-2 : tie.Need-returns-2
+returns-2 c = rw (le-ltb ((c .before .args) .n) ((c .before .args) .held) (omega arith))
+
+pub free-spec : {M : Type 1} → statement M
+free-spec = tie.close (tie.spec returns returns-2)

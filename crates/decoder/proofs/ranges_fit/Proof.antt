@@ -1,0 +1,19 @@
+use Prim.Native.Nat.{_%_}
+use borrow.Author.Tests.{eq-eqb, ne-eqb}
+use borrow.Author.Needs.{needs}
+use native.Mathlib.Omega.{arith}
+use Rattle.decoder.proofs.ranges_fit.Statement.{statement}
+use Rattle.decoder.proofs.ranges_fit.Tie as tie
+use Rattle.decoder.proofs.ranges_fit.Reads as reads
+use Rattle.decoder.proofs.ranges_fit.Lts as lts
+
+-- src/lib.rt:252:9
+returns : tie.Need-returns
+returns c = rw (eq-eqb ((c .before .args) .size % 2) 0 (omega arith))
+
+-- src/lib.rt:248:1
+returns-2 : tie.Need-returns-2
+returns-2 c = rw (ne-eqb ((c .before .args) .size % 2) 0 (omega arith))
+
+pub ranges-fit-spec : {M : Type 1} → statement M
+ranges-fit-spec = tie.close (tie.spec returns returns-2)

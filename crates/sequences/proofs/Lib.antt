@@ -1,0 +1,14 @@
+pub mod Big5Leaves
+pub mod EucJpLeaves
+pub mod EucKrLeaves
+pub mod Gb18030Leaves
+pub mod Iso2022JpLeaves
+pub mod Leaves
+pub mod Marks
+pub mod OneTable
+pub mod ReplacementLeaves
+pub mod ShiftJisLeaves
+pub mod SingleByteLeaves
+pub mod Utf16Leaves
+pub mod Utf8Leaves
+pub mod Windows1252Leaves

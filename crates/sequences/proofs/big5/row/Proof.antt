@@ -1,0 +1,47 @@
+use Rattle.sequences.proofs.Big5Leaves.{row-0, row-1, row-2, row-3, row-4}
+use mathlib.Core.Path.{sym, _∙_}
+use native.Mathlib.Omega.{arith}
+use borrow.Author.Needs.{needs}
+use Rattle.sequences.proofs.big5.row.Statement.{statement}
+use Rattle.sequences.proofs.big5.row.Tie as tie
+
+entry-requires : tie.Need-entry-requires
+entry-requires c κs = search needs
+
+returns : tie.Need-returns
+returns c = sym (row-0 ((c .before .before .args) .p) (c .if1 .taken ∙ c .before .entry .ensures))
+
+entry-requires-2 : tie.Need-entry-requires-2
+entry-requires-2 c κs = search needs
+
+returns-2 : tie.Need-returns-2
+returns-2 c = sym (row-1 ((c .before .before .before .before .args) .p) (c .if2 .taken ∙ c .before .entry2 .ensures))
+
+entry-requires-3 : tie.Need-entry-requires-3
+entry-requires-3 c κs = search needs
+
+returns-3 : tie.Need-returns-3
+returns-3 c = sym (row-2 ((c .before .before .before .before .before .before .args) .p) (c .if3 .taken ∙ c .before .entry3 .ensures))
+
+entry-requires-4 : tie.Need-entry-requires-4
+entry-requires-4 c κs = search needs
+
+returns-4 : tie.Need-returns-4
+returns-4 c = sym (row-3 ((c .before .before .before .before .before .before .before .before .args) .p) (c .if4 .taken ∙ c .before .entry4 .ensures))
+
+returns-5 : tie.Need-returns-5
+returns-5 c = sym (row-4 ((c .before .before .before .before .before .before .before .before .args) .p) (omega arith) (omega arith) (omega arith) (omega arith))
+
+pub row-spec : {M : Type 1} → statement M
+row-spec =
+    tie.close
+    (tie.spec
+    entry-requires
+    returns
+    entry-requires-2
+    returns-2
+    entry-requires-3
+    returns-3
+    entry-requires-4
+    returns-4
+    returns-5)

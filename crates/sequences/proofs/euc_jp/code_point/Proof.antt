@@ -1,0 +1,48 @@
+use mathlib.Core.Path.{sym, _∙_}
+use Rattle.standard.proofs.Tests.{under, above}
+use Rattle.sequences.proofs.EucJpLeaves.{code-out, code-in}
+use native.Mathlib.Omega.{arith}
+use borrow.Author.Needs.{needs}
+use Rattle.sequences.proofs.euc_jp.code_point.Statement.{statement}
+use Rattle.sequences.proofs.euc_jp.code_point.Tie as tie
+
+returns : tie.Need-returns
+returns c = let a = c .before .before .args in sym (code-out (a .table .now) (a .lead) (a .trail) (under 0xA1 (a .trail) 0xFE (omega arith)))
+
+returns-2 : tie.Need-returns-2
+returns-2 c = let a = c .before .before .before .args in sym (code-out (a .table .now) (a .lead) (a .trail) (above 0xA1 (a .trail) 0xFE (omega arith)))
+
+sub-row : tie.Need-sub-row
+sub-row c = search needs
+
+cast-row : tie.Need-cast-row
+cast-row c = search needs
+
+mul-cell : tie.Need-mul-cell
+mul-cell c = search needs
+
+cast-cell : tie.Need-cast-cell
+cast-cell c = search needs
+
+add-cell : tie.Need-add-cell
+add-cell c = search needs
+
+cell-requires : tie.Need-cell-requires
+cell-requires c κs = search needs
+
+returns-3 : tie.Need-returns-3
+returns-3 c = let a = c .before .before .before .before .args in c .cell .ensures ∙ sym (code-in (a .table .now) (a .lead) (a .trail) (omega arith) (omega arith))
+
+pub code-point-spec : {M : Type 1} → statement M
+code-point-spec =
+    tie.close
+    (tie.spec
+    returns
+    returns-2
+    sub-row
+    cast-row
+    mul-cell
+    cast-cell
+    add-cell
+    cell-requires
+    returns-3)

@@ -1,0 +1,41 @@
+use mathlib.Core.Path.{sym, _∙_}
+use Rattle.sequences.proofs.Leaves.{fails, holds}
+use Rattle.standard.proofs.Tests.{within-low}
+use Rattle.sequences.proofs.Gb18030Leaves.{third-other, third-wait, third-four}
+use native.Mathlib.Omega.{arith}
+use borrow.Author.Needs.{needs}
+use Rattle.sequences.proofs.gb18030.third.Statement.{statement}
+use Rattle.sequences.proofs.gb18030.third.Tie as tie
+
+within-requires : tie.Need-within-requires
+within-requires c κs = search needs
+
+wrong-requires : tie.Need-wrong-requires
+wrong-requires c κs = search needs
+
+returns : tie.Need-returns
+returns c = let a = c .before .before .before .before .args in c .wrong .ensures ∙ sym (third-other (a .ranges .now) (a .have) (a .b) (a .c) (a .d) (a .e) (fails (c .before .before .within .ensures) (c .before .if1 .taken)))
+
+waits-requires : tie.Need-waits-requires
+waits-requires c κs = search needs
+
+returns-2 : tie.Need-returns-2
+returns-2 c = let a = c .before .before .before .before .before .args in c .waits .ensures ∙ sym (third-wait (a .ranges .now) (a .have) (a .b) (a .c) (a .d) (a .e) (holds (c .before .before .before .within .ensures) (c .before .before .if1 .left)) (omega arith))
+
+fourth-requires : tie.Need-fourth-requires
+fourth-requires c κs = (omega arith, omega arith, within-low 0x81 ((c .before .before .before .before .args) .d) 0xFE (holds (c .before .before .within .ensures) (c .before .if1 .left)))
+
+returns-3 : tie.Need-returns-3
+returns-3 c = let a = c .before .before .before .before .before .args in c .fourth .ensures ∙ sym (third-four (a .ranges .now) (a .have) (a .b) (a .c) (a .d) (a .e) (holds (c .before .before .before .within .ensures) (c .before .before .if1 .left)) (omega arith))
+
+pub third-spec : {M : Type 1} → statement M
+third-spec =
+    tie.close
+    (tie.spec
+    within-requires
+    wrong-requires
+    returns
+    waits-requires
+    returns-2
+    fourth-requires
+    returns-3)

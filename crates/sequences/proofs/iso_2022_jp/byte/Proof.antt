@@ -1,0 +1,51 @@
+use mathlib.Core.Path.{sym, _∙_}
+use Rattle.sequences.proofs.Iso2022JpLeaves.{byte-kana, byte-none, byte-roman, byte-self}
+use native.Mathlib.Omega.{arith}
+use borrow.Author.Needs.{needs}
+use Rattle.sequences.proofs.iso_2022_jp.byte.Statement.{statement}
+use Rattle.sequences.proofs.iso_2022_jp.byte.Tie as tie
+
+katakana-requires : tie.Need-katakana-requires
+katakana-requires c κs = search needs
+
+returns : tie.Need-returns
+returns c = let a = c .before .before .args in c .katakana .ensures ∙ sym (byte-kana (a .state) (a .b) (omega arith))
+
+no-character-requires : tie.Need-no-character-requires
+no-character-requires c κs = search needs
+
+fails-requires : tie.Need-fails-requires
+fails-requires c κs = search needs
+
+returns-2 : tie.Need-returns-2
+returns-2 c = let a = c .before .before .before .before .args in c .fails .ensures ∙ sym (byte-none (a .state) (a .b) (omega arith) (sym (c .before .before .no-character .ensures) ∙ c .before .if2 .taken))
+
+roman-requires : tie.Need-roman-requires
+roman-requires c κs = search needs
+
+says-requires : tie.Need-says-requires
+says-requires c κs = search needs
+
+returns-3 : tie.Need-returns-3
+returns-3 c = let a = c .before .before .before .before .before .before .args in c .says .ensures ∙ sym (byte-roman (a .state) (a .b) (sym (c .before .before .before .before .no-character .ensures) ∙ c .before .before .before .if2 .left) (c .before .roman .result) (c .before .roman .ensures) (omega arith))
+
+says-requires-2 : tie.Need-says-requires-2
+says-requires-2 c κs = search needs
+
+returns-4 : tie.Need-returns-4
+returns-4 c = let a = c .before .before .before .before .before .args in c .says2 .ensures ∙ sym (byte-self (a .state) (a .b) (sym (c .before .before .before .no-character .ensures) ∙ c .before .before .if2 .left) (omega arith) (omega arith))
+
+pub byte-spec : {M : Type 1} → statement M
+byte-spec =
+    tie.close
+    (tie.spec
+    katakana-requires
+    returns
+    no-character-requires
+    fails-requires
+    returns-2
+    roman-requires
+    says-requires
+    returns-3
+    says-requires-2
+    returns-4)

@@ -1,0 +1,42 @@
+use mathlib.Core.Path.{sym, _∙_}
+use borrow.Author.Tests.{eq-eqb, ne-eqb}
+use lib.Dec.{eqb}
+use Rattle.standard.specs.Sequence.{shift}
+use Rattle.sequences.proofs.Iso2022JpLeaves.{end-none, end-again, end-first}
+use native.Mathlib.Omega.{arith}
+use borrow.Author.Needs.{needs}
+use Rattle.sequences.proofs.iso_2022_jp.escape_end.Statement.{statement}
+use Rattle.sequences.proofs.iso_2022_jp.escape_end.Tie as tie
+
+escaped-requires : tie.Need-escaped-requires
+escaped-requires c κs = search needs
+
+fails-requires : tie.Need-fails-requires
+fails-requires c κs = search needs
+
+returns : tie.Need-returns
+returns c = let a = c .before .before .before .args in c .fails .ensures ∙ sym (end-none (shift (a .state) (eqb (a .flag) 1)) (a .c) (a .d) (c .before .before .escaped .result) (c .before .before .escaped .ensures) (omega arith))
+
+fails-requires-2 : tie.Need-fails-requires-2
+fails-requires-2 c κs = search needs
+
+returns-2 : tie.Need-returns-2
+returns-2 c = let a = c .before .before .before .before .args in c .fails2 .ensures ∙ sym (end-again (shift (a .state) (eqb (a .flag) 1)) (a .c) (a .d) (c .before .before .before .escaped .result) (c .before .before .before .escaped .ensures) (omega arith) (eq-eqb (a .flag) 1 (omega arith)))
+
+says-nothing-requires : tie.Need-says-nothing-requires
+says-nothing-requires c κs = search needs
+
+returns-3 : tie.Need-returns-3
+returns-3 c = let a = c .before .before .before .before .args in c .says-nothing .ensures ∙ sym (end-first (shift (a .state) (eqb (a .flag) 1)) (a .c) (a .d) (c .before .before .before .escaped .result) (c .before .before .before .escaped .ensures) (omega arith) (ne-eqb (a .flag) 1 (omega arith)))
+
+pub escape-end-spec : {M : Type 1} → statement M
+escape-end-spec =
+    tie.close
+    (tie.spec
+    escaped-requires
+    fails-requires
+    returns
+    fails-requires-2
+    returns-2
+    says-nothing-requires
+    returns-3)

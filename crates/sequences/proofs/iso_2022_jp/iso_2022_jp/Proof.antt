@@ -1,0 +1,75 @@
+use mathlib.Core.Path.{sym, _∙_}
+use lib.Dec.{eqb}
+use Rattle.standard.proofs.Tests.{within-low}
+use Rattle.standard.specs.Sequence.{shift}
+use Rattle.sequences.specs.Code.{lent}
+use Rattle.sequences.proofs.Iso2022JpLeaves.{iso-nothing, iso-1B-wait, iso-1B, iso-byte, iso-no-lead, iso-lead-wait, iso-lead}
+use native.Mathlib.Omega.{arith}
+use borrow.Author.Needs.{needs}
+use Rattle.sequences.proofs.iso_2022_jp.iso_2022_jp.Statement.{statement}
+use Rattle.sequences.proofs.iso_2022_jp.iso_2022_jp.Tie as tie
+
+waits-requires : tie.Need-waits-requires
+waits-requires c κs = search needs
+
+returns : tie.Need-returns
+returns c = let a = c .before .before .before .before .args in c .waits .ensures ∙ sym (iso-nothing (lent (a .t1 .now) (a .t2 .now)) (shift (a .state) (eqb (a .flag) 1)) (a .have) (a .b0) (a .b1) (a .b2) (a .b3) (omega arith))
+
+waits-requires-2 : tie.Need-waits-requires-2
+waits-requires-2 c κs = search needs
+
+returns-2 : tie.Need-returns-2
+returns-2 c = let a = c .before .before .before .before .before .before .args in c .waits2 .ensures ∙ sym (iso-1B-wait (lent (a .t1 .now) (a .t2 .now)) (shift (a .state) (eqb (a .flag) 1)) (a .have) (a .b0) (a .b1) (a .b2) (a .b3) (omega arith) (omega arith) (omega arith))
+
+escape-requires : tie.Need-escape-requires
+escape-requires c κs = search needs
+
+returns-3 : tie.Need-returns-3
+returns-3 c = let a = c .before .before .before .before .before .before .args in c .escape .ensures ∙ sym (iso-1B (lent (a .t1 .now) (a .t2 .now)) (shift (a .state) (eqb (a .flag) 1)) (a .have) (a .b0) (a .b1) (a .b2) (a .b3) (omega arith) (omega arith) (omega arith))
+
+byte-requires : tie.Need-byte-requires
+byte-requires c κs = search needs
+
+returns-4 : tie.Need-returns-4
+returns-4 c = let a = c .before .before .before .before .before .before .args in c .byte .ensures ∙ sym (iso-byte (lent (a .t1 .now) (a .t2 .now)) (shift (a .state) (eqb (a .flag) 1)) (a .have) (a .b0) (a .b1) (a .b2) (a .b3) (omega arith) (omega arith) (omega arith))
+
+within-requires : tie.Need-within-requires
+within-requires c κs = search needs
+
+waits-requires-3 : tie.Need-waits-requires-3
+waits-requires-3 c κs = search needs
+
+returns-5 : tie.Need-returns-5
+returns-5 c = let a = c .before .before .before .before .before .before .before .before .before .args in c .waits3 .ensures ∙ sym (iso-lead-wait (lent (a .t1 .now) (a .t2 .now)) (shift (a .state) (eqb (a .flag) 1)) (a .have) (a .b0) (a .b1) (a .b2) (a .b3) (omega arith) (omega arith) (omega arith) (sym (c .before .before .before .within .ensures) ∙ c .before .before .if5 .taken) (omega arith))
+
+trail-requires : tie.Need-trail-requires
+trail-requires c κs = within-low 0x21 ((c .before .before .before .before .before .before .before .before .args) .b0) 0x7E (sym (c .before .before .within .ensures) ∙ c .before .if5 .taken)
+
+returns-6 : tie.Need-returns-6
+returns-6 c = let a = c .before .before .before .before .before .before .before .before .before .args in c .trail .ensures ∙ sym (iso-lead (lent (a .t1 .now) (a .t2 .now)) (shift (a .state) (eqb (a .flag) 1)) (a .have) (a .b0) (a .b1) (a .b2) (a .b3) (omega arith) (omega arith) (omega arith) (sym (c .before .before .before .within .ensures) ∙ c .before .before .if5 .taken) (omega arith))
+
+fails-requires : tie.Need-fails-requires
+fails-requires c κs = search needs
+
+returns-7 : tie.Need-returns-7
+returns-7 c = let a = c .before .before .before .before .before .before .before .before .args in c .fails .ensures ∙ sym (iso-no-lead (lent (a .t1 .now) (a .t2 .now)) (shift (a .state) (eqb (a .flag) 1)) (a .have) (a .b0) (a .b1) (a .b2) (a .b3) (omega arith) (omega arith) (omega arith) (sym (c .before .before .within .ensures) ∙ c .before .if5 .left))
+
+pub iso-2022-jp-spec : {M : Type 1} → statement M
+iso-2022-jp-spec =
+    tie.close
+    (tie.spec
+    waits-requires
+    returns
+    waits-requires-2
+    returns-2
+    escape-requires
+    returns-3
+    byte-requires
+    returns-4
+    within-requires
+    waits-requires-3
+    returns-5
+    trail-requires
+    returns-6
+    fails-requires
+    returns-7)

@@ -1,0 +1,68 @@
+use mathlib.Core.Path.{sym, ap, _∙_}
+use Rattle.standard.specs.Sequences.Utf16.{utf16Pair}
+use Rattle.sequences.proofs.Utf16Leaves.{utf-short, utf-low, utf-high, utf-trail, utf-lead-wait, utf-lead}
+use native.Mathlib.Omega.{arith}
+use borrow.Author.Needs.{needs}
+use Rattle.sequences.proofs.utf_16.utf_16.Statement.{statement}
+use Rattle.sequences.proofs.utf_16.utf_16.Tie as tie
+
+waits-requires : tie.Need-waits-requires
+waits-requires c κs = search needs
+
+returns : tie.Need-returns
+returns c = let a = c .before .before .args in c .waits .ensures ∙ sym (utf-short (a .be) (a .have) (a .b0) (a .b1) (a .b2) (a .b3) (omega arith))
+
+unit-requires : tie.Need-unit-requires
+unit-requires c κs = search needs
+
+gives-requires : tie.Need-gives-requires
+gives-requires c κs = search needs
+
+returns-2 : tie.Need-returns-2
+returns-2 c = let a = c .before .before .before .before .args in c .gives .ensures ∙ sym (utf-low (a .be) (a .have) (a .b0) (a .b1) (a .b2) (a .b3) (c .before .before .unit .result) (c .before .before .unit .ensures) (omega arith) (omega arith))
+
+gives-requires-2 : tie.Need-gives-requires-2
+gives-requires-2 c κs = search needs
+
+returns-3 : tie.Need-returns-3
+returns-3 c = let a = c .before .before .before .before .before .args in c .gives2 .ensures ∙ sym (utf-high (a .be) (a .have) (a .b0) (a .b1) (a .b2) (a .b3) (c .before .before .before .unit .result) (c .before .before .before .unit .ensures) (omega arith) (omega arith))
+
+wrong-requires : tie.Need-wrong-requires
+wrong-requires c κs = search needs
+
+returns-4 : tie.Need-returns-4
+returns-4 c = let a = c .before .before .before .before .before .before .args in c .wrong .ensures ∙ sym (utf-trail (a .be) (a .have) (a .b0) (a .b1) (a .b2) (a .b3) (c .before .before .before .before .unit .result) (c .before .before .before .before .unit .ensures) (omega arith) (omega arith) (omega arith))
+
+waits-requires-2 : tie.Need-waits-requires-2
+waits-requires-2 c κs = search needs
+
+returns-5 : tie.Need-returns-5
+returns-5 c = let a = c .before .before .before .before .before .before .before .args in c .waits2 .ensures ∙ sym (utf-lead-wait (a .be) (a .have) (a .b0) (a .b1) (a .b2) (a .b3) (c .before .before .before .before .before .unit .result) (c .before .before .before .before .before .unit .ensures) (omega arith) (omega arith) (omega arith) (omega arith))
+
+unit-requires-2 : tie.Need-unit-requires-2
+unit-requires-2 c κs = search needs
+
+pair-requires : tie.Need-pair-requires
+pair-requires c κs = search needs
+
+returns-6 : tie.Need-returns-6
+returns-6 c = let a = c .before .before .before .before .before .before .before .before .args in c .pair .ensures ∙ ap (utf16Pair (c .before .before .before .before .before .before .unit .result)) (c .before .unit2 .ensures) ∙ sym (utf-lead (a .be) (a .have) (a .b0) (a .b1) (a .b2) (a .b3) (c .before .before .before .before .before .before .unit .result) (c .before .before .before .before .before .before .unit .ensures) (omega arith) (omega arith) (omega arith) (omega arith))
+
+pub utf-16-spec : {M : Type 1} → statement M
+utf-16-spec =
+    tie.close
+    (tie.spec
+    waits-requires
+    returns
+    unit-requires
+    gives-requires
+    returns-2
+    gives-requires-2
+    returns-3
+    wrong-requires
+    returns-4
+    waits-requires-2
+    returns-5
+    unit-requires-2
+    pair-requires
+    returns-6)

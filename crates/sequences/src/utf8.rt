@@ -1,0 +1,132 @@
+// UTF-8.
+
+use crate::Sequence;
+use crate::gives;
+use crate::waits;
+use crate::within;
+use crate::wrong;
+ghost use mathlib.Core.Path.{_≡_};
+ghost use mathlib.Core.List.{[], _∷_};
+ghost use Prim.Native.Nat.{_-_, _≤_};
+ghost use lib.ListN.{take};
+ghost use Rattle.standard.specs.Sequence.{await};
+ghost use Rattle.standard.specs.Sequences.Utf8.{utf8, utf8Low, utf8High, utf8Two, utf8Three, utf8Four};
+ghost use Rattle.sequences.specs.Code.{nextOf, front};
+
+pub fn utf8(b0: u8, b1: u8, b2: u8, b3: u8, have: usize) -> Sequence
+    ensures { λ r. ⌜ nextOf r ≡ utf8 (front have b0 b1 b2 b3) ⌝ }
+{
+    if have == 0 {
+        return waits();
+    }
+    if b0 < 0x80 {
+        return gives(1, b0 as u32);
+    }
+    if b0 < 0xC2 {
+        return wrong(1);
+    }
+    if b0 < 0xE0 {
+        return two(b0, b1, have);
+    }
+    if b0 < 0xF0 {
+        return three(b0, b1, b2, have);
+    }
+    if b0 < 0xF5 {
+        return four(b0, b1, b2, b3, have);
+    }
+    wrong(1)
+}
+
+// A lead of two.
+fn two(b0: u8, b1: u8, have: usize) -> Sequence
+    requires { ⌜ 0xC0 ≤ b0 ⌝ }
+    ensures { λ r. ⌜ nextOf r ≡ await (take (have - 1) (b1 ∷ [])) (λ c xs. utf8Two b0 c) ⌝ }
+{
+    if have < 2 {
+        return waits();
+    }
+    if !within(0x80, b1, 0xBF) {
+        return wrong(1);
+    }
+    gives(2, ((b0 - 0xC0) as u32) * 64 + ((b1 - 0x80) as u32))
+}
+
+// A lead of three.
+fn three(b0: u8, b1: u8, b2: u8, have: usize) -> Sequence
+    requires { ⌜ 0xE0 ≤ b0 ⌝ }
+    ensures { λ r. ⌜ nextOf r ≡ await (take (have - 1) (b1 ∷ b2 ∷ [])) (λ c xs. utf8Three b0 c xs) ⌝ }
+{
+    if have < 2 {
+        return waits();
+    }
+    if !within(low(b0), b1, high(b0)) {
+        return wrong(1);
+    }
+    if have < 3 {
+        return waits();
+    }
+    if !within(0x80, b2, 0xBF) {
+        return wrong(2);
+    }
+    gives(
+        3,
+        ((b0 - 0xE0) as u32) * 4096 + ((b1 - 0x80) as u32) * 64 + ((b2 - 0x80) as u32),
+    )
+}
+
+// A lead of four.
+fn four(b0: u8, b1: u8, b2: u8, b3: u8, have: usize) -> Sequence
+    requires { ⌜ 0xF0 ≤ b0 ⌝ }
+    ensures { λ r. ⌜ nextOf r ≡ await (take (have - 1) (b1 ∷ b2 ∷ b3 ∷ [])) (λ c xs. utf8Four b0 c xs) ⌝ }
+{
+    if have < 2 {
+        return waits();
+    }
+    if !within(low(b0), b1, high(b0)) {
+        return wrong(1);
+    }
+    if have < 3 {
+        return waits();
+    }
+    if !within(0x80, b2, 0xBF) {
+        return wrong(2);
+    }
+    if have < 4 {
+        return waits();
+    }
+    if !within(0x80, b3, 0xBF) {
+        return wrong(3);
+    }
+    gives(
+        4,
+        ((b0 - 0xF0) as u32) * 262144
+            + ((b1 - 0x80) as u32) * 4096
+            + ((b2 - 0x80) as u32) * 64
+            + ((b3 - 0x80) as u32),
+    )
+}
+
+// The range of the second byte, after a lead of three or four.
+fn low(b0: u8) -> u8
+    ensures { λ r. ⌜ r ≡ utf8Low b0 ⌝ }
+{
+    if b0 == 0xE0 {
+        return 0xA0;
+    }
+    if b0 == 0xF0 {
+        return 0x90;
+    }
+    0x80
+}
+
+fn high(b0: u8) -> u8
+    ensures { λ r. ⌜ r ≡ utf8High b0 ⌝ }
+{
+    if b0 == 0xED {
+        return 0x9F;
+    }
+    if b0 == 0xF4 {
+        return 0x8F;
+    }
+    0xBF
+}
