@@ -7,7 +7,7 @@ use native.Mathlib.Omega.{arith}
 use lib.Dec.{eqb}
 use borrow.Author.Tests.{eqb-true, eqb-false, le-leb, lt-leb, ne-eqb}
 use Rattle.standard.specs.Base.{_then_else_}
-use Rattle.standard.specs.Encodings.{family}
+use Rattle.standard.specs.Encodings.{family, lent}
 use Rattle.standard.specs.Indexes.{windows1252}
 use Rattle.standard.specs.Sequence.{Shift}
 use Rattle.standard.specs.Next.{next, unmarked}
@@ -22,7 +22,6 @@ use Rattle.standard.specs.Sequences.EucKr.{eucKr}
 use Rattle.standard.specs.Sequences.Replacement.{replacement}
 use Rattle.standard.specs.Sequences.Utf16.{utf16}
 use Rattle.standard.specs.Sequences.UserDefined.{userDefined}
-use Rattle.sequences.specs.Code.{lent}
 use Rattle.decoder.proofs.Numbers.{beyond}
 
 -- past the numbers 31 to 36

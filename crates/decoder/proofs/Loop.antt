@@ -10,7 +10,7 @@ use lib.ListN.{length, take, drop, getD, List·getD-append, length-append, lengt
 use lib.Seq.{sets, sets-eq, length-take-le, getD-take, getD-drop, getD-append-add, take-all, drop-drop, take-nil, length-sets, take-at, drop-at}
 use borrow.Author.Tests.{leb-true, leb-false, eqb-true, ne-eqb, eq-eqb}
 use Rattle.standard.specs.Base.{_then_else_}
-use Rattle.standard.specs.Encodings.{Family, family, Tables}
+use Rattle.standard.specs.Encodings.{Family, family, Tables, lent}
 use Rattle.standard.specs.Sequence.{Shift, Out, text, error, Next, more, item, shift}
 use Rattle.standard.specs.Next.{next}
 use Rattle.standard.specs.Decode.{Read, put, decode, given, shown, broken, before}
@@ -18,7 +18,7 @@ use Rattle.standard.proofs.Tests.{and-left, and-right}
 use Rattle.standard.proofs.Laws.{Law}
 use Rattle.standard.proofs.FamilyLaws.{keeps, next-laws}
 use Rattle.standard.proofs.Walk.{stop, at-item, at-more, decode-more, decode-item}
-use Rattle.sequences.specs.Code.{nextOf, outOf, front, lent}
+use Rattle.sequences.specs.Code.{nextOf, outOf, front}
 use Rattle.sequences.specs.declared.Sequence.{Sequence}
 use Rattle.decoder.specs.Valid.{shiftOf, heldOf}
 use Rattle.decoder.specs.Calls.{bit, holding, closed, Outcome, write, handOutRead}

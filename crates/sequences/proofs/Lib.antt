@@ -5,7 +5,6 @@ pub mod Gb18030Leaves
 pub mod Iso2022JpLeaves
 pub mod Leaves
 pub mod Marks
-pub mod OneTable
 pub mod ReplacementLeaves
 pub mod ShiftJisLeaves
 pub mod SingleByteLeaves

@@ -4,7 +4,6 @@ use Prim.Native.Nat.{ℕ}
 use lib.Dec.{eqb}
 use lib.ListN.{take, getD}
 use Rattle.standard.specs.Base.{_then_else_}
-use Rattle.standard.specs.Encodings.{Tables}
 use Rattle.standard.specs.Sequence.{Out, text, error, Next, more, item, shift}
 use Rattle.sequences.specs.declared.Sequence.{Sequence}
 
@@ -19,10 +18,6 @@ nextOf q = eqb (q .width) 0 then more else item (q .width) (shift (q .state) (eq
 -- the first `have` of four bytes
 abbrev pub front : ℕ → ℕ → ℕ → ℕ → ℕ → List ℕ
 front have b0 b1 b2 b3 = take have (b0 ∷ b1 ∷ b2 ∷ b3 ∷ [])
-
--- the two lent tables
-abbrev pub lent : List ℕ → List ℕ → Tables
-lent first second = record { first = first; second = second }
 
 -- four pointers of Big5 that give two scalars: pointer, first scalar, second scalar
 abbrev pub pairs : List (List ℕ)

@@ -10,9 +10,10 @@ use index::cell;
 ghost use mathlib.Core.Path.{_≡_};
 ghost use mathlib.Core.List.{[], _∷_};
 ghost use Prim.Native.Nat.{_≤_, _<_};
+ghost use Rattle.standard.specs.Encodings.{lent};
 ghost use Rattle.standard.specs.Sequence.{item, plain, text, pair, cell};
 ghost use Rattle.standard.specs.Sequences.Big5.{big5, big5Pointer, big5Pair, big5Trail};
-ghost use Rattle.sequences.specs.Code.{nextOf, front, lent, pairCell, pairRow};
+ghost use Rattle.sequences.specs.Code.{nextOf, front, pairCell, pairRow};
 
 // Four pointers that give two scalars: pointer, first scalar, second scalar.
 const PAIRS: [[u32; 3]; 4] = [

@@ -12,8 +12,9 @@ ghost use mathlib.Core.Path.{_≡_};
 ghost use mathlib.Core.List.{_∷_, []};
 ghost use Prim.Native.Nat.{_-_, _≤_};
 ghost use lib.ListN.{take};
+ghost use Rattle.standard.specs.Encodings.{lent};
 ghost use Rattle.standard.specs.Sequences.EucJp.{eucJp, eucJpCode, eucJpKana, eucJpThree};
-ghost use Rattle.sequences.specs.Code.{nextOf, front, lent};
+ghost use Rattle.sequences.specs.Code.{nextOf, front};
 
 pub fn euc_jp(t1: &[u32], t2: &[u32], b0: u8, b1: u8, b2: u8, b3: u8, have: usize) -> Sequence
     ensures { λ r. ⌜ nextOf r ≡ eucJp (lent (now (t1 .entry)) (now (t2 .entry))) (front have b0 b1 b2 b3) ⌝ }

@@ -10,8 +10,9 @@ use index::cell;
 ghost use mathlib.Core.Path.{_≡_};
 ghost use mathlib.Core.List.{[]};
 ghost use Prim.Native.Nat.{_≤_};
+ghost use Rattle.standard.specs.Encodings.{lent};
 ghost use Rattle.standard.specs.Sequences.EucKr.{eucKr, eucKrCode};
-ghost use Rattle.sequences.specs.Code.{nextOf, front, lent};
+ghost use Rattle.sequences.specs.Code.{nextOf, front};
 
 pub fn euc_kr(table: &[u32], b0: u8, b1: u8, b2: u8, b3: u8, have: usize) -> Sequence
     ensures { λ r. ⌜ nextOf r ≡ eucKr (lent (now (table .entry)) []) (front have b0 b1 b2 b3) ⌝ }

@@ -16,8 +16,9 @@ ghost use Prim.Native.Nat.{_+_, _-_, _≤_};
 ghost use lib.Dec.{ltb, leb};
 ghost use lib.ListN.{take};
 ghost use Rattle.standard.specs.Base.{_then_else_, within};
+ghost use Rattle.standard.specs.Encodings.{lent};
 ghost use Rattle.standard.specs.Sequences.Gb18030.{gb18030, gbCode, gbRange, gbFourCode, gbFourPointer, gbFourth, gbThird};
-ghost use Rattle.sequences.specs.Code.{nextOf, front, lent};
+ghost use Rattle.sequences.specs.Code.{nextOf, front};
 
 pub fn gb18030(t1: &[u32], t2: &[u32], b0: u8, b1: u8, b2: u8, b3: u8, have: usize) -> Sequence
     ensures { λ r. ⌜ nextOf r ≡ gb18030 (lent (now (t1 .entry)) (now (t2 .entry))) (front have b0 b1 b2 b3) ⌝ }

@@ -14,9 +14,10 @@ ghost use Prim.Native.Nat.{_-_, _≤_};
 ghost use lib.Dec.{leb, eqb};
 ghost use lib.ListN.{take};
 ghost use Rattle.standard.specs.Base.{_then_else_};
+ghost use Rattle.standard.specs.Encodings.{lent};
 ghost use Rattle.standard.specs.Sequence.{item, shift, cell};
 ghost use Rattle.standard.specs.Sequences.Iso2022Jp.{iso2022Jp, escaped, escapeEnd, escapeNext, byteOut, katakanaOut, codeOut, isoPointer, trailNext};
-ghost use Rattle.sequences.specs.Code.{nextOf, front, lent};
+ghost use Rattle.sequences.specs.Code.{nextOf, front};
 
 pub fn iso_2022_jp(
     t1: &[u32],

@@ -12,8 +12,9 @@ ghost use mathlib.Core.List.{[]};
 ghost use Prim.Native.Nat.{_-_, _≤_};
 ghost use lib.Dec.{ltb};
 ghost use Rattle.standard.specs.Base.{_then_else_};
+ghost use Rattle.standard.specs.Encodings.{lent};
 ghost use Rattle.standard.specs.Sequences.ShiftJis.{shiftJis, shiftJisCode};
-ghost use Rattle.sequences.specs.Code.{nextOf, front, lent};
+ghost use Rattle.sequences.specs.Code.{nextOf, front};
 
 pub fn shift_jis(table: &[u32], b0: u8, b1: u8, b2: u8, b3: u8, have: usize) -> Sequence
     ensures { λ r. ⌜ nextOf r ≡ shiftJis (lent (now (table .entry)) []) (front have b0 b1 b2 b3) ⌝ }

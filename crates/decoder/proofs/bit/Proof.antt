@@ -6,11 +6,9 @@ use Rattle.decoder.proofs.bit.Tie as tie
 use Rattle.decoder.proofs.bit.Reads as reads
 use Rattle.decoder.proofs.bit.Lts as lts
 
--- src/lib.rt:116:9
 returns : tie.Need-returns
 returns c = rw (eq-eqb ((c .before .args) .flag) 1 (omega arith))
 
--- src/lib.rt:112:1
 returns-2 : tie.Need-returns-2
 returns-2 c = rw (ne-eqb ((c .before .args) .flag) 1 (omega arith))
 

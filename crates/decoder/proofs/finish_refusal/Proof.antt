@@ -8,29 +8,38 @@ use Rattle.decoder.proofs.finish_refusal.Reads as reads
 use Rattle.decoder.proofs.finish_refusal.Lts as lts
 use Rattle.decoder.proofs.valid.Reads as valid-reads
 
--- src/lib.rt:398:8
 valid-requires : tie.Need-valid-requires
 valid-requires c κs = search needs
 
--- src/lib.rt:400:13
 returns : tie.Need-returns
-returns c = sym (finish-6 ((c .before .before .before .before .before .args) .d) ((c .before .before .before .before .before .args) .room .now) (sym (c .before .before .before .valid .ensures) ∙ c .before .before .if1 .taken) (omega arith))
+returns c =
+    let args = c .before .before .before .before .before .args in
+    let at-valid = c .before .before .before .valid in
+    let at-if1 = c .before .before .if1 in
+    sym (finish-6 (args .d) (args .room .now) (sym (at-valid .ensures) ∙ at-if1 .taken) (omega arith))
 
--- src/lib.rt:402:25
 cast-if3 : tie.Need-cast-if3
 cast-if3 c = search needs
 
--- src/lib.rt:403:13
 returns-2 : tie.Need-returns-2
-returns-2 c = sym (finish-7 ((c .before .before .before .before .before .before .before .args) .d) ((c .before .before .before .before .before .before .before .args) .room .now) (sym (c .before .before .before .before .before .valid .ensures) ∙ c .before .before .before .before .if1 .taken) (omega arith) (omega arith))
+returns-2 c =
+    let args = c .before .before .before .before .before .before .before .args in
+    let at-valid = c .before .before .before .before .before .valid in
+    let at-if1 = c .before .before .before .before .if1 in
+    sym (finish-7 (args .d) (args .room .now) (sym (at-valid .ensures) ∙ at-if1 .taken) (omega arith) (omega arith))
 
--- src/lib.rt:405:9
 returns-3 : tie.Need-returns-3
-returns-3 c = sym (finish-0 ((c .before .before .before .before .before .before .before .args) .d) ((c .before .before .before .before .before .before .before .args) .room .now) (sym (c .before .before .before .before .before .valid .ensures) ∙ c .before .before .before .before .if1 .taken) (omega arith) (omega arith))
+returns-3 c =
+    let args = c .before .before .before .before .before .before .before .args in
+    let at-valid = c .before .before .before .before .before .valid in
+    let at-if1 = c .before .before .before .before .if1 in
+    sym (finish-0 (args .d) (args .room .now) (sym (at-valid .ensures) ∙ at-if1 .taken) (omega arith) (omega arith))
 
--- src/lib.rt:395:1
 returns-4 : tie.Need-returns-4
-returns-4 c = sym (finish-5 ((c .before .before .before .args) .d) ((c .before .before .before .args) .room .now) (sym (c .before .valid .ensures) ∙ c .if1 .left))
+returns-4 c =
+    let args = c .before .before .before .args in
+    let at-valid = c .before .valid in
+    sym (finish-5 (args .d) (args .room .now) (sym (at-valid .ensures) ∙ c .if1 .left))
 
 pub finish-refusal-spec : {M : Type 1} → statement M
 finish-refusal-spec =

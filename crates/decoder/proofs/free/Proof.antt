@@ -6,11 +6,9 @@ use Rattle.decoder.proofs.free.Tie as tie
 use Rattle.decoder.proofs.free.Reads as reads
 use Rattle.decoder.proofs.free.Lts as lts
 
--- src/lib.rt:298:9
 returns : tie.Need-returns
 returns c = rw (lt-ltb ((c .before .args) .n) ((c .before .args) .held) (omega arith))
 
--- src/lib.rt:294:1
 returns-2 : tie.Need-returns-2
 returns-2 c = rw (le-ltb ((c .before .args) .n) ((c .before .args) .held) (omega arith))
 

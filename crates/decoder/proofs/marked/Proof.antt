@@ -8,17 +8,18 @@ use Rattle.decoder.proofs.marked.Tie as tie
 use Rattle.decoder.proofs.marked.Reads as reads
 use Rattle.decoder.proofs.marked.Lts as lts
 
--- src/lib.rt:263:9
 returns : tie.Need-returns
 returns c = sym (marked-is ((c .before .args) .encoding) ∙ rw (eq-eqb ((c .before .args) .encoding) 0 (omega arith)))
 
--- src/lib.rt:266:9
 returns-2 : tie.Need-returns-2
-returns-2 c = sym (marked-is ((c .before .before .args) .encoding) ∙ rw (ne-eqb ((c .before .before .args) .encoding) 0 (omega arith), eq-eqb ((c .before .before .args) .encoding) 37 (omega arith)))
+returns-2 c =
+    let args = c .before .before .args in
+    sym (marked-is (args .encoding) ∙ rw (ne-eqb (args .encoding) 0 (omega arith), eq-eqb (args .encoding) 37 (omega arith)))
 
--- src/lib.rt:259:1
 returns-3 : tie.Need-returns-3
-returns-3 c = sym (marked-is ((c .before .before .args) .encoding) ∙ rw (ne-eqb ((c .before .before .args) .encoding) 0 (omega arith), ne-eqb ((c .before .before .args) .encoding) 37 (omega arith)))
+returns-3 c =
+    let args = c .before .before .args in
+    sym (marked-is (args .encoding) ∙ rw (ne-eqb (args .encoding) 0 (omega arith), ne-eqb (args .encoding) 37 (omega arith)))
 
 pub marked-spec : {M : Type 1} → statement M
 marked-spec = tie.close (tie.spec returns returns-2 returns-3)

@@ -18,61 +18,84 @@ drop-mark-requires : tie.Need-drop-mark-requires
 drop-mark-requires c κs = search needs
 
 returns : tie.Need-returns
-returns c = c .drop-mark .ensures ∙ ap (unmarked (eqb ((c .before .before .before .before .before .args) .flag) 1)) (c .before .utf8 .ensures) ∙ sym (is-utf8 ((c .before .before .before .before .before .args) .t1 .now) ((c .before .before .before .before .before .args) .t2 .now) ((c .before .before .before .before .before .args) .encoding) (shift ((c .before .before .before .before .before .args) .state) (eqb ((c .before .before .before .before .before .args) .flag) 1)) (front ((c .before .before .before .before .before .args) .have) ((c .before .before .before .before .before .args) .b0) ((c .before .before .before .before .before .args) .b1) ((c .before .before .before .before .before .args) .b2) ((c .before .before .before .before .before .args) .b3)) (omega arith))
+returns c =
+    let args = c .before .before .before .before .before .args in
+    let at-utf8 = c .before .utf8 in
+    c .drop-mark .ensures ∙ ap (unmarked (eqb (args .flag) 1)) (at-utf8 .ensures) ∙ sym (is-utf8 (args .t1 .now) (args .t2 .now) (args .encoding) (shift (args .state) (eqb (args .flag) 1)) (front (args .have) (args .b0) (args .b1) (args .b2) (args .b3)) (omega arith))
 
 windows-1252-requires : tie.Need-windows-1252-requires
 windows-1252-requires c κs = search needs
 
 returns-2 : tie.Need-returns-2
-returns-2 c = c .windows-1252 .ensures ∙ sym (is-1252 ((c .before .before .before .before .before .args) .t1 .now) ((c .before .before .before .before .before .args) .t2 .now) ((c .before .before .before .before .before .args) .encoding) (shift ((c .before .before .before .before .before .args) .state) (eqb ((c .before .before .before .before .before .args) .flag) 1)) (front ((c .before .before .before .before .before .args) .have) ((c .before .before .before .before .before .args) .b0) ((c .before .before .before .before .before .args) .b1) ((c .before .before .before .before .before .args) .b2) ((c .before .before .before .before .before .args) .b3)) (omega arith))
+returns-2 c =
+    let args = c .before .before .before .before .before .args in
+    c .windows-1252 .ensures ∙ sym (is-1252 (args .t1 .now) (args .t2 .now) (args .encoding) (shift (args .state) (eqb (args .flag) 1)) (front (args .have) (args .b0) (args .b1) (args .b2) (args .b3)) (omega arith))
 
 single-byte-requires : tie.Need-single-byte-requires
 single-byte-requires c κs = search needs
 
 returns-3 : tie.Need-returns-3
-returns-3 c = c .single-byte .ensures ∙ sym (is-single ((c .before .before .before .before .before .before .args) .t1 .now) ((c .before .before .before .before .before .before .args) .t2 .now) ((c .before .before .before .before .before .before .args) .encoding) (shift ((c .before .before .before .before .before .before .args) .state) (eqb ((c .before .before .before .before .before .before .args) .flag) 1)) (front ((c .before .before .before .before .before .before .args) .have) ((c .before .before .before .before .before .before .args) .b0) ((c .before .before .before .before .before .before .args) .b1) ((c .before .before .before .before .before .before .args) .b2) ((c .before .before .before .before .before .before .args) .b3)) (c .before .before .before .if1 .left) (c .before .before .if2 .left) (omega arith))
+returns-3 c =
+    let args = c .before .before .before .before .before .before .args in
+    let at-if1 = c .before .before .before .if1 in
+    let at-if2 = c .before .before .if2 in
+    c .single-byte .ensures ∙ sym (is-single (args .t1 .now) (args .t2 .now) (args .encoding) (shift (args .state) (eqb (args .flag) 1)) (front (args .have) (args .b0) (args .b1) (args .b2) (args .b3)) (at-if1 .left) (at-if2 .left) (omega arith))
 
 gb18030-requires : tie.Need-gb18030-requires
 gb18030-requires c κs = search needs
 
 returns-4 : tie.Need-returns-4
-returns-4 c = c .gb18030 .ensures ∙ sym (is-gb ((c .before .before .before .before .before .before .before .args) .t1 .now) ((c .before .before .before .before .before .before .before .args) .t2 .now) ((c .before .before .before .before .before .before .before .args) .encoding) (shift ((c .before .before .before .before .before .before .before .args) .state) (eqb ((c .before .before .before .before .before .before .before .args) .flag) 1)) (front ((c .before .before .before .before .before .before .before .args) .have) ((c .before .before .before .before .before .before .before .args) .b0) ((c .before .before .before .before .before .before .before .args) .b1) ((c .before .before .before .before .before .before .before .args) .b2) ((c .before .before .before .before .before .before .before .args) .b3)) (omega arith) (omega arith))
+returns-4 c =
+    let args = c .before .before .before .before .before .before .before .args in
+    c .gb18030 .ensures ∙ sym (is-gb (args .t1 .now) (args .t2 .now) (args .encoding) (shift (args .state) (eqb (args .flag) 1)) (front (args .have) (args .b0) (args .b1) (args .b2) (args .b3)) (omega arith) (omega arith))
 
 big5-requires : tie.Need-big5-requires
 big5-requires c κs = search needs
 
 returns-5 : tie.Need-returns-5
-returns-5 c = c .big5 .ensures ∙ sym (is-big5 ((c .before .before .before .before .before .before .before .before .args) .t1 .now) ((c .before .before .before .before .before .before .before .before .args) .t2 .now) ((c .before .before .before .before .before .before .before .before .args) .encoding) (shift ((c .before .before .before .before .before .before .before .before .args) .state) (eqb ((c .before .before .before .before .before .before .before .before .args) .flag) 1)) (front ((c .before .before .before .before .before .before .before .before .args) .have) ((c .before .before .before .before .before .before .before .before .args) .b0) ((c .before .before .before .before .before .before .before .before .args) .b1) ((c .before .before .before .before .before .before .before .before .args) .b2) ((c .before .before .before .before .before .before .before .before .args) .b3)) (omega arith))
+returns-5 c =
+    let args = c .before .before .before .before .before .before .before .before .args in
+    c .big5 .ensures ∙ sym (is-big5 (args .t1 .now) (args .t2 .now) (args .encoding) (shift (args .state) (eqb (args .flag) 1)) (front (args .have) (args .b0) (args .b1) (args .b2) (args .b3)) (omega arith))
 
 euc-jp-requires : tie.Need-euc-jp-requires
 euc-jp-requires c κs = search needs
 
 returns-6 : tie.Need-returns-6
-returns-6 c = c .euc-jp .ensures ∙ sym (is-euc-jp ((c .before .before .before .before .before .before .before .before .before .args) .t1 .now) ((c .before .before .before .before .before .before .before .before .before .args) .t2 .now) ((c .before .before .before .before .before .before .before .before .before .args) .encoding) (shift ((c .before .before .before .before .before .before .before .before .before .args) .state) (eqb ((c .before .before .before .before .before .before .before .before .before .args) .flag) 1)) (front ((c .before .before .before .before .before .before .before .before .before .args) .have) ((c .before .before .before .before .before .before .before .before .before .args) .b0) ((c .before .before .before .before .before .before .before .before .before .args) .b1) ((c .before .before .before .before .before .before .before .before .before .args) .b2) ((c .before .before .before .before .before .before .before .before .before .args) .b3)) (omega arith))
+returns-6 c =
+    let args = c .before .before .before .before .before .before .before .before .before .args in
+    c .euc-jp .ensures ∙ sym (is-euc-jp (args .t1 .now) (args .t2 .now) (args .encoding) (shift (args .state) (eqb (args .flag) 1)) (front (args .have) (args .b0) (args .b1) (args .b2) (args .b3)) (omega arith))
 
 iso-2022-jp-requires : tie.Need-iso-2022-jp-requires
 iso-2022-jp-requires c κs = search needs
 
 returns-7 : tie.Need-returns-7
-returns-7 c = c .iso-2022-jp .ensures ∙ sym (is-iso ((c .before .before .before .before .before .before .before .before .before .before .args) .t1 .now) ((c .before .before .before .before .before .before .before .before .before .before .args) .t2 .now) ((c .before .before .before .before .before .before .before .before .before .before .args) .encoding) (shift ((c .before .before .before .before .before .before .before .before .before .before .args) .state) (eqb ((c .before .before .before .before .before .before .before .before .before .before .args) .flag) 1)) (front ((c .before .before .before .before .before .before .before .before .before .before .args) .have) ((c .before .before .before .before .before .before .before .before .before .before .args) .b0) ((c .before .before .before .before .before .before .before .before .before .before .args) .b1) ((c .before .before .before .before .before .before .before .before .before .before .args) .b2) ((c .before .before .before .before .before .before .before .before .before .before .args) .b3)) (omega arith))
+returns-7 c =
+    let args = c .before .before .before .before .before .before .before .before .before .before .args in
+    c .iso-2022-jp .ensures ∙ sym (is-iso (args .t1 .now) (args .t2 .now) (args .encoding) (shift (args .state) (eqb (args .flag) 1)) (front (args .have) (args .b0) (args .b1) (args .b2) (args .b3)) (omega arith))
 
 shift-jis-requires : tie.Need-shift-jis-requires
 shift-jis-requires c κs = search needs
 
 returns-8 : tie.Need-returns-8
-returns-8 c = c .shift-jis .ensures ∙ sym (is-shift-jis ((c .before .before .before .before .before .before .before .before .before .before .before .args) .t1 .now) ((c .before .before .before .before .before .before .before .before .before .before .before .args) .t2 .now) ((c .before .before .before .before .before .before .before .before .before .before .before .args) .encoding) (shift ((c .before .before .before .before .before .before .before .before .before .before .before .args) .state) (eqb ((c .before .before .before .before .before .before .before .before .before .before .before .args) .flag) 1)) (front ((c .before .before .before .before .before .before .before .before .before .before .before .args) .have) ((c .before .before .before .before .before .before .before .before .before .before .before .args) .b0) ((c .before .before .before .before .before .before .before .before .before .before .before .args) .b1) ((c .before .before .before .before .before .before .before .before .before .before .before .args) .b2) ((c .before .before .before .before .before .before .before .before .before .before .before .args) .b3)) (omega arith))
+returns-8 c =
+    let args = c .before .before .before .before .before .before .before .before .before .before .before .args in
+    c .shift-jis .ensures ∙ sym (is-shift-jis (args .t1 .now) (args .t2 .now) (args .encoding) (shift (args .state) (eqb (args .flag) 1)) (front (args .have) (args .b0) (args .b1) (args .b2) (args .b3)) (omega arith))
 
 euc-kr-requires : tie.Need-euc-kr-requires
 euc-kr-requires c κs = search needs
 
 returns-9 : tie.Need-returns-9
-returns-9 c = c .euc-kr .ensures ∙ sym (is-euc-kr ((c .before .before .before .before .before .before .before .before .before .before .before .before .args) .t1 .now) ((c .before .before .before .before .before .before .before .before .before .before .before .before .args) .t2 .now) ((c .before .before .before .before .before .before .before .before .before .before .before .before .args) .encoding) (shift ((c .before .before .before .before .before .before .before .before .before .before .before .before .args) .state) (eqb ((c .before .before .before .before .before .before .before .before .before .before .before .before .args) .flag) 1)) (front ((c .before .before .before .before .before .before .before .before .before .before .before .before .args) .have) ((c .before .before .before .before .before .before .before .before .before .before .before .before .args) .b0) ((c .before .before .before .before .before .before .before .before .before .before .before .before .args) .b1) ((c .before .before .before .before .before .before .before .before .before .before .before .before .args) .b2) ((c .before .before .before .before .before .before .before .before .before .before .before .before .args) .b3)) (omega arith))
+returns-9 c =
+    let args = c .before .before .before .before .before .before .before .before .before .before .before .before .args in
+    c .euc-kr .ensures ∙ sym (is-euc-kr (args .t1 .now) (args .t2 .now) (args .encoding) (shift (args .state) (eqb (args .flag) 1)) (front (args .have) (args .b0) (args .b1) (args .b2) (args .b3)) (omega arith))
 
 replacement-requires : tie.Need-replacement-requires
 replacement-requires c κs = search needs
 
 returns-10 : tie.Need-returns-10
-returns-10 c = c .replacement .ensures ∙ sym (is-replacement ((c .before .before .before .before .before .before .before .before .before .before .before .before .before .args) .t1 .now) ((c .before .before .before .before .before .before .before .before .before .before .before .before .before .args) .t2 .now) ((c .before .before .before .before .before .before .before .before .before .before .before .before .before .args) .encoding) (shift ((c .before .before .before .before .before .before .before .before .before .before .before .before .before .args) .state) (eqb ((c .before .before .before .before .before .before .before .before .before .before .before .before .before .args) .flag) 1)) (front ((c .before .before .before .before .before .before .before .before .before .before .before .before .before .args) .have) ((c .before .before .before .before .before .before .before .before .before .before .before .before .before .args) .b0) ((c .before .before .before .before .before .before .before .before .before .before .before .before .before .args) .b1) ((c .before .before .before .before .before .before .before .before .before .before .before .before .before .args) .b2) ((c .before .before .before .before .before .before .before .before .before .before .before .before .before .args) .b3)) (omega arith))
+returns-10 c =
+    let args = c .before .before .before .before .before .before .before .before .before .before .before .before .before .args in
+    c .replacement .ensures ∙ sym (is-replacement (args .t1 .now) (args .t2 .now) (args .encoding) (shift (args .state) (eqb (args .flag) 1)) (front (args .have) (args .b0) (args .b1) (args .b2) (args .b3)) (omega arith))
 
 utf-16-requires : tie.Need-utf-16-requires
 utf-16-requires c κs = search needs
@@ -81,13 +104,25 @@ drop-mark-requires-2 : tie.Need-drop-mark-requires-2
 drop-mark-requires-2 c κs = search needs
 
 returns-11 : tie.Need-returns-11
-returns-11 c = c .drop-mark2 .ensures ∙ ap (unmarked (eqb ((c .before .before .before .before .before .before .before .before .before .before .before .before .before .before .before .args) .flag) 1)) (c .before .utf-16 .ensures) ∙ sym (is-utf16 ((c .before .before .before .before .before .before .before .before .before .before .before .before .before .before .before .args) .t1 .now) ((c .before .before .before .before .before .before .before .before .before .before .before .before .before .before .before .args) .t2 .now) ((c .before .before .before .before .before .before .before .before .before .before .before .before .before .before .before .args) .encoding) (shift ((c .before .before .before .before .before .before .before .before .before .before .before .before .before .before .before .args) .state) (eqb ((c .before .before .before .before .before .before .before .before .before .before .before .before .before .before .before .args) .flag) 1)) (front ((c .before .before .before .before .before .before .before .before .before .before .before .before .before .before .before .args) .have) ((c .before .before .before .before .before .before .before .before .before .before .before .before .before .before .before .args) .b0) ((c .before .before .before .before .before .before .before .before .before .before .before .before .before .before .before .args) .b1) ((c .before .before .before .before .before .before .before .before .before .before .before .before .before .before .before .args) .b2) ((c .before .before .before .before .before .before .before .before .before .before .before .before .before .before .before .args) .b3)) (past-36 ((c .before .before .before .before .before .before .before .before .before .before .before .before .before .before .before .args) .encoding) (c .before .before .before .before .before .before .before .before .before .if4 .left) (c .before .before .before .before .before .before .before .before .if5 .left) (c .before .before .before .before .before .before .before .if6 .left) (c .before .before .before .before .before .before .if7 .left) (c .before .before .before .before .before .if8 .left) (c .before .before .before .before .if9 .left) (c .before .before .before .if10 .left)) (omega arith))
+returns-11 c =
+    let args = c .before .before .before .before .before .before .before .before .before .before .before .before .before .before .before .args in
+    let at-utf-16 = c .before .utf-16 in
+    let at-if4 = c .before .before .before .before .before .before .before .before .before .if4 in
+    let at-if5 = c .before .before .before .before .before .before .before .before .if5 in
+    let at-if6 = c .before .before .before .before .before .before .before .if6 in
+    let at-if7 = c .before .before .before .before .before .before .if7 in
+    let at-if8 = c .before .before .before .before .before .if8 in
+    let at-if9 = c .before .before .before .before .if9 in
+    let at-if10 = c .before .before .before .if10 in
+    c .drop-mark2 .ensures ∙ ap (unmarked (eqb (args .flag) 1)) (at-utf-16 .ensures) ∙ sym (is-utf16 (args .t1 .now) (args .t2 .now) (args .encoding) (shift (args .state) (eqb (args .flag) 1)) (front (args .have) (args .b0) (args .b1) (args .b2) (args .b3)) (past-36 (args .encoding) (at-if4 .left) (at-if5 .left) (at-if6 .left) (at-if7 .left) (at-if8 .left) (at-if9 .left) (at-if10 .left)) (omega arith))
 
 user-defined-requires : tie.Need-user-defined-requires
 user-defined-requires c κs = search needs
 
 returns-12 : tie.Need-returns-12
-returns-12 c = c .user-defined .ensures ∙ sym (is-user ((c .before .before .before .before .before .before .before .before .before .before .before .before .before .before .args) .t1 .now) ((c .before .before .before .before .before .before .before .before .before .before .before .before .before .before .args) .t2 .now) ((c .before .before .before .before .before .before .before .before .before .before .before .before .before .before .args) .encoding) (shift ((c .before .before .before .before .before .before .before .before .before .before .before .before .before .before .args) .state) (eqb ((c .before .before .before .before .before .before .before .before .before .before .before .before .before .before .args) .flag) 1)) (front ((c .before .before .before .before .before .before .before .before .before .before .before .before .before .before .args) .have) ((c .before .before .before .before .before .before .before .before .before .before .before .before .before .before .args) .b0) ((c .before .before .before .before .before .before .before .before .before .before .before .before .before .before .args) .b1) ((c .before .before .before .before .before .before .before .before .before .before .before .before .before .before .args) .b2) ((c .before .before .before .before .before .before .before .before .before .before .before .before .before .before .args) .b3)) (omega arith))
+returns-12 c =
+    let args = c .before .before .before .before .before .before .before .before .before .before .before .before .before .before .args in
+    c .user-defined .ensures ∙ sym (is-user (args .t1 .now) (args .t2 .now) (args .encoding) (shift (args .state) (eqb (args .flag) 1)) (front (args .have) (args .b0) (args .b1) (args .b2) (args .b3)) (omega arith))
 
 pub next-spec : {M : Type 1} → statement M
 next-spec =

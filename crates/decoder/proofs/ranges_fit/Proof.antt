@@ -7,11 +7,9 @@ use Rattle.decoder.proofs.ranges_fit.Tie as tie
 use Rattle.decoder.proofs.ranges_fit.Reads as reads
 use Rattle.decoder.proofs.ranges_fit.Lts as lts
 
--- src/lib.rt:252:9
 returns : tie.Need-returns
 returns c = rw (eq-eqb ((c .before .args) .size % 2) 0 (omega arith))
 
--- src/lib.rt:248:1
 returns-2 : tie.Need-returns-2
 returns-2 c = rw (ne-eqb ((c .before .args) .size % 2) 0 (omega arith))
 

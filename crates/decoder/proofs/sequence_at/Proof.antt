@@ -3,9 +3,8 @@ use mathlib.Core.List.{_++_}
 use mathlib.Core.Path.{_≡_, refl, sym, ap, _∙_}
 use Prim.Native.Nat.{ℕ, _-_}
 use Rattle.decoder.specs.Valid.{heldOf}
-use Rattle.sequences.specs.Code.{lent}
 use Rattle.standard.specs.Sequence.{shift}
-use Rattle.standard.specs.Encodings.{family}
+use Rattle.standard.specs.Encodings.{family, lent}
 use Rattle.decoder.proofs.Loop.{front-is, all-length}
 use native.Mathlib.Omega.{arith}
 use borrow.Author.Needs.{needs}
@@ -16,53 +15,43 @@ use Rattle.decoder.proofs.sequence_at.Lts as lts
 use Rattle.decoder.proofs.byte_at.Reads as byte-at-reads
 use Rattle.decoder.proofs.next.Reads as next-reads
 
--- src/lib.rt:133:16
 cast-have : tie.Need-cast-have
 cast-have c = search needs
 
--- src/lib.rt:133:16
 add-have : tie.Need-add-have
 add-have c = search needs
 
--- src/lib.rt:133:16
 sub-have : tie.Need-sub-have
 sub-have c = search needs
 
--- src/lib.rt:134:9
 byte-at-requires : tie.Need-byte-at-requires
 byte-at-requires c κs = search needs
 
--- src/lib.rt:135:32
 add-byte-at : tie.Need-add-byte-at
 add-byte-at c = search needs
 
--- src/lib.rt:135:9
 byte-at-requires-2 : tie.Need-byte-at-requires-2
 byte-at-requires-2 c κs = search needs
 
--- src/lib.rt:136:32
 add-byte-at-2 : tie.Need-add-byte-at-2
 add-byte-at-2 c = search needs
 
--- src/lib.rt:136:9
 byte-at-requires-3 : tie.Need-byte-at-requires-3
 byte-at-requires-3 c κs = search needs
 
--- src/lib.rt:137:32
 add-byte-at-3 : tie.Need-add-byte-at-3
 add-byte-at-3 c = search needs
 
--- src/lib.rt:137:9
 byte-at-requires-4 : tie.Need-byte-at-requires-4
 byte-at-requires-4 c κs = search needs
 
--- src/lib.rt:138:5
 next-requires : tie.Need-next-requires
 next-requires c κs = search needs
 
--- src/lib.rt:129:1
 returns : tie.Need-returns
-returns c = c .next .ensures ∙ front-is (lent ((c .before .before .before .before .before .before .before .before .before .args) .t1 .now) ((c .before .before .before .before .before .before .before .before .before .args) .t2 .now)) (family ((c .before .before .before .before .before .before .before .before .before .args) .d .encoding)) (shift ((c .before .before .before .before .before .before .before .before .before .args) .state) (eqb ((c .before .before .before .before .before .before .before .before .before .args) .flag) 1)) (heldOf ((c .before .before .before .before .before .before .before .before .before .args) .d) ++ (c .before .before .before .before .before .before .before .before .before .args) .chunk .now) ((c .before .before .before .before .before .before .before .before .before .args) .at) (ap (λ (k : ℕ). k - (c .before .before .before .before .before .before .before .before .before .args) .at) (sym (all-length ((c .before .before .before .before .before .before .before .before .before .args) .d .held) ((c .before .before .before .before .before .before .before .before .before .args) .d .first) ((c .before .before .before .before .before .before .before .before .before .args) .d .second) ((c .before .before .before .before .before .before .before .before .before .args) .d .third) ((c .before .before .before .before .before .before .before .before .before .args) .chunk .now) (omega arith)))) (c .before .before .before .before .byte-at .ensures) (c .before .before .before .byte-at2 .ensures) (c .before .before .byte-at3 .ensures) (c .before .byte-at4 .ensures)
+returns c =
+    let args = c .before .before .before .before .before .before .before .before .before .args in
+    c .next .ensures ∙ front-is (lent (args .t1 .now) (args .t2 .now)) (family (args .d .encoding)) (shift (args .state) (eqb (args .flag) 1)) (heldOf (args .d) ++ args .chunk .now) (args .at) (ap (λ (k : ℕ). k - args .at) (sym (all-length (args .d .held) (args .d .first) (args .d .second) (args .d .third) (args .chunk .now) (omega arith)))) (c .before .before .before .before .byte-at .ensures) (c .before .before .before .byte-at2 .ensures) (c .before .before .byte-at3 .ensures) (c .before .byte-at4 .ensures)
 
 pub sequence-at-spec : {M : Type 1} → statement M
 sequence-at-spec =

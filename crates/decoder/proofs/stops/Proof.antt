@@ -6,11 +6,9 @@ use Rattle.decoder.proofs.stops.Tie as tie
 use Rattle.decoder.proofs.stops.Reads as reads
 use Rattle.decoder.proofs.stops.Lts as lts
 
--- src/lib.rt:106:9
 returns : tie.Need-returns
 returns c = rw (eq-eqb ((c .before .args) .mode) 1 (omega arith))
 
--- src/lib.rt:102:1
 returns-2 : tie.Need-returns-2
 returns-2 c = rw (ne-eqb ((c .before .args) .mode) 1 (omega arith))
 

@@ -10,33 +10,36 @@ use Rattle.decoder.proofs.valid_rest.Lts as lts
 use Rattle.decoder.proofs.possible.Reads as possible-reads
 use Rattle.decoder.proofs.started.Reads as started-reads
 
--- src/lib.rt:333:12
 possible-requires : tie.Need-possible-requires
 possible-requires c κs = search needs
 
--- src/lib.rt:334:13
 started-requires : tie.Need-started-requires
 started-requires c κs = search needs
 
--- src/lib.rt:334:13
 returns : tie.Need-returns
-returns c = c .started .ensures ∙ sym (rest-open ((c .before .before .before .before .before .args) .d) (omega arith) ∙ all-first (sym (c .before .before .possible .ensures) ∙ c .before .if2 .taken))
+returns c =
+    let args = c .before .before .before .before .before .args in
+    let at-possible = c .before .before .possible in
+    let at-if2 = c .before .if2 in
+    c .started .ensures ∙ sym (rest-open (args .d) (omega arith) ∙ all-first (sym (at-possible .ensures) ∙ at-if2 .taken))
 
--- src/lib.rt:336:9
 returns-2 : tie.Need-returns-2
 returns-2 c = sym (rest-open ((c .before .before .before .before .args) .d) (omega arith) ∙ all-no _ (sym (c .before .possible .ensures) ∙ c .if2 .left))
 
--- src/lib.rt:339:9
 returns-3 : tie.Need-returns-3
-returns-3 c = sym (rest-ended ((c .before .before .before .before .args) .d) (omega arith) ∙ rw (ne-eqb ((c .before .before .before .before .args) .d .held) 0 (omega arith)))
+returns-3 c =
+    let args = c .before .before .before .before .args in
+    sym (rest-ended (args .d) (omega arith) ∙ rw (ne-eqb (args .d .held) 0 (omega arith)))
 
--- src/lib.rt:342:9
 returns-4 : tie.Need-returns-4
-returns-4 c = sym (rest-ended ((c .before .before .before .before .before .before .args) .d) (omega arith) ∙ rw (eq-eqb ((c .before .before .before .before .before .before .args) .d .held) 0 (omega arith), ne-eqb ((c .before .before .before .before .before .before .args) .d .state) 0 (omega arith)))
+returns-4 c =
+    let args = c .before .before .before .before .before .before .args in
+    sym (rest-ended (args .d) (omega arith) ∙ rw (eq-eqb (args .d .held) 0 (omega arith), ne-eqb (args .d .state) 0 (omega arith)))
 
--- src/lib.rt:328:1
 returns-5 : tie.Need-returns-5
-returns-5 c = sym (rest-ended ((c .before .before .before .before .before .before .before .args) .d) (omega arith) ∙ rw (eq-eqb ((c .before .before .before .before .before .before .before .args) .d .held) 0 (omega arith), eq-eqb ((c .before .before .before .before .before .before .before .args) .d .state) 0 (omega arith)))
+returns-5 c =
+    let args = c .before .before .before .before .before .before .before .args in
+    sym (rest-ended (args .d) (omega arith) ∙ rw (eq-eqb (args .d .held) 0 (omega arith), eq-eqb (args .d .state) 0 (omega arith)))
 
 pub valid-rest-spec : {M : Type 1} → statement M
 valid-rest-spec =

@@ -13,45 +13,49 @@ use Rattle.decoder.proofs.Decoder.open.Lts as lts
 use Rattle.decoder.proofs.ends.Reads as ends-reads
 use Rattle.decoder.proofs.marked.Reads as marked-reads
 
--- src/lib.rt:416:13
 ends-requires : tie.Need-ends-requires
 ends-requires c κs = search needs
 
--- src/lib.rt:416:13
 returns : tie.Need-returns
-returns c = c .ends .ensures ∙ sym (open-2 ((c .before .before .args) .encoding) ((c .before .before .args) .mode) ((c .before .before .args) .rule) (omega arith))
+returns c =
+    let args = c .before .before .args in
+    c .ends .ensures ∙ sym (open-2 (args .encoding) (args .mode) (args .rule) (omega arith))
 
--- src/lib.rt:419:13
 ends-requires-2 : tie.Need-ends-requires-2
 ends-requires-2 c κs = search needs
 
--- src/lib.rt:419:13
 returns-2 : tie.Need-returns-2
-returns-2 c = c .ends2 .ensures ∙ sym (open-3 ((c .before .before .before .args) .encoding) ((c .before .before .before .args) .mode) ((c .before .before .before .args) .rule) (omega arith) (rw (lt-ltb 1 ((c .before .before .before .args) .mode) (omega arith))))
+returns-2 c =
+    let args = c .before .before .before .args in
+    c .ends2 .ensures ∙ sym (open-3 (args .encoding) (args .mode) (args .rule) (omega arith) (rw (lt-ltb 1 (args .mode) (omega arith))))
 
--- src/lib.rt:422:13
 ends-requires-3 : tie.Need-ends-requires-3
 ends-requires-3 c κs = search needs
 
--- src/lib.rt:422:13
 returns-3 : tie.Need-returns-3
-returns-3 c = c .ends3 .ensures ∙ sym (open-3 ((c .before .before .before .before .args) .encoding) ((c .before .before .before .before .args) .mode) ((c .before .before .before .before .args) .rule) (omega arith) (rw (lt-ltb 1 ((c .before .before .before .before .args) .rule) (omega arith)) (or-true (ltb 1 ((c .before .before .before .before .args) .mode)))))
+returns-3 c =
+    let args = c .before .before .before .before .args in
+    c .ends3 .ensures ∙ sym (open-3 (args .encoding) (args .mode) (args .rule) (omega arith) (rw (lt-ltb 1 (args .rule) (omega arith)) (or-true (ltb 1 (args .mode)))))
 
--- src/lib.rt:425:16
 marked-requires : tie.Need-marked-requires
 marked-requires c κs = search needs
 
--- src/lib.rt:426:17
 returns-4 : tie.Need-returns-4
-returns-4 c = sym (open-0 ((c .before .before .before .before .before .before .args) .encoding) ((c .before .before .before .before .before .before .args) .mode) ((c .before .before .before .before .before .before .args) .rule) (omega arith) (omega arith) (omega arith) true (rw (eq-eqb ((c .before .before .before .before .before .before .args) .rule) 0 (omega arith), sym (c .before .marked .ensures) ∙ c .if5 .taken)))
+returns-4 c =
+    let args = c .before .before .before .before .before .before .args in
+    let at-marked = c .before .marked in
+    sym (open-0 (args .encoding) (args .mode) (args .rule) (omega arith) (omega arith) (omega arith) true (rw (eq-eqb (args .rule) 0 (omega arith), sym (at-marked .ensures) ∙ c .if5 .taken)))
 
--- src/lib.rt:412:5
 returns-5 : tie.Need-returns-5
-returns-5 c = sym (open-0 ((c .before .before .before .before .before .before .args) .encoding) ((c .before .before .before .before .before .before .args) .mode) ((c .before .before .before .before .before .before .args) .rule) (omega arith) (omega arith) (omega arith) false (rw (sym (c .before .marked .ensures) ∙ c .if5 .left)))
+returns-5 c =
+    let args = c .before .before .before .before .before .before .args in
+    let at-marked = c .before .marked in
+    sym (open-0 (args .encoding) (args .mode) (args .rule) (omega arith) (omega arith) (omega arith) false (rw (sym (at-marked .ensures) ∙ c .if5 .left)))
 
--- src/lib.rt:412:5
 returns-6 : tie.Need-returns-6
-returns-6 c = sym (open-0 ((c .before .before .before .before .args) .encoding) ((c .before .before .before .before .args) .mode) ((c .before .before .before .before .args) .rule) (omega arith) (omega arith) (omega arith) false (rw (ne-eqb ((c .before .before .before .before .args) .rule) 0 (omega arith)) (and-false (traits (family ((c .before .before .before .before .args) .encoding)) .mark))))
+returns-6 c =
+    let args = c .before .before .before .before .args in
+    sym (open-0 (args .encoding) (args .mode) (args .rule) (omega arith) (omega arith) (omega arith) false (rw (ne-eqb (args .rule) 0 (omega arith)) (and-false (traits (family (args .encoding)) .mark))))
 
 pub open-spec : {M : Type 1} → statement M
 open-spec =

@@ -1,6 +1,6 @@
+use Rattle.standard.specs.Encodings.{lent}
 use Rattle.sequences.proofs.Big5Leaves.{big5-none, big5-ascii, big5-bad, big5-wait, big5-pair}
 use Rattle.sequences.proofs.Leaves.{fails, holds}
-use Rattle.sequences.specs.Code.{lent}
 use Rattle.standard.proofs.Tests.{within-low}
 use mathlib.Core.List.{[]}
 use mathlib.Core.Path.{sym, _∙_}

@@ -1,6 +1,6 @@
 use mathlib.Core.Path.{sym, _∙_}
+use Rattle.standard.specs.Encodings.{lent}
 use Rattle.standard.proofs.Tests.{within-low}
-use Rattle.sequences.specs.Code.{lent}
 use Rattle.sequences.proofs.EucJpLeaves.{euc-nothing, euc-self, euc-8E, euc-8F-wait, euc-8F, euc-pair, euc-other}
 use native.Mathlib.Omega.{arith}
 use borrow.Author.Needs.{needs}

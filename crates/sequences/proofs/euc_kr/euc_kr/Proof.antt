@@ -1,6 +1,6 @@
+use Rattle.standard.specs.Encodings.{lent}
 use Rattle.sequences.proofs.Leaves.{fails, holds}
 use Rattle.sequences.proofs.EucKrLeaves.{kr-none, kr-ascii, kr-bad, kr-pair}
-use Rattle.sequences.specs.Code.{lent}
 use Rattle.standard.proofs.Tests.{within-low}
 use mathlib.Core.List.{[]}
 use mathlib.Core.Path.{sym, _∙_}

@@ -1,6 +1,6 @@
 use mathlib.Core.Path.{sym, _∙_}
+use Rattle.standard.specs.Encodings.{lent}
 use Rattle.standard.proofs.Tests.{within-low}
-use Rattle.sequences.specs.Code.{lent}
 use Rattle.sequences.proofs.Gb18030Leaves.{gb-nothing, gb-self, gb-80, gb-FF, gb-pair, gb-four-wait, gb-four}
 use native.Mathlib.Omega.{arith}
 use borrow.Author.Needs.{needs}

@@ -1,8 +1,8 @@
 use mathlib.Core.Path.{sym, _∙_}
 use lib.Dec.{eqb}
+use Rattle.standard.specs.Encodings.{lent}
 use Rattle.standard.proofs.Tests.{within-low}
 use Rattle.standard.specs.Sequence.{shift}
-use Rattle.sequences.specs.Code.{lent}
 use Rattle.sequences.proofs.Iso2022JpLeaves.{iso-nothing, iso-1B-wait, iso-1B, iso-byte, iso-no-lead, iso-lead-wait, iso-lead}
 use native.Mathlib.Omega.{arith}
 use borrow.Author.Needs.{needs}

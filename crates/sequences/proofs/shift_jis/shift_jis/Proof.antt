@@ -1,5 +1,5 @@
+use Rattle.standard.specs.Encodings.{lent}
 use Rattle.sequences.proofs.ShiftJisLeaves.{sjis-none, sjis-ascii, sjis-kana, sjis-bad, sjis-pair, lead, lead-high}
-use Rattle.sequences.specs.Code.{lent}
 use Rattle.standard.proofs.Tests.{under, above}
 use mathlib.Core.List.{[]}
 use mathlib.Core.Path.{sym, _∙_}
