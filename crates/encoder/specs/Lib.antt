@@ -1,3 +1,4 @@
 pub mod Writer
+pub mod WriterCode
 pub mod Statements
 pub mod Samples

@@ -1,5 +1,8 @@
 // What the writer's call answers.
 
+mod pieces;
+mod scalar;
+
 // The refusal number of document 01 or 0, the bytes written, and with report 11 the index of the unwritable scalar (else 0).
 #[repr(C)]
 pub struct Written {
