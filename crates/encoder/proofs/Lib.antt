@@ -1,6 +1,8 @@
 pub mod Tables
 pub mod Scalars
 pub mod Rooms
+pub mod Counting
+pub mod Refusals
 pub mod Encoding
 pub mod Writing
 pub mod ReadBack

@@ -1,4 +1,4 @@
-// What the writer's call answers.
+// Writing: document 01, "Writing rules" and "Refusal numbers".
 
 mod pieces;
 mod scalar;
@@ -9,4 +9,143 @@ pub struct Written {
     pub written: usize,
     pub index: usize,
     pub refusal: u8,
+}
+
+ghost use mathlib.Core.Path.{_≡_};
+ghost use mathlib.Core.Bool.{true};
+ghost use Prim.Native.Nat.{_≤_};
+ghost use lib.ListN.{length};
+ghost use Rattle.standard.specs.Base.{isScalar, scalars as areScalars};
+ghost use Rattle.encoder.specs.Writer.{write, encoding as outcome};
+ghost use Rattle.encoder.specs.WriterCode.{lent, writes, cellsOf, writingOf, refusalOf};
+
+// How many bytes are written of the scalars.
+fn count(encoding: u8, mode: u8, scalars: &[u32], table: &[u32]) -> usize
+    requires { ⌜ (areScalars (now scalars) ≡ true) × (length (now scalars) ≤ 16384) × (length (now table) ≤ 128) ⌝ }
+    ensures { λ r. ⌜ r ≡ length (writingOf encoding mode (now (table .entry)) (now (scalars .entry)) .bytes) ⌝ }
+{
+    let mut n: usize = 0;
+    let mut i: usize = 0;
+    while i < scalars.len() {
+        let c = scalars[i];
+        let b = scalar::bytes_of(encoding, table, c);
+        if pieces::stops(mode, b) {
+            return n;
+        }
+        n += pieces::size(b, c);
+        i += 1;
+    }
+    n
+}
+
+// The scalars written into a room that has space for all their bytes.
+fn write(encoding: u8, mode: u8, scalars: &[u32], table: &[u32], room: &mut [u8]) -> Written
+    requires { ⌜ (areScalars (now scalars) ≡ true) × (length (now table) ≤ 128) × (length (writingOf encoding mode (now table) (now scalars) .bytes) ≤ length (now room)) ⌝ }
+    ensures { λ r. ⌜ (r ≡ write (writingOf encoding mode (now (table .entry)) (now (scalars .entry))) (now (room .entry)) .answer) × (now (room .exit) ≡ write (writingOf encoding mode (now (table .entry)) (now (scalars .entry))) (now (room .entry)) .room) ⌝ }
+{
+    let mut o: usize = 0;
+    let mut i: usize = 0;
+    while i < scalars.len() {
+        let c = scalars[i];
+        let b = scalar::bytes_of(encoding, table, c);
+        if pieces::stops(mode, b) {
+            return Written { written: o, index: i, refusal: 11 };
+        }
+        o = pieces::put(room, o, b, c);
+        i += 1;
+    }
+    Written { written: o, index: 0, refusal: 0 }
+}
+
+fn is_scalar(c: u32) -> bool
+    ensures { λ r. ⌜ r ≡ isScalar c ⌝ }
+{
+    if c < 0xD800 {
+        return true;
+    }
+    if c < 0xE000 {
+        return false;
+    }
+    c <= 0x10FFFF
+}
+
+fn all_scalars(scalars: &[u32]) -> bool
+    ensures { λ r. ⌜ r ≡ areScalars (now (scalars .entry)) ⌝ }
+{
+    let mut i: usize = 0;
+    while i < scalars.len() {
+        if !is_scalar(scalars[i]) {
+            return false;
+        }
+        i += 1;
+    }
+    true
+}
+
+// Is there a writer for this encoding?
+fn writes(encoding: u8) -> bool
+    ensures { λ r. ⌜ r ≡ writes encoding ⌝ }
+{
+    if encoding <= 28 {
+        return true;
+    }
+    encoding == 39
+}
+
+// How many cells the first table of an encoding with a writer has.
+fn cells(encoding: u8) -> usize
+    ensures { λ r. ⌜ r ≡ cellsOf encoding ⌝ }
+{
+    if encoding == 0 {
+        return 0;
+    }
+    if encoding == 21 {
+        return 0;
+    }
+    if encoding <= 28 {
+        return 128;
+    }
+    0
+}
+
+// The refusal of a call with so many bytes of room, or 0, in document 01's order: 2, 3, 9, 4, 8, 10, 7.
+fn refusal(encoding: u8, mode: u8, scalars: &[u32], t1: &[u32], t2: &[u32], room: usize) -> u8
+    ensures { λ r. ⌜ r ≡ refusalOf encoding mode (lent (now (t1 .entry)) (now (t2 .entry))) (now (scalars .entry)) room ⌝ }
+{
+    if 39 < encoding {
+        return 2;
+    }
+    if 1 < mode {
+        return 3;
+    }
+    if !writes(encoding) {
+        return 9;
+    }
+    if t1.len() != cells(encoding) {
+        return 4;
+    }
+    if t2.len() != 0 {
+        return 4;
+    }
+    if 16384 < scalars.len() {
+        return 8;
+    }
+    if !all_scalars(scalars) {
+        return 10;
+    }
+    if room < count(encoding, mode, scalars, t1) {
+        return 7;
+    }
+    0
+}
+
+// The writer's call: the scalars' bytes are written at the front of the room. Nothing is written where the call is refused.
+pub fn encode(encoding: u8, mode: u8, scalars: &[u32], t1: &[u32], t2: &[u32], room: &mut [u8]) -> Written
+    ensures { λ r. ⌜ (r ≡ outcome encoding mode (lent (now (t1 .entry)) (now (t2 .entry))) (now (scalars .entry)) (now (room .entry)) .answer) × (now (room .exit) ≡ outcome encoding mode (lent (now (t1 .entry)) (now (t2 .entry))) (now (scalars .entry)) (now (room .entry)) .room) ⌝ }
+{
+    let refused = refusal(encoding, mode, scalars, t1, t2, room.len());
+    if refused != 0 {
+        return Written { written: 0, index: 0, refusal: refused };
+    }
+    write(encoding, mode, scalars, t1, room)
 }

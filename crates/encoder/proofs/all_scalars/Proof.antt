@@ -1,0 +1,71 @@
+use Rattle.encoder.proofs.Counting.{all-end, all-not, all-on}
+use Rattle.standard.specs.Base.{scalars as areScalars}
+use borrow.Author.Tests.{not-true, not-false}
+use lib.ListN.{length, drop}
+use Prim.Native.Nat.{_-_}
+use mathlib.Core.Path.{_≡_, refl, sym, _∙_}
+use borrow.Author.Needs.{needs}
+use native.Mathlib.Omega.{arith}
+use Rattle.encoder.proofs.all_scalars.Statement.{statement}
+use Rattle.encoder.proofs.all_scalars.Tie as tie
+use Rattle.encoder.proofs.all_scalars.Reads as reads
+use Rattle.encoder.proofs.all_scalars.Lts as lts
+use Rattle.encoder.proofs.is_scalar.Reads as is-scalar-reads
+
+abbrev Inv-loop : tie.InvT-loop
+Inv-loop scalars i₀ i = areScalars (drop i scalars) ≡ areScalars scalars
+
+abbrev μ-loop : tie.MeasureT-loop
+μ-loop scalars i₀ i = length scalars - i
+
+-- src/lib.rt:76:5
+loop-holds : tie.Need-loop-holds Inv-loop μ-loop
+loop-holds c = refl
+
+-- src/lib.rt:77:23
+mul-is-scalar : tie.Need-mul-is-scalar Inv-loop μ-loop
+mul-is-scalar c = search needs
+
+-- src/lib.rt:77:23
+shared-slice-read-is-scalar : tie.Need-shared-slice-read-is-scalar Inv-loop μ-loop
+shared-slice-read-is-scalar c = search needs
+
+-- src/lib.rt:77:13
+is-scalar-requires : tie.Need-is-scalar-requires Inv-loop μ-loop
+is-scalar-requires c κs = search needs
+
+-- src/lib.rt:78:13
+returns : tie.Need-returns Inv-loop μ-loop
+returns c = all-not ((c .before .before .before .before .before .before .args) .scalars .now) (c .before .before .before .before .loop .i) (c .before .before .before .loop-test .taken) (sym (c .before .is-scalar .ensures) ∙ not-true _ (c .if1 .taken)) ∙ c .before .before .before .before .loop .inv
+
+-- src/lib.rt:80:9
+add-i : tie.Need-add-i Inv-loop μ-loop
+add-i c = search needs
+
+-- src/lib.rt:76:5
+loop-less : tie.Need-loop-less Inv-loop μ-loop
+loop-less c = search needs
+
+-- src/lib.rt:76:5
+loop-again : tie.Need-loop-again Inv-loop μ-loop
+loop-again c = all-on ((c .before .before .before .before .before .before .args) .scalars .now) (c .before .before .before .before .loop .i) (c .before .before .before .loop-test .taken) (sym (c .before .is-scalar .ensures) ∙ not-false _ (c .if1 .left)) ∙ c .before .before .before .before .loop .inv
+
+-- src/lib.rt:72:1
+returns-2 : tie.Need-returns-2 Inv-loop μ-loop
+returns-2 c = all-end ((c .before .before .before .args) .scalars .now) (c .before .loop .i) (c .loop-test .left) ∙ c .before .loop .inv
+
+pub all-scalars-spec : {M : Type 1} → statement M
+all-scalars-spec =
+    tie.close
+    (tie.spec
+    Inv-loop
+    μ-loop
+    loop-holds
+    mul-is-scalar
+    shared-slice-read-is-scalar
+    is-scalar-requires
+    returns
+    add-i
+    loop-less
+    loop-again
+    returns-2)
