@@ -165,8 +165,15 @@ module _ (encode : ℕ → Result) (m : ℕ) where
           onto = s .same ∙ ap (ahead (take o room) i) (here-on i b h g e) ∙ ahead-onward (take o room) i (piece b (getD cs i 0)) (writing encode m (drop (i + 1) cs))
 
           pub running-room : o + length (piece b (getD cs i 0)) ≤ length room
-          running-room = omega (arith, l, s .size, ap (λ (w : Writing). length (w .bytes)) onto, length-append (take o room ++ piece b (getD cs i 0)) (writing encode m (drop (i + 1) cs) .bytes),
-              length-append (take o room) (piece b (getD cs i 0)), length-take-le o room (s .inside))
+          running-room = omega (
+            arith,
+            l,
+            s .size,
+            ap (λ (w : Writing). length (w .bytes)) onto,
+            length-append (take o room ++ piece b (getD cs i 0)) (writing encode m (drop (i + 1) cs) .bytes),
+            length-append (take o room) (piece b (getD cs i 0)),
+            length-take-le o room (s .inside),
+          )
 
           pub running-on : (r : ℕ) (after : List ℕ) → r ≡ o + length (piece b (getD cs i 0)) → after ≡ sets room o (piece b (getD cs i 0)) → Running room₀ after (i + 1) r
           running-on r after p q = rw (p, q) (record {

@@ -14,6 +14,7 @@ use Rattle.standard.specs.Machine.{Result}
 use Rattle.standard.specs.Encoders.{encoder}
 use Rattle.standard.proofs.Tests.{split, or-case, and-left}
 use Rattle.encoder.specs.Writer.{Writing, Outcome, refuse, write, writeAccepted, writeBy, encoding}
+use Rattle.encoder.specs.declared.Written.{Written}
 use Rattle.encoder.specs.WriterCode.{writes, cellsOf, encoderOf, writingOf, refusalOf}
 
 -- the encodings with a writer
@@ -59,8 +60,8 @@ no-encoder : (e : ℕ) (t : Tables) → e ≤ 39 → writes e ≡ false → enco
 no-encoder e t h w = split (leb e 28)
     (λ l. let z : _≡_ {A = ℕ} 0 1 = cc (rw l at w) in absurd (omega arith))
     (λ l. let g : 28 < e = leb-false e 28 l in let n : eqb e 39 ≡ false = rw l at w in
-        let k : e - 29 < 10 = omega (arith, eqb-false e 39 n) in
-        let q : e ≡ 29 + (e - 29) = omega arith in ap (λ (x : ℕ). encoder t (family x)) q ∙ no-encoder-at t (e - 29) k)
+    let k : e - 29 < 10 = omega (arith, eqb-false e 39 n) in
+    let q : e ≡ 29 + (e - 29) = omega arith in ap (λ (x : ℕ). encoder t (family x)) q ∙ no-encoder-at t (e - 29) k)
 
 -- The call, by its refusal.
 module _ (e m : ℕ) (t : Tables) (cs room : List ℕ) where
@@ -78,11 +79,9 @@ module _ (e m : ℕ) (t : Tables) (cs room : List ℕ) where
       tests true false true false = refl
 
       yes : ltb 39 e ≡ false → ltb 1 m ≡ false → writes e ≡ true → encoding e m t cs room ≡ (eqb (refusalOf e m t cs (length room)) 0 then write (writingOf e m (t .first) cs) room else refuse (refusalOf e m t cs (length room)) room)
-      unfolding encoding refusalOf
       yes h g w = rw (h, g, w, encoder-writer e t w) (tests (fits (family e) t) (ltb 16384 (length cs)) (scalars cs) (ltb (length room) (length (writingOf e m (t .first) cs .bytes))))
 
       no : ltb 39 e ≡ false → ltb 1 m ≡ false → writes e ≡ false → encoding e m t cs room ≡ (eqb (refusalOf e m t cs (length room)) 0 then write (writingOf e m (t .first) cs) room else refuse (refusalOf e m t cs (length room)) room)
-      unfolding encoding refusalOf
       no h g w = rw (h, g, w, no-encoder e t (ltb-false 39 e h) w)
 
   pub call-refused : (refusalOf e m t cs (length room) ≡ 0 → ⊥) → encoding e m t cs room ≡ refuse (refusalOf e m t cs (length room)) room
@@ -106,7 +105,7 @@ module _ (e m : ℕ) (t : Tables) (cs room : List ℕ) where
         space = ltb-false (length room) (length (writingOf e m (t .first) cs .bytes)) (a .3);
       }
     where
-      go : (a b w f l s r : Bool) → (a then 2 else b then 3 else not w then 9 else not f then 4 else l then 8 else not s then 10 else r then 7 else 0) ≡ 0 →
+      go : (a b w f l s r : Bool) → _≡_ {A = ℕ} (a then 2 else b then 3 else not w then 9 else not f then 4 else l then 8 else not s then 10 else r then 7 else 0) 0 →
           (w ≡ true) × (f ≡ true) × (s ≡ true) × (r ≡ false)
       go true b w f l s r h = absurd (omega arith)
       go false true w f l s r h = absurd (omega arith)
@@ -116,6 +115,15 @@ module _ (e m : ℕ) (t : Tables) (cs room : List ℕ) where
       go false false true true false false r h = absurd (omega arith)
       go false false true true false true true h = absurd (omega arith)
       go false false true true false true false h = (refl, refl, refl, refl)
+
+  -- what the call leaves, part by part
+  module _ (r : ℕ) (p : r ≡ refusalOf e m t cs (length room)) where
+    pub tells-refusal : (r ≡ 0 → ⊥) → (_≡_ {A = Written} (record { written = 0; index = 0; refusal = r }) (encoding e m t cs room .answer)) × (room ≡ encoding e m t cs room .room)
+    tells-refusal n = let q = call-refused (λ z. n (p ∙ z)) in (rw p (ap (λ (o : Outcome). o .answer) (sym q)), ap (λ (o : Outcome). o .room) (sym q))
+
+    pub tells-written : r ≡ 0 → {a : Written} {after : List ℕ} → (a ≡ write (writingOf e m (t .first) cs) room .answer) × (after ≡ write (writingOf e m (t .first) cs) room .room) →
+        (a ≡ encoding e m t cs room .answer) × (after ≡ encoding e m t cs room .room)
+    tells-written z w = let q = call-accepted (sym p ∙ z) in (w .0 ∙ ap (λ (o : Outcome). o .answer) (sym q), w .1 ∙ ap (λ (o : Outcome). o .room) (sym q))
 
 -- The refusals, one after the other.
 module _ (e m : ℕ) (t : Tables) (cs : List ℕ) (n : ℕ) where

@@ -34,7 +34,7 @@ digits-enough (suc n) zero c h g = digits-one (suc n) c (omega arith) ∙ sym (d
 digits-enough (suc n) (suc m) c h g = split (ltb c 10)
     (λ e. let l : c < 10 = ltb-true c 10 e in digits-one (suc n) c l ∙ sym (digits-one (suc m) c l))
     (λ e. let l : 10 ≤ c = ltb-false c 10 e in
-        digits-step n c l ∙ before-last c (digits-enough n m (c / 10) (omega arith) (omega arith)) ∙ sym (digits-step m c l))
+    digits-step n c l ∙ before-last c (digits-enough n m (c / 10) (omega arith) (omega arith)) ∙ sym (digits-step m c l))
 
 digits-more : (c : ℕ) → 10 ≤ c → digits c c ≡ digits (c / 10) (c / 10) ++ (0x30 + c % 10) ∷ []
 digits-more c h = digits-enough c (suc c) c (omega arith) (omega arith) ∙ digits-step c c h ∙ before-last c (digits-enough c (c / 10) (c / 10) (omega arith) (omega arith))

@@ -84,7 +84,7 @@ counted-self p a zero c m h g = absurd (omega arith)
 counted-self p a (suc n) c m h g = split (eqb a c)
     (λ e. let q : a ≡ c = eqb-true a c e in let z : p + (c - a) ≡ p = omega arith in rw (z, q, m, eq-eqb c c refl))
     (λ e. let z : suc p + (c - suc a) ≡ p + (c - a) = omega (arith, eqb-false a c e) in
-        rw (e, and-false (mapped a)) (counted-self (suc p) (suc a) n c m (omega (arith, eqb-false a c e)) (omega arith) ∙ ap some z))
+    rw (e, and-false (mapped a)) (counted-self (suc p) (suc a) n c m (omega (arith, eqb-false a c e)) (omega arith) ∙ ap some z))
 
 regular : ℕ → Bool
 regular x = within 0xA0 x 0xFF
@@ -130,7 +130,7 @@ module _ (c : ℕ) where
       let z : 32 + (c - 0xA0) + 0x80 ≡ c = omega arith in
       rw (le-ltb c 0x80 (omega arith), e, z)
 
--- x-user-defined
+  -- x-user-defined
   pub user-one : c < 0x80 → tokens (c ∷ []) ≡ user-encode c
   unfolding user-encode
   user-one h = rw (lt-ltb c 0x80 h)

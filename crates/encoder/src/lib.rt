@@ -49,12 +49,20 @@ fn write(encoding: u8, mode: u8, scalars: &[u32], table: &[u32], room: &mut [u8]
         let c = scalars[i];
         let b = scalar::bytes_of(encoding, table, c);
         if pieces::stops(mode, b) {
-            return Written { written: o, index: i, refusal: 11 };
+            return Written {
+                written: o,
+                index: i,
+                refusal: 11,
+            };
         }
         o = pieces::put(room, o, b, c);
         i += 1;
     }
-    Written { written: o, index: 0, refusal: 0 }
+    Written {
+        written: o,
+        index: 0,
+        refusal: 0,
+    }
 }
 
 fn is_scalar(c: u32) -> bool
@@ -140,12 +148,23 @@ fn refusal(encoding: u8, mode: u8, scalars: &[u32], t1: &[u32], t2: &[u32], room
 }
 
 // The writer's call: the scalars' bytes are written at the front of the room. Nothing is written where the call is refused.
-pub fn encode(encoding: u8, mode: u8, scalars: &[u32], t1: &[u32], t2: &[u32], room: &mut [u8]) -> Written
+pub fn encode(
+    encoding: u8,
+    mode: u8,
+    scalars: &[u32],
+    t1: &[u32],
+    t2: &[u32],
+    room: &mut [u8],
+) -> Written
     ensures { λ r. ⌜ (r ≡ outcome encoding mode (lent (now (t1 .entry)) (now (t2 .entry))) (now (scalars .entry)) (now (room .entry)) .answer) × (now (room .exit) ≡ outcome encoding mode (lent (now (t1 .entry)) (now (t2 .entry))) (now (scalars .entry)) (now (room .entry)) .room) ⌝ }
 {
     let refused = refusal(encoding, mode, scalars, t1, t2, room.len());
     if refused != 0 {
-        return Written { written: 0, index: 0, refusal: refused };
+        return Written {
+            written: 0,
+            index: 0,
+            refusal: refused,
+        };
     }
     write(encoding, mode, scalars, t1, room)
 }

@@ -1,7 +1,6 @@
 // What is written of one scalar: its bytes, or a reference to it.
 
 use crate::scalar::Bytes;
-
 ghost use mathlib.Core.Path.{_≡_};
 ghost use mathlib.Core.Bool.{_&&_};
 ghost use Prim.Native.Nat.{_+_, _≤_};

@@ -1,7 +1,6 @@
 // The bytes of one scalar: document 01, "Writing rules".
 
 use index::Found;
-
 ghost use mathlib.Core.Path.{_≡_};
 ghost use mathlib.Core.List.{[], _∷_};
 ghost use Prim.Native.Nat.{_+_, _%_, _≤_};
@@ -23,13 +22,25 @@ pub struct Bytes {
 fn unwritable(c: u32) -> Bytes
     ensures { λ r. ⌜ Gives (error-with c) r ⌝ }
 {
-    Bytes { count: 0, first: 0, second: 0, third: 0, fourth: 0 }
+    Bytes {
+        count: 0,
+        first: 0,
+        second: 0,
+        third: 0,
+        fourth: 0,
+    }
 }
 
 fn one(b: u8) -> Bytes
     ensures { λ r. ⌜ Gives (tokens (b ∷ [])) r ⌝ }
 {
-    Bytes { count: 1, first: b, second: 0, third: 0, fourth: 0 }
+    Bytes {
+        count: 1,
+        first: b,
+        second: 0,
+        third: 0,
+        fourth: 0,
+    }
 }
 
 fn low(c: u32) -> u8
@@ -46,12 +57,30 @@ fn utf8(c: u32) -> Bytes
         return one(c as u8);
     }
     if c <= 0x7FF {
-        return Bytes { count: 2, first: (c / 64 + 0xC0) as u8, second: low(c), third: 0, fourth: 0 };
+        return Bytes {
+            count: 2,
+            first: (c / 64 + 0xC0) as u8,
+            second: low(c),
+            third: 0,
+            fourth: 0,
+        };
     }
     if c <= 0xFFFF {
-        return Bytes { count: 3, first: (c / 4096 + 0xE0) as u8, second: low(c / 64), third: low(c), fourth: 0 };
+        return Bytes {
+            count: 3,
+            first: (c / 4096 + 0xE0) as u8,
+            second: low(c / 64),
+            third: low(c),
+            fourth: 0,
+        };
     }
-    Bytes { count: 4, first: (c / 262144 + 0xF0) as u8, second: low(c / 4096), third: low(c / 64), fourth: low(c) }
+    Bytes {
+        count: 4,
+        first: (c / 262144 + 0xF0) as u8,
+        second: low(c / 4096),
+        third: low(c / 64),
+        fourth: low(c),
+    }
 }
 
 // By a table of 128 cells or fewer: the first cell that counts as mapped and equals the scalar.

@@ -1,3 +1,7 @@
+use Rattle.encoder.proofs.Refusals.{refused-2, refused-3, refused-9, refused-first, refused-second, refused-8, refused-10, refused-7, refused-not, first-few}
+use Rattle.encoder.specs.WriterCode.{lent}
+use borrow.Author.Tests.{not-true, not-false}
+use mathlib.Core.Path.{sym, _∙_}
 use native.Mathlib.Omega.{arith}
 use borrow.Author.Needs.{needs}
 use Rattle.encoder.proofs.refusal.Statement.{statement}
@@ -11,11 +15,11 @@ use Rattle.encoder.proofs.writes.Reads as writes-reads
 
 -- src/lib.rt:116:9
 returns : tie.Need-returns
-returns c = search needs
+returns c = refused-2 ((c .before .before .before .before .args) .encoding) ((c .before .before .before .before .args) .mode) (lent ((c .before .before .before .before .args) .t1 .now) ((c .before .before .before .before .args) .t2 .now)) ((c .before .before .before .before .args) .scalars .now) ((c .before .before .before .before .args) .room) (c .if1 .taken)
 
 -- src/lib.rt:119:9
 returns-2 : tie.Need-returns-2
-returns-2 c = search needs
+returns-2 c = refused-3 ((c .before .before .before .before .before .args) .encoding) ((c .before .before .before .before .before .args) .mode) (lent ((c .before .before .before .before .before .args) .t1 .now) ((c .before .before .before .before .before .args) .t2 .now)) ((c .before .before .before .before .before .args) .scalars .now) ((c .before .before .before .before .before .args) .room) (c .before .if1 .left) (c .if2 .taken)
 
 -- src/lib.rt:121:9
 writes-requires : tie.Need-writes-requires
@@ -23,7 +27,7 @@ writes-requires c κs = search needs
 
 -- src/lib.rt:122:9
 returns-3 : tie.Need-returns-3
-returns-3 c = search needs
+returns-3 c = refused-9 ((c .before .before .before .before .before .before .before .args) .encoding) ((c .before .before .before .before .before .before .before .args) .mode) (lent ((c .before .before .before .before .before .before .before .args) .t1 .now) ((c .before .before .before .before .before .before .before .args) .t2 .now)) ((c .before .before .before .before .before .before .before .args) .scalars .now) ((c .before .before .before .before .before .before .before .args) .room) (c .before .before .before .if1 .left) (c .before .before .if2 .left) (sym (c .before .writes .ensures) ∙ not-true _ (c .if3 .taken))
 
 -- src/lib.rt:124:20
 cells-requires : tie.Need-cells-requires
@@ -31,15 +35,15 @@ cells-requires c κs = search needs
 
 -- src/lib.rt:125:9
 returns-4 : tie.Need-returns-4
-returns-4 c = search needs
+returns-4 c = refused-first ((c .before .before .before .before .before .before .before .before .before .args) .encoding) ((c .before .before .before .before .before .before .before .before .before .args) .mode) (lent ((c .before .before .before .before .before .before .before .before .before .args) .t1 .now) ((c .before .before .before .before .before .before .before .before .before .args) .t2 .now)) ((c .before .before .before .before .before .before .before .before .before .args) .scalars .now) ((c .before .before .before .before .before .before .before .before .before .args) .room) (c .before .before .before .before .before .if1 .left) (c .before .before .before .before .if2 .left) (sym (c .before .before .before .writes .ensures) ∙ not-false _ (c .before .before .if3 .left)) (λ z. c .if4 .taken (z ∙ sym (c .before .cells .ensures)))
 
 -- src/lib.rt:128:9
 returns-5 : tie.Need-returns-5
-returns-5 c = search needs
+returns-5 c = refused-second ((c .before .before .before .before .before .before .before .before .before .before .args) .encoding) ((c .before .before .before .before .before .before .before .before .before .before .args) .mode) (lent ((c .before .before .before .before .before .before .before .before .before .before .args) .t1 .now) ((c .before .before .before .before .before .before .before .before .before .before .args) .t2 .now)) ((c .before .before .before .before .before .before .before .before .before .before .args) .scalars .now) ((c .before .before .before .before .before .before .before .before .before .before .args) .room) (c .before .before .before .before .before .before .if1 .left) (c .before .before .before .before .before .if2 .left) (sym (c .before .before .before .before .writes .ensures) ∙ not-false _ (c .before .before .before .if3 .left)) (c .if5 .taken)
 
 -- src/lib.rt:131:9
 returns-6 : tie.Need-returns-6
-returns-6 c = search needs
+returns-6 c = refused-8 ((c .before .before .before .before .before .before .before .before .before .before .before .args) .encoding) ((c .before .before .before .before .before .before .before .before .before .before .before .args) .mode) (lent ((c .before .before .before .before .before .before .before .before .before .before .before .args) .t1 .now) ((c .before .before .before .before .before .before .before .before .before .before .before .args) .t2 .now)) ((c .before .before .before .before .before .before .before .before .before .before .before .args) .scalars .now) ((c .before .before .before .before .before .before .before .before .before .before .before .args) .room) (c .before .before .before .before .before .before .before .if1 .left) (c .before .before .before .before .before .before .if2 .left) (sym (c .before .before .before .before .before .writes .ensures) ∙ not-false _ (c .before .before .before .before .if3 .left)) (c .before .before .if4 .left ∙ c .before .before .before .cells .ensures) (c .before .if5 .left) (c .if6 .taken)
 
 -- src/lib.rt:133:9
 all-scalars-requires : tie.Need-all-scalars-requires
@@ -47,19 +51,19 @@ all-scalars-requires c κs = search needs
 
 -- src/lib.rt:134:9
 returns-7 : tie.Need-returns-7
-returns-7 c = search needs
+returns-7 c = refused-10 ((c .before .before .before .before .before .before .before .before .before .before .before .before .before .args) .encoding) ((c .before .before .before .before .before .before .before .before .before .before .before .before .before .args) .mode) (lent ((c .before .before .before .before .before .before .before .before .before .before .before .before .before .args) .t1 .now) ((c .before .before .before .before .before .before .before .before .before .before .before .before .before .args) .t2 .now)) ((c .before .before .before .before .before .before .before .before .before .before .before .before .before .args) .scalars .now) ((c .before .before .before .before .before .before .before .before .before .before .before .before .before .args) .room) (c .before .before .before .before .before .before .before .before .before .if1 .left) (c .before .before .before .before .before .before .before .before .if2 .left) (sym (c .before .before .before .before .before .before .before .writes .ensures) ∙ not-false _ (c .before .before .before .before .before .before .if3 .left)) (c .before .before .before .before .if4 .left ∙ c .before .before .before .before .before .cells .ensures) (c .before .before .before .if5 .left) (c .before .before .if6 .left) (sym (c .before .all-scalars .ensures) ∙ not-true _ (c .if7 .taken))
 
 -- src/lib.rt:136:15
 count-requires : tie.Need-count-requires
-count-requires c κs = search needs
+count-requires c κs = (sym (c .before .all-scalars .ensures) ∙ not-false _ (c .if7 .left), c .before .before .if6 .left, first-few ((c .before .before .before .before .before .before .before .before .before .before .before .before .before .args) .encoding) ((c .before .before .before .before .before .before .before .before .before .before .before .before .before .args) .mode) (lent ((c .before .before .before .before .before .before .before .before .before .before .before .before .before .args) .t1 .now) ((c .before .before .before .before .before .before .before .before .before .before .before .before .before .args) .t2 .now)) ((c .before .before .before .before .before .before .before .before .before .before .before .before .before .args) .scalars .now) ((c .before .before .before .before .before .before .before .before .before .before .before .before .before .args) .room) (c .before .before .before .before .before .before .before .before .before .if1 .left) (c .before .before .before .before .before .before .before .before .if2 .left) (sym (c .before .before .before .before .before .before .before .writes .ensures) ∙ not-false _ (c .before .before .before .before .before .before .if3 .left)) (c .before .before .before .before .if4 .left ∙ c .before .before .before .before .before .cells .ensures) (c .before .before .before .if5 .left))
 
 -- src/lib.rt:137:9
 returns-8 : tie.Need-returns-8
-returns-8 c = search needs
+returns-8 c = refused-7 ((c .before .before .before .before .before .before .before .before .before .before .before .before .before .before .before .args) .encoding) ((c .before .before .before .before .before .before .before .before .before .before .before .before .before .before .before .args) .mode) (lent ((c .before .before .before .before .before .before .before .before .before .before .before .before .before .before .before .args) .t1 .now) ((c .before .before .before .before .before .before .before .before .before .before .before .before .before .before .before .args) .t2 .now)) ((c .before .before .before .before .before .before .before .before .before .before .before .before .before .before .before .args) .scalars .now) ((c .before .before .before .before .before .before .before .before .before .before .before .before .before .before .before .args) .room) (c .before .before .before .before .before .before .before .before .before .before .before .if1 .left) (c .before .before .before .before .before .before .before .before .before .before .if2 .left) (sym (c .before .before .before .before .before .before .before .before .before .writes .ensures) ∙ not-false _ (c .before .before .before .before .before .before .before .before .if3 .left)) (c .before .before .before .before .before .before .if4 .left ∙ c .before .before .before .before .before .before .before .cells .ensures) (c .before .before .before .before .before .if5 .left) (c .before .before .before .before .if6 .left) (sym (c .before .before .before .all-scalars .ensures) ∙ not-false _ (c .before .before .if7 .left)) (c .before .count .result) (c .before .count .ensures) (c .if8 .taken)
 
 -- src/lib.rt:112:1
 returns-9 : tie.Need-returns-9
-returns-9 c = search needs
+returns-9 c = refused-not ((c .before .before .before .before .before .before .before .before .before .before .before .before .before .before .before .args) .encoding) ((c .before .before .before .before .before .before .before .before .before .before .before .before .before .before .before .args) .mode) (lent ((c .before .before .before .before .before .before .before .before .before .before .before .before .before .before .before .args) .t1 .now) ((c .before .before .before .before .before .before .before .before .before .before .before .before .before .before .before .args) .t2 .now)) ((c .before .before .before .before .before .before .before .before .before .before .before .before .before .before .before .args) .scalars .now) ((c .before .before .before .before .before .before .before .before .before .before .before .before .before .before .before .args) .room) (c .before .before .before .before .before .before .before .before .before .before .before .if1 .left) (c .before .before .before .before .before .before .before .before .before .before .if2 .left) (sym (c .before .before .before .before .before .before .before .before .before .writes .ensures) ∙ not-false _ (c .before .before .before .before .before .before .before .before .if3 .left)) (c .before .before .before .before .before .before .if4 .left ∙ c .before .before .before .before .before .before .before .cells .ensures) (c .before .before .before .before .before .if5 .left) (c .before .before .before .before .if6 .left) (sym (c .before .before .before .all-scalars .ensures) ∙ not-false _ (c .before .before .if7 .left)) (c .before .count .result) (c .before .count .ensures) (c .if8 .left)
 
 pub refusal-spec : {M : Type 1} → statement M
 refusal-spec =
