@@ -16,7 +16,7 @@ use Rattle.standard.specs.Base.{_then_else_}
 use Rattle.standard.specs.Text.{bytes}
 use Rattle.standard.proofs.Tests.{split, and-both}
 use Rattle.labels.specs.Labels.{table, fold, start, trimmed, same, among, find, answer, label}
-use Rattle.labels.specs.LookUp.{rowGroup, group, groups, labels, startsFrom, starts, begins, seekIn, seek, number}
+use Rattle.labels.specs.LookUp.{rowGroup, group, groups, labelBytes, startsFrom, labelStarts, begins, seekIn, seek, number}
 use Rattle.labels.specs.declared.Found.{Found}
 use Rattle.labels.proofs.Known.{the-table, isSome, is-some, eachOf, each, each-rule, good-stands}
 use Rattle.labels.specs.Statements as statements
@@ -105,7 +105,7 @@ below-at p (suc n) i h g = split (eqb i n)
 
 -- The labels of n bytes, as the code cuts them out.
 abbrev pub groupAt : ℕ → List ℕ
-groupAt n = take (getD starts (n + 1) 0 - getD starts n 0) (drop (getD starts n 0) labels)
+groupAt n = take (getD labelStarts (n + 1) 0 - getD labelStarts n 0) (drop (getD labelStarts n 0) labelBytes)
 
 -- The look-up.
 abbrev pub look : List ℕ → Option ℕ
@@ -122,28 +122,28 @@ known (suc k) n g = ltb n (length g) then isSome (getD g n 0) (find (take n g) 0
 
 -- The test of a group: it lies within the labels, and its labels are known.
 goodGroup : ℕ → Bool
-goodGroup n = leb (getD starts n 0) (getD starts (n + 1) 0) && (leb (getD starts (n + 1) 0) 2316 && known (length (groupAt n)) n (groupAt n))
+goodGroup n = leb (getD labelStarts n 0) (getD labelStarts (n + 1) 0) && (leb (getD labelStarts (n + 1) 0) 2316 && known (length (groupAt n)) n (groupAt n))
 
 -- The labels pass, and so do the groups.
 all-looked : each looked 0 table ≡ true
-unfolding each eachOf looked table bytes labels groups group rowGroup starts startsFrom seekIn begins
+unfolding each eachOf looked table bytes labelBytes groups group rowGroup labelStarts startsFrom seekIn begins
 all-looked = refl
 
 all-groups : below goodGroup 20 ≡ true
-unfolding below goodGroup known table bytes labels groups group rowGroup starts startsFrom same among find
+unfolding below goodGroup known table bytes labelBytes groups group rowGroup labelStarts startsFrom same among find
 all-groups = refl
 
 -- The rule of a group.
 pub record Group (n : ℕ) : Type 0 where
-  pub ordered : getD starts n 0 ≤ getD starts (n + 1) 0
-  pub within : getD starts (n + 1) 0 ≤ 2316
+  pub ordered : getD labelStarts n 0 ≤ getD labelStarts (n + 1) 0
+  pub within : getD labelStarts (n + 1) 0 ≤ 2316
   pub all : known (length (groupAt n)) n (groupAt n) ≡ true
 
 pub group-rule : (n : ℕ) → n < 20 → Group n
 unfolding goodGroup
 group-rule n h =
-    let a = and-both (leb (getD starts n 0) (getD starts (n + 1) 0)) (leb (getD starts (n + 1) 0) 2316 && known (length (groupAt n)) n (groupAt n)) (below-at goodGroup 20 n all-groups h) in
-    let b = and-both (leb (getD starts (n + 1) 0) 2316) (known (length (groupAt n)) n (groupAt n)) (a .1) in
+    let a = and-both (leb (getD labelStarts n 0) (getD labelStarts (n + 1) 0)) (leb (getD labelStarts (n + 1) 0) 2316 && known (length (groupAt n)) n (groupAt n)) (below-at goodGroup 20 n all-groups h) in
+    let b = and-both (leb (getD labelStarts (n + 1) 0) 2316) (known (length (groupAt n)) n (groupAt n)) (a .1) in
     record { ordered = leb-true _ _ (a .0); within = leb-true _ _ (b .0); all = b .1 }
 
 -- What is sought and found in a group whose labels are known is found in the table.
@@ -206,11 +206,11 @@ far label h =
     ap number (sym p ∙ right (map fold label))
 
 -- The code's answer for another.
-pub near : (label constant : List ℕ) (r from to : ℕ) → length label ≤ 19 → from ≡ getD starts (length label) 0 → to ≡ getD starts (length label + 1) 0 →
-    r ≡ number (seek (map fold label) (take (to - from) (drop from constant))) → alike constant labels ≡ true → r ≡ number (find (map fold label) 0 table)
+pub near : (label constant : List ℕ) (r from to : ℕ) → length label ≤ 19 → from ≡ getD labelStarts (length label) 0 → to ≡ getD labelStarts (length label + 1) 0 →
+    r ≡ number (seek (map fold label) (take (to - from) (drop from constant))) → alike constant labelBytes ≡ true → r ≡ number (find (map fold label) 0 table)
 near label constant r from to h p q e t =
     let n : length (map fold label) ≡ length label = length-map label fold in
-    let g : take (to - from) (drop from constant) ≡ groupAt (length (map fold label)) = rw (p, q, n, alike-same constant labels t) in
+    let g : take (to - from) (drop from constant) ≡ groupAt (length (map fold label)) = rw (p, q, n, alike-same constant labelBytes t) in
     let k : look (map fold label) ≡ seek (map fold label) (groupAt (length (map fold label))) = rw (le-ltb 19 (length (map fold label)) (omega arith)) in
     e ∙ ap number (ap (seek (map fold label)) g ∙ sym k ∙ right (map fold label))
 

@@ -12,7 +12,7 @@ use borrow.Author.Tests.{lt-ltb, le-ltb, leb-true}
 use Rattle.standard.specs.Text.{bytes}
 use Rattle.standard.proofs.Tests.{and-both}
 use Rattle.labels.specs.Labels.{table, name, same, Naming, unnamed, naming}
-use Rattle.labels.specs.LookUp.{namesOf, nameStartsFrom, names, nameStarts}
+use Rattle.labels.specs.LookUp.{namesOf, nameStartsFrom, nameBytes, nameStarts}
 use Rattle.labels.specs.declared.Named.{Named}
 use Rattle.labels.proofs.Known.{same-bytes}
 use Rattle.labels.proofs.LookUp.{below, below-at, alike, alike-same}
@@ -21,17 +21,17 @@ use Rattle.labels.proofs.LookUp.{below, below-at, alike, alike-same}
 goodName : ℕ → Bool
 goodName e =
     leb (getD nameStarts e 0) (getD nameStarts (e + 1) 0) && (leb (getD nameStarts (e + 1) 0) 389 &&
-    same (take (getD nameStarts (e + 1) 0 - getD nameStarts e 0) (drop (getD nameStarts e 0) names)) (getD table e ("", []) .0))
+    same (take (getD nameStarts (e + 1) 0 - getD nameStarts e 0) (drop (getD nameStarts e 0) nameBytes)) (getD table e ("", []) .0))
 
 all-names : below goodName 40 ≡ true
-unfolding below goodName table bytes names namesOf nameStarts nameStartsFrom same
+unfolding below goodName table bytes nameBytes namesOf nameStarts nameStartsFrom same
 all-names = refl
 
 -- The rule of a name.
 pub record Placed (e : ℕ) : Type 0 where
   pub ordered : getD nameStarts e 0 ≤ getD nameStarts (e + 1) 0
   pub within : getD nameStarts (e + 1) 0 ≤ 389
-  pub is : take (getD nameStarts (e + 1) 0 - getD nameStarts e 0) (drop (getD nameStarts e 0) names) ≡ name e
+  pub is : take (getD nameStarts (e + 1) 0 - getD nameStarts e 0) (drop (getD nameStarts e 0) nameBytes) ≡ name e
 
 pub name-rule : (e : ℕ) → e < 40 → Placed e
 unfolding goodName name
@@ -41,19 +41,19 @@ name-rule e h =
     record { ordered = leb-true _ _ (a .0); within = leb-true _ _ (b .0); is = same-bytes _ _ (b .1) }
 
 -- So many bytes are there.
-names-length : length names ≡ 389
-unfolding names namesOf table bytes
+names-length : length nameBytes ≡ 389
+unfolding nameBytes namesOf table bytes
 names-length = refl
 
 -- The name call, for a name that lies from a to b.
 module _ (e a b : ℕ) (room : List ℕ) (p : a ≡ getD nameStarts e 0) (q : b ≡ getD nameStarts (e + 1) 0) (h : e < 40) where
-  placed : take (b - a) (drop a names) ≡ name e
+  placed : take (b - a) (drop a nameBytes) ≡ name e
   placed = rw (p, q) (name-rule e h .is)
 
   pub name-length : b - a ≡ length (name e)
   name-length =
       let r = name-rule e h in
-      sym (length-take-le (b - a) (drop a names) (simp length-drop (omega (arith, names-length, r .within)))) ∙ ap length placed
+      sym (length-take-le (b - a) (drop a nameBytes) (simp length-drop (omega (arith, names-length, r .within)))) ∙ ap length placed
 
   pub name-short : length room < b - a → naming e room ≡ unnamed 7 room
   unfolding naming
@@ -66,9 +66,9 @@ module _ (e a b : ℕ) (room : List ℕ) (p : a ≡ getD nameStarts e 0) (q : b 
   pub name-answer : b - a ≤ length room → _≡_ {A = Named} (record { length = b - a; refusal = 0 }) (naming e room .answer)
   name-answer f = sym (ap (λ (n : Naming). n .answer) (fits f) ∙ rw (← name-length))
 
-  pub name-room : (constant after : List ℕ) → b - a ≤ length room → after ≡ take (b - a) (drop a constant) ++ drop (b - a) room → alike constant names ≡ true → after ≡ naming e room .room
+  pub name-room : (constant after : List ℕ) → b - a ≤ length room → after ≡ take (b - a) (drop a constant) ++ drop (b - a) room → alike constant nameBytes ≡ true → after ≡ naming e room .room
   name-room constant after f o t =
-      let c : take (b - a) (drop a constant) ≡ name e = ap (λ l. take (b - a) (drop a l)) (alike-same constant names t) ∙ placed in
+      let c : take (b - a) (drop a constant) ≡ name e = ap (λ l. take (b - a) (drop a l)) (alike-same constant nameBytes t) ∙ placed in
       o ∙ rw c (sym (ap (λ (n : Naming). n .room) (fits f) ∙ rw (← name-length)))
 
 pub name-above : (e : ℕ) (room : List ℕ) → 39 < e → naming e room ≡ unnamed 2 room

@@ -27,8 +27,8 @@ groups n zero = []
 groups n (suc k) = group n 0 table ++ groups (suc n) k
 
 -- The labels of 0 to 19 bytes.
-unfoldable pub labels : List ℕ
-labels = groups 0 20
+unfoldable pub labelBytes : List ℕ
+labelBytes = groups 0 20
 
 -- Where each of k groups starts, the first at a, and where the last ends.
 unfoldable pub startsFrom : ℕ → ℕ → ℕ → List ℕ
@@ -36,8 +36,8 @@ startsFrom a n zero = a ∷ []
 startsFrom a n (suc k) = a ∷ startsFrom (a + length (group n 0 table)) (suc n) k
 
 -- Where the labels of each length start.
-unfoldable pub starts : List ℕ
-starts = startsFrom 0 0 20
+unfoldable pub labelStarts : List ℕ
+labelStarts = startsFrom 0 0 20
 
 -- The names of some rows, and where each starts.
 unfoldable pub namesOf : List (String × List String) → List ℕ
@@ -48,8 +48,8 @@ unfoldable pub nameStartsFrom : ℕ → List (String × List String) → List �
 nameStartsFrom a [] = a ∷ []
 nameStartsFrom a (r ∷ rs) = a ∷ nameStartsFrom (a + length (bytes (r .0))) rs
 
-unfoldable pub names : List ℕ
-names = namesOf table
+unfoldable pub nameBytes : List ℕ
+nameBytes = namesOf table
 
 unfoldable pub nameStarts : List ℕ
 nameStarts = nameStartsFrom 0 table

@@ -10,7 +10,7 @@ ghost use mathlib.Core.List.{map, _++_};
 ghost use Prim.Native.Nat.{_+_, _-_, _≤_, _<_};
 ghost use lib.ListN.{length, getD, take, drop};
 ghost use Rattle.labels.specs.Labels.{table, white, fold, start, trimmed, find, label, naming};
-ghost use Rattle.labels.specs.LookUp.{starts, nameStarts, untail, begins, seek, number};
+ghost use Rattle.labels.specs.LookUp.{labelStarts, nameStarts, untail, begins, seek, number};
 
 // What the label call answers: where the trimmed label lies in the caller's bytes, the refusal number or 0, and the encoding number.
 #[repr(C)]
@@ -131,7 +131,7 @@ fn seek(label: &[u8], group: &[u8]) -> u8
 // Where the labels of n bytes start.
 fn group_start(n: usize) -> usize
     requires { ⌜ n < 21 ⌝ }
-    ensures { λ r. ⌜ r ≡ getD starts n 0 ⌝ }
+    ensures { λ r. ⌜ r ≡ getD labelStarts n 0 ⌝ }
 {
     STARTS[n]
 }

@@ -4,7 +4,7 @@ use native.Mathlib.Omega.{arith}
 use lib.ListN.{length}
 use borrow.Author.Needs.{needs}
 use Rattle.standard.specs.Text.{bytes}
-use Rattle.labels.specs.LookUp.{labels, groups, group, rowGroup}
+use Rattle.labels.specs.LookUp.{labelBytes, groups, group, rowGroup}
 use Rattle.labels.specs.Labels.{table}
 use Rattle.labels.proofs.LookUp.{group-rule, alike, far, near}
 use Rattle.labels.proofs.encoding_of.Statement.{statement}
@@ -31,7 +31,7 @@ seek-between-requires c κs =
     (omega (arith, group-rule (length (args .label .now)) (omega arith) .ordered), omega (arith, group-rule (length (args .label .now)) (omega arith) .within))
 
 returns-2 : tie.Need-returns-2
-unfolding alike labels groups group rowGroup table bytes
+unfolding alike labelBytes groups group rowGroup table bytes
 returns-2 c =
     let args = c .before .before .before .before .before .before .args in
     let at-group-start = c .before .before .group-start in

@@ -3,7 +3,7 @@ use mathlib.Core.Path.{refl, sym, ap}
 use native.Mathlib.Omega.{arith}
 use borrow.Author.Needs.{needs}
 use Rattle.standard.specs.Text.{bytes}
-use Rattle.labels.specs.LookUp.{names, namesOf}
+use Rattle.labels.specs.LookUp.{nameBytes, namesOf}
 use Rattle.labels.specs.Labels.{table, Naming}
 use Rattle.labels.proofs.LookUp.{alike}
 use Rattle.labels.proofs.Names.{name-rule, name-above, name-short, name-answer, name-room}
@@ -46,7 +46,7 @@ same-length : tie.Need-same-length
 same-length c = search needs
 
 returns-3 : tie.Need-returns-3
-unfolding alike names namesOf table bytes
+unfolding alike nameBytes namesOf table bytes
 returns-3 c =
     let args = c .before .before .before .before .before .before .before .before .before .before .args in
     let at-name-start = c .before .before .before .before .before .before .before .name-start in
