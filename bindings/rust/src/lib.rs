@@ -1,0 +1,629 @@
+//! The labels, decoders and encoders of the Encoding Standard: a safe wrapper of the proved library `hamvukile`.
+//!
+//! The library allocates nothing and keeps nothing between calls: text goes in and out through lent slices, and the
+//! index tables of the standard are the caller's, lent to each call that may read them ([`Tables`]).
+//!
+//! ```
+//! use hamvukile::{Decoder, Encoding, Mark, OnError, Tables};
+//!
+//! let encoding = Encoding::from_label(b" Latin1").unwrap();
+//! assert_eq!(encoding.name().as_str(), "windows-1252");
+//!
+//! let mut decoder = Decoder::new(encoding, OnError::Replace, Mark::Drop);
+//! let mut room = [0; 8];
+//! let n = decoder.feed(b"\x80\x09A", &Tables::none(), &mut room).unwrap();
+//! assert_eq!(room[..n], [0x20AC, 0x09, 0x41]);
+//! let mut last = [0; 3];
+//! assert_eq!(decoder.finish(&mut last), Ok(0));
+//! ```
+#![warn(missing_docs)]
+
+mod ffi;
+
+use std::fmt;
+use std::ops::Deref;
+
+/// The longest chunk that [`Decoder::feed`] takes, in bytes.
+pub const MAX_CHUNK: usize = 65_536;
+/// The most scalars that [`encode`] takes.
+pub const MAX_SCALARS: usize = 16_384;
+/// The longest line that [`index_line`] takes, in bytes.
+pub const MAX_LINE: usize = 1_024;
+/// The most bytes that a decoder holds.
+pub const MAX_HELD: usize = 3;
+/// The most bytes that [`encode`] writes for a scalar.
+pub const MAX_BYTES_OF_A_SCALAR: usize = 10;
+const MAX_NAME: usize = 14;
+
+/// Why a call was refused, by the library's numbers.
+#[derive(Clone, Copy, Debug, PartialEq, Eq, Hash)]
+#[repr(u8)]
+pub enum Refusal {
+    /// The standard's table has no such label.
+    UnknownLabel = 1,
+    /// The encoding number is above 39.
+    UnknownEncoding = 2,
+    /// The mode, or the rule for the byte order mark, is above 1.
+    UnknownMode = 3,
+    /// A lent table has not the length that the encoding asks for.
+    WrongTable = 4,
+    /// No opening and no feed leave a decoder with these fields.
+    ForgedDecoder = 5,
+    /// The decoder has ended.
+    EndedDecoder = 6,
+    /// The lent room is smaller than the call asks for.
+    SmallRoom = 7,
+    /// A chunk, a list of scalars or a line is above its limit.
+    TooLong = 8,
+    /// This encoding can be read, and not written.
+    NoEncoder = 9,
+    /// Among the numbers to write is one that is no scalar.
+    NotScalar = 10,
+    /// An error was met where errors are refused. What stands before it is written.
+    Malformed = 11,
+    /// The line is no line of an index file.
+    BadLine = 12,
+    /// The line's pointer is not below the table's length, or its cell is not 0.
+    TakenCell = 13,
+}
+
+impl Refusal {
+    /// The refusal's number.
+    pub fn number(self) -> u8 {
+        self as u8
+    }
+
+    fn of(number: u8) -> Refusal {
+        match number {
+            1 => Refusal::UnknownLabel,
+            2 => Refusal::UnknownEncoding,
+            3 => Refusal::UnknownMode,
+            4 => Refusal::WrongTable,
+            5 => Refusal::ForgedDecoder,
+            6 => Refusal::EndedDecoder,
+            7 => Refusal::SmallRoom,
+            8 => Refusal::TooLong,
+            9 => Refusal::NoEncoder,
+            10 => Refusal::NotScalar,
+            11 => Refusal::Malformed,
+            12 => Refusal::BadLine,
+            13 => Refusal::TakenCell,
+            _ => unreachable!("the library has no refusal {number}"),
+        }
+    }
+}
+
+impl fmt::Display for Refusal {
+    fn fmt(&self, f: &mut fmt::Formatter<'_>) -> fmt::Result {
+        f.write_str(match self {
+            Refusal::UnknownLabel => "unknown label",
+            Refusal::UnknownEncoding => "encoding number above 39",
+            Refusal::UnknownMode => "mode or rule above 1",
+            Refusal::WrongTable => "a lent table has not the length that the encoding asks for",
+            Refusal::ForgedDecoder => "not a decoder that calls leave",
+            Refusal::EndedDecoder => "the decoder has ended",
+            Refusal::SmallRoom => "the lent room is too small",
+            Refusal::TooLong => "the input is above its limit",
+            Refusal::NoEncoder => "no encoder for this encoding",
+            Refusal::NotScalar => "a number that is no scalar",
+            Refusal::Malformed => "malformed text, or a scalar that cannot be written",
+            Refusal::BadLine => "not a line of an index file",
+            Refusal::TakenCell => "no free cell at the line's pointer",
+        })
+    }
+}
+
+/// What a call answers that was refused, or that met an error where errors are refused.
+#[derive(Clone, Copy, Debug, PartialEq, Eq)]
+pub struct Error {
+    /// Why.
+    pub refusal: Refusal,
+    /// With [`Refusal::Malformed`] how much is written at the front of the room; else 0, and nothing is written.
+    pub written: usize,
+    /// With [`Refusal::Malformed`] of [`encode`] the index of the scalar that cannot be written; else 0.
+    pub index: usize,
+}
+
+impl fmt::Display for Error {
+    fn fmt(&self, f: &mut fmt::Formatter<'_>) -> fmt::Result {
+        self.refusal.fmt(f)
+    }
+}
+
+impl std::error::Error for Error {}
+
+fn result(refusal: u8, written: usize, index: usize) -> Result<usize, Error> {
+    match refusal {
+        0 => Ok(written),
+        n => Err(Error {
+            refusal: Refusal::of(n),
+            written,
+            index,
+        }),
+    }
+}
+
+/// One of the 40 encodings.
+///
+/// ```
+/// use hamvukile::Encoding;
+///
+/// let encoding = Encoding::from_label(b"  sjis\n").unwrap();
+/// assert_eq!(encoding, Encoding::SHIFT_JIS);
+/// assert_eq!(encoding.number(), 34);
+/// assert_eq!(encoding.name().as_str(), "Shift_JIS");
+/// assert_eq!(Encoding::from_label(b"klingon"), None);
+/// assert_eq!(Encoding::from_number(40), None);
+/// ```
+#[derive(Clone, Copy, Debug, PartialEq, Eq, Hash, PartialOrd, Ord)]
+pub struct Encoding(u8);
+
+impl Encoding {
+    /// UTF-8.
+    pub const UTF_8: Encoding = Encoding(0);
+    /// windows-1252, whose table is built in.
+    pub const WINDOWS_1252: Encoding = Encoding(21);
+    /// GBK.
+    pub const GBK: Encoding = Encoding(29);
+    /// gb18030.
+    pub const GB18030: Encoding = Encoding(30);
+    /// Big5.
+    pub const BIG5: Encoding = Encoding(31);
+    /// EUC-JP.
+    pub const EUC_JP: Encoding = Encoding(32);
+    /// ISO-2022-JP.
+    pub const ISO_2022_JP: Encoding = Encoding(33);
+    /// Shift_JIS.
+    pub const SHIFT_JIS: Encoding = Encoding(34);
+    /// EUC-KR.
+    pub const EUC_KR: Encoding = Encoding(35);
+    /// replacement.
+    pub const REPLACEMENT: Encoding = Encoding(36);
+    /// UTF-16BE.
+    pub const UTF_16BE: Encoding = Encoding(37);
+    /// UTF-16LE.
+    pub const UTF_16LE: Encoding = Encoding(38);
+    /// x-user-defined.
+    pub const X_USER_DEFINED: Encoding = Encoding(39);
+
+    /// The encoding with this number, 0 to 39.
+    pub fn from_number(number: u8) -> Option<Encoding> {
+        (number <= 39).then_some(Encoding(number))
+    }
+
+    /// The encoding's number.
+    pub fn number(self) -> u8 {
+        self.0
+    }
+
+    /// The encoding of a label. White space at both ends and the case of ASCII letters do not matter.
+    pub fn from_label(label: &[u8]) -> Option<Encoding> {
+        Encoding::find(label).map(|found| found.0)
+    }
+
+    /// The encoding of a label, and the label without the white space at both ends.
+    ///
+    /// ```
+    /// use hamvukile::Encoding;
+    ///
+    /// assert_eq!(Encoding::find(b" UTF8\r\n"), Some((Encoding::UTF_8, &b"UTF8"[..])));
+    /// ```
+    pub fn find(label: &[u8]) -> Option<(Encoding, &[u8])> {
+        // SAFETY: the call reads the slice, which is valid for its length.
+        let found = unsafe { ffi::hamvukile_label(label.as_ptr(), label.len()) };
+        (found.refusal == 0).then(|| {
+            (
+                Encoding(found.encoding),
+                &label[found.start..found.start + found.length],
+            )
+        })
+    }
+
+    /// The encoding's name.
+    pub fn name(self) -> Name {
+        let mut bytes = [0; MAX_NAME];
+        // SAFETY: the call writes within the array.
+        let named = unsafe { ffi::hamvukile_name(self.0, bytes.as_mut_ptr(), bytes.len()) };
+        debug_assert_eq!(named.refusal, 0);
+        Name {
+            bytes,
+            length: named.length,
+        }
+    }
+}
+
+impl fmt::Display for Encoding {
+    fn fmt(&self, f: &mut fmt::Formatter<'_>) -> fmt::Result {
+        f.write_str(&self.name())
+    }
+}
+
+/// An encoding's name. It is a `str`.
+#[derive(Clone, Copy, PartialEq, Eq)]
+pub struct Name {
+    bytes: [u8; MAX_NAME],
+    length: usize,
+}
+
+impl Name {
+    /// The name.
+    pub fn as_str(&self) -> &str {
+        std::str::from_utf8(&self.bytes[..self.length]).expect("a name is ASCII")
+    }
+}
+
+impl Deref for Name {
+    type Target = str;
+
+    fn deref(&self) -> &str {
+        self.as_str()
+    }
+}
+
+impl fmt::Debug for Name {
+    fn fmt(&self, f: &mut fmt::Formatter<'_>) -> fmt::Result {
+        fmt::Debug::fmt(self.as_str(), f)
+    }
+}
+
+/// The two tables that a call is lent. A cell that is not a scalar of at least 0x80 counts as unmapped.
+///
+/// There is a constructor for each shape, so that a table of a wrong length does not compile:
+///
+/// ```
+/// use hamvukile::Tables;
+///
+/// let jis0208 = vec![0; 11_280];
+/// let tables = Tables::jis0208(jis0208.as_slice().try_into().unwrap());
+/// ```
+///
+/// ```compile_fail
+/// # use hamvukile::Tables;
+/// let tables = Tables::jis0208(&[0; 11_279]);
+/// ```
+#[derive(Clone, Copy, Debug)]
+pub struct Tables<'a> {
+    first: &'a [u32],
+    second: &'a [u32],
+}
+
+impl<'a> Tables<'a> {
+    /// For UTF-8, windows-1252, replacement, UTF-16 and x-user-defined.
+    pub const fn none() -> Tables<'static> {
+        Tables {
+            first: &[],
+            second: &[],
+        }
+    }
+
+    /// For the single-byte encodings other than windows-1252.
+    pub const fn single_byte(index: &'a [u32; 128]) -> Tables<'a> {
+        Tables {
+            first: index,
+            second: &[],
+        }
+    }
+
+    /// For GBK and gb18030: the index, and the ranges as pointer and code point in turn. `None` where the ranges are of
+    /// odd length or more than 207 pairs.
+    pub fn gb18030(index: &'a [u32; 23_940], ranges: &'a [u32]) -> Option<Tables<'a>> {
+        (ranges.len() % 2 == 0 && ranges.len() <= 414).then_some(Tables {
+            first: index,
+            second: ranges,
+        })
+    }
+
+    /// For Big5.
+    pub const fn big5(index: &'a [u32; 19_782]) -> Tables<'a> {
+        Tables {
+            first: index,
+            second: &[],
+        }
+    }
+
+    /// For EUC-JP.
+    pub const fn euc_jp(jis0208: &'a [u32; 11_280], jis0212: &'a [u32; 8_836]) -> Tables<'a> {
+        Tables {
+            first: jis0208,
+            second: jis0212,
+        }
+    }
+
+    /// For ISO-2022-JP and Shift_JIS.
+    pub const fn jis0208(jis0208: &'a [u32; 11_280]) -> Tables<'a> {
+        Tables {
+            first: jis0208,
+            second: &[],
+        }
+    }
+
+    /// For EUC-KR.
+    pub const fn euc_kr(index: &'a [u32; 23_940]) -> Tables<'a> {
+        Tables {
+            first: index,
+            second: &[],
+        }
+    }
+
+    /// Any two slices. A call refuses them with [`Refusal::WrongTable`] where their lengths do not suit its encoding.
+    pub const fn of(first: &'a [u32], second: &'a [u32]) -> Tables<'a> {
+        Tables { first, second }
+    }
+}
+
+/// What a decoder does with malformed text.
+#[derive(Clone, Copy, Debug, PartialEq, Eq)]
+pub enum OnError {
+    /// It writes U+FFFD and goes on.
+    Replace = 0,
+    /// It ends with [`Refusal::Malformed`].
+    Refuse = 1,
+}
+
+/// What a decoder does with a U+FEFF at the very front of UTF-8 or UTF-16.
+#[derive(Clone, Copy, Debug, PartialEq, Eq)]
+pub enum Mark {
+    /// It drops it.
+    Drop = 0,
+    /// It keeps it.
+    Keep = 1,
+}
+
+/// A decoder: it owns its state. Text may be cut into chunks anywhere.
+///
+/// ```
+/// use hamvukile::{Decoder, Encoding, Mark, OnError, Refusal, Tables};
+///
+/// let mut decoder = Decoder::new(Encoding::UTF_8, OnError::Replace, Mark::Drop);
+/// let mut room = [0; 4];
+/// assert_eq!(decoder.feed(b"\xE2\x82", &Tables::none(), &mut room), Ok(0));
+/// assert_eq!(decoder.held(), 2);
+/// // a room of one cell is too small for a chunk of one byte with two held
+/// let refused = decoder.feed(b"\xAC", &Tables::none(), &mut room[..1]).unwrap_err();
+/// assert_eq!(refused.refusal, Refusal::SmallRoom);
+/// assert_eq!(decoder.feed(b"\xAC", &Tables::none(), &mut room), Ok(1));
+/// assert_eq!(room[0], 0x20AC);
+/// ```
+///
+/// Where errors are refused, what stands before the error is written, and the decoder has ended:
+///
+/// ```
+/// # use hamvukile::{Decoder, Encoding, Mark, OnError, Refusal, Tables};
+/// let mut decoder = Decoder::new(Encoding::UTF_8, OnError::Refuse, Mark::Drop);
+/// let mut room = [0; 3];
+/// let report = decoder.feed(b"A\xFFB", &Tables::none(), &mut room).unwrap_err();
+/// assert_eq!((report.refusal, report.written), (Refusal::Malformed, 1));
+/// assert!(decoder.is_ended());
+/// let after = decoder.feed(b"B", &Tables::none(), &mut room).unwrap_err();
+/// assert_eq!(after.refusal, Refusal::EndedDecoder);
+/// ```
+#[derive(Clone, Debug, PartialEq, Eq)]
+pub struct Decoder {
+    state: ffi::Decoder,
+}
+
+impl Decoder {
+    /// A new decoder.
+    pub fn new(encoding: Encoding, on_error: OnError, mark: Mark) -> Decoder {
+        // SAFETY: the call reads numbers only.
+        let answer = unsafe { ffi::hamvukile_open(encoding.0, on_error as u8, mark as u8) };
+        debug_assert_eq!(answer.refusal, 0);
+        Decoder {
+            state: answer.decoder,
+        }
+    }
+
+    /// How many bytes it holds: the unfinished last ones of those fed.
+    pub fn held(&self) -> usize {
+        self.state.held.into()
+    }
+
+    /// The room that a feed of so many bytes needs.
+    pub fn room_for(&self, chunk: usize) -> usize {
+        chunk + self.held()
+    }
+
+    /// Has it ended?
+    pub fn is_ended(&self) -> bool {
+        self.state.ended != 0
+    }
+
+    /// Takes the whole chunk, at most [`MAX_CHUNK`] bytes, and writes the scalars to the front of the room, which has at
+    /// least [`Decoder::room_for`] cells. Returns how many; the cells behind them do not change.
+    pub fn feed(
+        &mut self,
+        chunk: &[u8],
+        tables: &Tables<'_>,
+        room: &mut [u32],
+    ) -> Result<usize, Error> {
+        // SAFETY: each slice is valid for its length; the room, borrowed mutably, overlaps no other.
+        let answer = unsafe {
+            ffi::hamvukile_feed(
+                self.state,
+                chunk.as_ptr(),
+                chunk.len(),
+                tables.first.as_ptr(),
+                tables.first.len(),
+                tables.second.as_ptr(),
+                tables.second.len(),
+                room.as_mut_ptr(),
+                room.len(),
+            )
+        };
+        self.state = answer.decoder;
+        result(answer.refusal, answer.written, 0)
+    }
+
+    /// The end of the text: writes what the bytes held give, and returns how many scalars.
+    pub fn finish(self, room: &mut [u32; MAX_HELD]) -> Result<usize, Error> {
+        // SAFETY: the call writes within the array.
+        let answer = unsafe { ffi::hamvukile_finish(self.state, room.as_mut_ptr(), room.len()) };
+        result(answer.refusal, answer.written, 0)
+    }
+}
+
+/// Decodes a whole text, with U+FFFD for each error.
+///
+/// ```
+/// use hamvukile::{decode, Encoding, Mark, Tables};
+///
+/// assert_eq!(decode(Encoding::UTF_16LE, Mark::Drop, &Tables::none(), b"\xFF\xFEh\0i\0").unwrap(), "hi");
+/// assert_eq!(decode(Encoding::UTF_8, Mark::Drop, &Tables::none(), b"\xE2\x82").unwrap(), "\u{FFFD}");
+/// ```
+pub fn decode(
+    encoding: Encoding,
+    mark: Mark,
+    tables: &Tables<'_>,
+    text: &[u8],
+) -> Result<String, Error> {
+    let mut decoder = Decoder::new(encoding, OnError::Replace, mark);
+    let mut room = vec![0; text.len().min(MAX_CHUNK) + MAX_HELD];
+    let mut last = [0; MAX_HELD];
+    let mut out = String::with_capacity(text.len());
+    let mut chunks = text.chunks(MAX_CHUNK);
+    // an empty text has one empty chunk, so that the tables are looked at
+    let mut chunk = chunks.next().unwrap_or(&[]);
+    loop {
+        let n = decoder.feed(chunk, tables, &mut room)?;
+        out.extend(room[..n].iter().map(scalar));
+        match chunks.next() {
+            Some(next) => chunk = next,
+            None => break,
+        }
+    }
+    let n = decoder.finish(&mut last)?;
+    out.extend(last[..n].iter().map(scalar));
+    Ok(out)
+}
+
+fn scalar(c: &u32) -> char {
+    char::from_u32(*c).expect("a decoder writes scalars")
+}
+
+/// What an encoder does with a scalar that cannot be written.
+#[derive(Clone, Copy, Debug, PartialEq, Eq)]
+pub enum OnUnwritable {
+    /// It writes a reference, as `&#19968;`.
+    Html = 0,
+    /// It stops with [`Refusal::Malformed`].
+    Refuse = 1,
+}
+
+/// Encodes scalars, at most [`MAX_SCALARS`], as UTF-8, a single-byte encoding or x-user-defined: writes the bytes to the
+/// front of the room and returns how many; the bytes behind them do not change. The room needs the bytes written and no
+/// more, at most [`MAX_BYTES_OF_A_SCALAR`] for each scalar.
+///
+/// ```
+/// use hamvukile::{encode, Encoding, OnUnwritable, Refusal, Tables};
+///
+/// let mut room = [0; 16];
+/// let n = encode(Encoding::WINDOWS_1252, OnUnwritable::Html, &[0x20AC, 0x4E00], &Tables::none(), &mut room).unwrap();
+/// assert_eq!(&room[..n], b"\x80&#19968;");
+///
+/// let report = encode(Encoding::WINDOWS_1252, OnUnwritable::Refuse, &[0x20AC, 0x4E00], &Tables::none(), &mut room).unwrap_err();
+/// assert_eq!((report.refusal, report.written, report.index), (Refusal::Malformed, 1, 1));
+/// ```
+pub fn encode(
+    encoding: Encoding,
+    on_unwritable: OnUnwritable,
+    scalars: &[u32],
+    tables: &Tables<'_>,
+    room: &mut [u8],
+) -> Result<usize, Error> {
+    // SAFETY: each slice is valid for its length; the room, borrowed mutably, overlaps no other.
+    let answer = unsafe {
+        ffi::hamvukile_encode(
+            encoding.0,
+            on_unwritable as u8,
+            scalars.as_ptr(),
+            scalars.len(),
+            tables.first.as_ptr(),
+            tables.first.len(),
+            tables.second.as_ptr(),
+            tables.second.len(),
+            room.as_mut_ptr(),
+            room.len(),
+        )
+    };
+    result(answer.refusal, answer.written, answer.index)
+}
+
+/// Enters a line of a published index file, without its line feed, into a table that starts as zeros. Returns the
+/// pointer of the entry, or `None` for an empty line and a comment.
+///
+/// ```
+/// use hamvukile::{index_line, Refusal};
+///
+/// let mut table = [0; 128];
+/// assert_eq!(index_line(b"# a comment", &mut table), Ok(None));
+/// assert_eq!(index_line(b"  1\t0x00E9\t\xC3\xA9 (LATIN SMALL LETTER E WITH ACUTE)", &mut table), Ok(Some(1)));
+/// assert_eq!(table[1], 0xE9);
+/// assert_eq!(index_line(b"1\t0x00E9", &mut table).unwrap_err().refusal, Refusal::TakenCell);
+/// assert_eq!(index_line(b"1 0x00E9", &mut table).unwrap_err().refusal, Refusal::BadLine);
+/// ```
+pub fn index_line(line: &[u8], table: &mut [u32]) -> Result<Option<u32>, Error> {
+    // SAFETY: each slice is valid for its length; the table, borrowed mutably, does not overlap the line.
+    let answer = unsafe {
+        ffi::hamvukile_index_line(line.as_ptr(), line.len(), table.as_mut_ptr(), table.len())
+    };
+    result(answer.refusal, 0, 0).map(|_| (answer.entry == 1).then_some(answer.pointer))
+}
+
+#[cfg(test)]
+mod tests {
+    use super::*;
+
+    #[test]
+    fn every_name_is_a_label_of_its_encoding() {
+        for number in 0..40 {
+            let encoding = Encoding::from_number(number).unwrap();
+            assert_eq!(
+                Encoding::from_label(encoding.name().as_bytes()),
+                Some(encoding)
+            );
+        }
+    }
+
+    #[test]
+    fn each_refusal_has_its_number() {
+        for number in 1..14 {
+            assert_eq!(Refusal::of(number).number(), number);
+        }
+    }
+
+    #[test]
+    fn a_text_cut_anywhere_is_the_same() {
+        let text = "a\u{e9}\u{20ac}\u{1f4a9}".as_bytes();
+        for cut in 0..=text.len() {
+            let mut decoder = Decoder::new(Encoding::UTF_8, OnError::Refuse, Mark::Keep);
+            let mut room = [0; 16];
+            let a = decoder
+                .feed(&text[..cut], &Tables::none(), &mut room)
+                .unwrap();
+            let b = decoder
+                .feed(&text[cut..], &Tables::none(), &mut room[a..])
+                .unwrap();
+            assert_eq!(room[..a + b], [0x61, 0xe9, 0x20ac, 0x1f4a9]);
+            assert_eq!(decoder.finish(&mut [0; MAX_HELD]), Ok(0));
+        }
+    }
+
+    #[test]
+    fn tables_of_another_encoding_are_refused() {
+        let index = [0; 128];
+        let mut decoder = Decoder::new(Encoding::UTF_8, OnError::Replace, Mark::Drop);
+        let error = decoder
+            .feed(b"", &Tables::single_byte(&index), &mut [])
+            .unwrap_err();
+        assert_eq!(error.refusal, Refusal::WrongTable);
+        assert_eq!(
+            decoder,
+            Decoder::new(Encoding::UTF_8, OnError::Replace, Mark::Drop)
+        );
+    }
+
+    #[test]
+    fn a_decoder_is_nine_bytes() {
+        assert_eq!(std::mem::size_of::<Decoder>(), 9);
+    }
+}

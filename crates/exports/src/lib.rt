@@ -1,0 +1,83 @@
+// The public calls by their C names: include/hamvukile.h is their manual. Each answers what the call of its own crate answers.
+// A slice is a pointer and a length. Trimming, whose result is a part of the caller's bytes, reaches C as start and length of the label call.
+ghost use mathlib.Core.Path.{_≡_};
+ghost use Rattle.labels.specs.Labels.{label, naming};
+ghost use Rattle.index.specs.IndexCall.{indexLine};
+ghost use Rattle.decoder.specs.Calls.{opening, feeding, finishing};
+ghost use Rattle.encoder.specs.Writer.{encoding as writing};
+ghost use Rattle.exports.specs.Lent.{lent};
+use decoder::Answer;
+use decoder::Decoder;
+use encoder::Written;
+use index::Line;
+use labels::Found;
+use labels::Named;
+
+// The label call.
+#[no_mangle]
+pub extern "C" fn hamvukile_label(bytes: &[u8]) -> Found
+    ensures { λ r. ⌜ r ≡ label (now (bytes .entry)) ⌝ }
+{
+    labels::find_label(bytes)
+}
+
+// The name call.
+#[no_mangle]
+pub extern "C" fn hamvukile_name(encoding: u8, room: &mut [u8]) -> Named
+    ensures { λ r. ⌜ (r ≡ naming encoding (now (room .entry)) .answer) × (now (room .exit) ≡ naming encoding (now (room .entry)) .room) ⌝ }
+{
+    labels::name(encoding, room)
+}
+
+// The index line call.
+#[no_mangle]
+pub extern "C" fn hamvukile_index_line(line: &[u8], table: &mut [u32]) -> Line
+    ensures { λ r. ⌜ (r ≡ indexLine (now (line .entry)) (now (table .entry)) .answer) × (now (table .exit) ≡ indexLine (now (line .entry)) (now (table .entry)) .table) ⌝ }
+{
+    index::index_line(line, table)
+}
+
+// Opening.
+#[no_mangle]
+pub extern "C" fn hamvukile_open(encoding: u8, mode: u8, rule: u8) -> Answer
+    ensures { λ r. ⌜ r ≡ opening encoding mode rule ⌝ }
+{
+    Decoder::open(encoding, mode, rule)
+}
+
+// Feed.
+#[no_mangle]
+pub extern "C" fn hamvukile_feed(
+    decoder: Decoder,
+    chunk: &[u8],
+    first: &[u32],
+    second: &[u32],
+    room: &mut [u32],
+) -> Answer
+    ensures { λ r. ⌜ (r ≡ feeding decoder (lent (now (first .entry)) (now (second .entry))) (now (chunk .entry)) (now (room .entry)) .answer) × (now (room .exit) ≡ feeding decoder (lent (now (first .entry)) (now (second .entry))) (now (chunk .entry)) (now (room .entry)) .room) ⌝ }
+{
+    decoder.feed(chunk, first, second, room)
+}
+
+// Finish.
+#[no_mangle]
+pub extern "C" fn hamvukile_finish(decoder: Decoder, room: &mut [u32]) -> Answer
+    ensures { λ r. ⌜ (r ≡ finishing decoder (now (room .entry)) .answer) × (now (room .exit) ≡ finishing decoder (now (room .entry)) .room) ⌝ }
+{
+    decoder.finish(room)
+}
+
+// Writing.
+#[no_mangle]
+pub extern "C" fn hamvukile_encode(
+    encoding: u8,
+    mode: u8,
+    scalars: &[u32],
+    first: &[u32],
+    second: &[u32],
+    room: &mut [u8],
+) -> Written
+    ensures { λ r. ⌜ (r ≡ writing encoding mode (lent (now (first .entry)) (now (second .entry))) (now (scalars .entry)) (now (room .entry)) .answer) × (now (room .exit) ≡ writing encoding mode (lent (now (first .entry)) (now (second .entry))) (now (scalars .entry)) (now (room .entry)) .room) ⌝ }
+{
+    encoder::encode(encoding, mode, scalars, first, second, room)
+}

@@ -1,0 +1,212 @@
+/*
+ * hamvukile: the labels, decoders and encoders of the Encoding Standard, for C (C99).
+ *
+ * No call keeps anything between calls, allocates, blocks, or reads or writes memory other than what it is lent.
+ * What a call answers follows from its arguments alone, so any number of threads may call at once.
+ * Lent memory is given as a pointer and a count of elements. It has to be valid for that many elements during the
+ * call; with a count of 0 the pointer may be anything, also NULL. A part that is lent to be written (no `const`) may
+ * not overlap any other part lent to the same call.
+ *
+ * A refused call leaves everything as it was: it writes nothing, and hands the decoder back as it came.
+ * There is one exception, HAMVUKILE_MALFORMED: see there.
+ *
+ * An example: the bytes 80 09 41 as Latin-1. The program prints U+20AC, U+0009, U+0041.
+ *
+ *     #include <stdio.h>
+ *     #include "hamvukile.h"
+ *
+ *     int main(void) {
+ *         const uint8_t text[] = { 0x80, 0x09, 0x41 };
+ *         uint32_t room[3];
+ *         hamvukile_found found = hamvukile_label((const uint8_t *)" Latin1", 7);
+ *         if (found.refusal != 0) return 1;
+ *         hamvukile_answer answer = hamvukile_open(found.encoding, HAMVUKILE_REPLACING, HAMVUKILE_DROP_MARK);
+ *         answer = hamvukile_feed(answer.decoder, text, 3, NULL, 0, NULL, 0, room, 3);
+ *         if (answer.refusal != 0) return 1;
+ *         for (size_t i = 0; i < answer.written; i++) printf("U+%04lX\n", (unsigned long)room[i]);
+ *         answer = hamvukile_finish(answer.decoder, room, 3);
+ *         return answer.refusal;
+ *     }
+ *
+ * Link it with libhamvukile.a, which is for x86-64 Linux.
+ */
+#ifndef HAMVUKILE_H
+#define HAMVUKILE_H
+
+#include <stddef.h>
+#include <stdint.h>
+
+#ifdef __cplusplus
+extern "C" {
+#endif
+
+/* ---- Refusals -------------------------------------------------------------------------------------------------- */
+
+/* The field `refusal` of every answer is one of these. Where several hold, the call's own order decides: see there. */
+enum {
+    HAMVUKILE_ACCEPTED = 0,           /* not refused */
+    HAMVUKILE_UNKNOWN_LABEL = 1,      /* the standard's table has no such label */
+    HAMVUKILE_UNKNOWN_ENCODING = 2,   /* the encoding number is above 39 */
+    HAMVUKILE_UNKNOWN_MODE = 3,       /* the mode, or the rule for the byte order mark, is above 1 */
+    HAMVUKILE_WRONG_TABLE = 4,        /* a lent table has not the length that the encoding asks for */
+    HAMVUKILE_FORGED_DECODER = 5,     /* no opening and no feed leave a decoder with these fields */
+    HAMVUKILE_ENDED_DECODER = 6,      /* the decoder has ended: by a finish, by HAMVUKILE_MALFORMED, or since its opening was refused */
+    HAMVUKILE_SMALL_ROOM = 7,         /* the lent room is smaller than the call asks for */
+    HAMVUKILE_TOO_LONG = 8,           /* a chunk above 65,536 bytes, above 16,384 scalars, an index line above 1,024 bytes */
+    HAMVUKILE_NO_ENCODER = 9,         /* this encoding can be read, and not written */
+    HAMVUKILE_NOT_SCALAR = 10,        /* among the numbers to write is one that is no scalar */
+    HAMVUKILE_MALFORMED = 11,         /* refusing mode met an error. The call was accepted up to there: what stands before
+                                         the error is written, and a decoder has ended */
+    HAMVUKILE_BAD_LINE = 12,          /* the line is no line of an index file */
+    HAMVUKILE_TAKEN_CELL = 13         /* the line's pointer is not below the table's length, or its cell is not 0 */
+};
+
+/* Modes. */
+enum {
+    HAMVUKILE_REPLACING = 0, /* decoding: an error is U+FFFD, and decoding goes on */
+    HAMVUKILE_HTML = 0,      /* encoding: a scalar that cannot be written is written as &#12345; */
+    HAMVUKILE_REFUSING = 1   /* both: the first error ends the call with HAMVUKILE_MALFORMED */
+};
+
+/* What happens to a U+FEFF at the very front of UTF-8 or UTF-16. */
+enum {
+    HAMVUKILE_DROP_MARK = 0,
+    HAMVUKILE_KEEP_MARK = 1
+};
+
+/* Limits. */
+enum {
+    HAMVUKILE_MAX_ENCODING = 39,
+    HAMVUKILE_MAX_CHUNK = 65536,
+    HAMVUKILE_MAX_SCALARS = 16384,
+    HAMVUKILE_MAX_LINE = 1024,
+    HAMVUKILE_MAX_HELD = 3,   /* bytes that a decoder holds */
+    HAMVUKILE_MAX_NAME = 14   /* bytes of an encoding's name */
+};
+
+/* ---- Encodings ------------------------------------------------------------------------------------------------- */
+
+/*
+ * An encoding is a number: 0 UTF-8; 1 IBM866; 2 ISO-8859-2; 3 ISO-8859-3; 4 ISO-8859-4; 5 ISO-8859-5; 6 ISO-8859-6;
+ * 7 ISO-8859-7; 8 ISO-8859-8; 9 ISO-8859-8-I; 10 ISO-8859-10; 11 ISO-8859-13; 12 ISO-8859-14; 13 ISO-8859-15;
+ * 14 ISO-8859-16; 15 KOI8-R; 16 KOI8-U; 17 macintosh; 18 windows-874; 19 windows-1250; 20 windows-1251;
+ * 21 windows-1252; 22 windows-1253; 23 windows-1254; 24 windows-1255; 25 windows-1256; 26 windows-1257;
+ * 27 windows-1258; 28 x-mac-cyrillic; 29 GBK; 30 gb18030; 31 Big5; 32 EUC-JP; 33 ISO-2022-JP; 34 Shift_JIS;
+ * 35 EUC-KR; 36 replacement; 37 UTF-16BE; 38 UTF-16LE; 39 x-user-defined.
+ */
+
+/* What `hamvukile_label` answers. */
+typedef struct {
+    size_t start;     /* where the trimmed label lies in the caller's bytes; 0 where it is unknown */
+    size_t length;    /* how long it is; 0 where it is unknown */
+    uint8_t refusal;  /* 0 or HAMVUKILE_UNKNOWN_LABEL */
+    uint8_t encoding; /* the encoding's number; 0 where the label is unknown */
+} hamvukile_found;
+
+/* The encoding of a label. Tabs, line feeds, form feeds, carriage returns and spaces at both ends are dropped, and
+ * the case of ASCII letters does not matter. Reads `bytes`. */
+hamvukile_found hamvukile_label(const uint8_t *bytes, size_t length);
+
+/* What `hamvukile_name` answers. */
+typedef struct {
+    size_t length;   /* bytes of the name; 0 where the call is refused */
+    uint8_t refusal; /* 0, HAMVUKILE_UNKNOWN_ENCODING or HAMVUKILE_SMALL_ROOM, in this order */
+} hamvukile_named;
+
+/* Writes an encoding's name to the front of the room, with no NUL behind it, and changes nothing behind that.
+ * HAMVUKILE_MAX_NAME bytes are always enough. */
+hamvukile_named hamvukile_name(uint8_t encoding, uint8_t *room, size_t room_length);
+
+/* ---- Tables ---------------------------------------------------------------------------------------------------- */
+
+/*
+ * The tables are the caller's: an index is a list of cells, the cell at a pointer holding its code point. A cell that
+ * is not a scalar of at least 0x80 counts as unmapped, so 0 is an empty cell. A scalar is a number from 0 to 0x10FFFF
+ * outside 0xD800 to 0xDFFF. Decoding and encoding are lent two tables, of these lengths:
+ *
+ *     encoding                   first                  second
+ *     1 to 28 except 21          128                    0
+ *     29, 30 (GBK, gb18030)      23,940                 ranges: pointer, code point in turn; even, at most 414
+ *     31 (Big5)                  19,782                 0
+ *     32 (EUC-JP)                11,280 (jis0208)       8,836 (jis0212)
+ *     33, 34                     11,280 (jis0208)       0
+ *     35 (EUC-KR)                23,940                 0
+ *     all others, and 21         0                      0
+ */
+
+/* What `hamvukile_index_line` answers. */
+typedef struct {
+    uint32_t pointer; /* the pointer of the entry; 0 where there is none */
+    uint8_t refusal;  /* 0, HAMVUKILE_TOO_LONG, HAMVUKILE_BAD_LINE or HAMVUKILE_TAKEN_CELL, in this order */
+    uint8_t entry;    /* 1 where the line is an entry; 0 for an empty line and a comment */
+} hamvukile_line;
+
+/* Enters one line of a published index file, without its line feed, into a table: the cell at the line's pointer,
+ * which has to be 0, takes the line's code point, and no other cell changes. Start with a table of zeros, and hand it
+ * the lines of the file one by one. (The file of the gb18030 ranges has lines of the same form and is no such index:
+ * its two numbers are a pair of the second table.) */
+hamvukile_line hamvukile_index_line(const uint8_t *line, size_t length, uint32_t *table, size_t table_length);
+
+/* ---- Decoding -------------------------------------------------------------------------------------------------- */
+
+/* A decoder between calls: a value to keep and to hand back as it is. */
+typedef struct {
+    uint8_t encoding;
+    uint8_t mode;
+    uint8_t state;
+    uint8_t flag;
+    uint8_t held; /* how many bytes it holds: the unfinished last ones of those fed */
+    uint8_t first;
+    uint8_t second;
+    uint8_t third;
+    uint8_t ended; /* 1 once it has ended */
+} hamvukile_decoder;
+
+/* What opening, feed and finish answer. */
+typedef struct {
+    size_t written;            /* scalars at the front of the room */
+    uint8_t refusal;           /* 0 or a refusal */
+    hamvukile_decoder decoder; /* the decoder from here on */
+} hamvukile_answer;
+
+/* A new decoder. Refusals: HAMVUKILE_UNKNOWN_ENCODING, HAMVUKILE_UNKNOWN_MODE, in this order. A refused opening
+ * answers with a decoder that has ended. */
+hamvukile_answer hamvukile_open(uint8_t encoding, uint8_t mode, uint8_t rule);
+
+/* Decodes a chunk: takes all of it, writes the scalars to the front of the room, and changes nothing behind them.
+ * The room needs as many cells as the chunk has bytes and the decoder holds: chunk_length + decoder.held.
+ * Text may be cut into chunks anywhere: the scalars are the same. The tables may be other ones in each call; they are
+ * checked, and read, in this one. Refusals: HAMVUKILE_FORGED_DECODER, HAMVUKILE_ENDED_DECODER, HAMVUKILE_WRONG_TABLE,
+ * HAMVUKILE_TOO_LONG, HAMVUKILE_SMALL_ROOM, in this order; then, in refusing mode, HAMVUKILE_MALFORMED. */
+hamvukile_answer hamvukile_feed(hamvukile_decoder decoder, const uint8_t *chunk, size_t chunk_length,
+                                const uint32_t *first, size_t first_length, const uint32_t *second,
+                                size_t second_length, uint32_t *room, size_t room_length);
+
+/* The end of the text: writes what the bytes held give, and ends the decoder. The room needs decoder.held cells.
+ * Refusals: HAMVUKILE_FORGED_DECODER, HAMVUKILE_ENDED_DECODER, HAMVUKILE_SMALL_ROOM, in this order; then, in refusing
+ * mode, HAMVUKILE_MALFORMED. */
+hamvukile_answer hamvukile_finish(hamvukile_decoder decoder, uint32_t *room, size_t room_length);
+
+/* ---- Encoding -------------------------------------------------------------------------------------------------- */
+
+/* What `hamvukile_encode` answers. */
+typedef struct {
+    size_t written;  /* bytes at the front of the room */
+    size_t index;    /* with HAMVUKILE_MALFORMED the index of the scalar that cannot be written; else 0 */
+    uint8_t refusal; /* 0 or a refusal */
+} hamvukile_written;
+
+/* Encodes scalars as UTF-8 (0), a single-byte encoding (1 to 28) or x-user-defined (39): writes the bytes to the front
+ * of the room, and changes nothing behind them. The room needs the bytes that are written, and no more: at most 10 for
+ * each scalar. Refusals: HAMVUKILE_UNKNOWN_ENCODING, HAMVUKILE_UNKNOWN_MODE, HAMVUKILE_NO_ENCODER,
+ * HAMVUKILE_WRONG_TABLE, HAMVUKILE_TOO_LONG, HAMVUKILE_NOT_SCALAR, HAMVUKILE_SMALL_ROOM, in this order; then, in
+ * refusing mode, HAMVUKILE_MALFORMED. */
+hamvukile_written hamvukile_encode(uint8_t encoding, uint8_t mode, const uint32_t *scalars, size_t scalars_length,
+                                   const uint32_t *first, size_t first_length, const uint32_t *second,
+                                   size_t second_length, uint8_t *room, size_t room_length);
+
+#ifdef __cplusplus
+}
+#endif
+
+#endif

@@ -1,0 +1,233 @@
+/* The sample readings and the refusals of document 01, through the C boundary. Prints what it compared; exits 1 on a difference. */
+#include <stdio.h>
+#include <string.h>
+
+#include "hamvukile.h"
+
+#define UNTOUCHED 0xABCDEF01u
+
+static int compared = 0;
+static int different = 0;
+
+static void check(const char *what, int same) {
+    compared++;
+    if (!same) {
+        different++;
+        printf("DIFFERENT: %s\n", what);
+    }
+}
+
+/* Tables of unmapped cells, of the lengths that an encoding asks for. */
+static const uint32_t unmapped[23940];
+
+typedef struct {
+    const uint32_t *first;
+    size_t first_length;
+    const uint32_t *second;
+    size_t second_length;
+} tables;
+
+static tables tables_of(uint8_t encoding) {
+    tables t = { unmapped, 0, unmapped, 0 };
+    if (encoding >= 1 && encoding <= 28 && encoding != 21) t.first_length = 128;
+    if (encoding == 29 || encoding == 30 || encoding == 35) t.first_length = 23940;
+    if (encoding == 31) t.first_length = 19782;
+    if (encoding == 32 || encoding == 33 || encoding == 34) t.first_length = 11280;
+    if (encoding == 32) t.second_length = 8836;
+    return t;
+}
+
+static hamvukile_answer feed(hamvukile_decoder d, const uint8_t *chunk, size_t n, tables t, uint32_t *room, size_t room_length) {
+    return hamvukile_feed(d, chunk, n, t.first, t.first_length, t.second, t.second_length, room, room_length);
+}
+
+/* Feeds the text in pieces of `piece` bytes, finishes, and gathers the scalars; the number of them, or -1 if a call was refused or wrote behind them. */
+static int decode(uint8_t encoding, uint8_t rule, tables t, const uint8_t *text, size_t n, size_t piece, uint32_t *out) {
+    int total = 0;
+    size_t at = 0;
+    hamvukile_answer a = hamvukile_open(encoding, HAMVUKILE_REPLACING, rule);
+    if (a.refusal != 0) return -1;
+    for (;;) {
+        uint32_t room[64];
+        size_t i, k = n - at < piece ? n - at : piece;
+        for (i = 0; i < 64; i++) room[i] = UNTOUCHED;
+        a = at < n || n == 0 ? feed(a.decoder, text + at, k, t, room, k + a.decoder.held) : hamvukile_finish(a.decoder, room, a.decoder.held);
+        if (a.refusal != 0) return -1;
+        for (i = 0; i < a.written; i++) out[total++] = room[i];
+        for (; i < 64; i++) if (room[i] != UNTOUCHED) return -1;
+        if (a.decoder.ended) return total;
+        at += k;
+        if (n == 0) n = at = 1;
+    }
+}
+
+/* A sample: some bytes, and the scalars that they give, in whole and byte by byte. */
+static void sample(const char *what, uint8_t encoding, uint8_t rule, tables t, const char *bytes, size_t n, const uint32_t *want, int count) {
+    size_t piece;
+    for (piece = n + 1; piece != 0; piece = piece == 1 ? 0 : 1) {
+        uint32_t out[64];
+        int got = decode(encoding, rule, t, (const uint8_t *)bytes, n, piece, out);
+        check(what, got == count && memcmp(out, want, sizeof(uint32_t) * (size_t)count) == 0);
+    }
+}
+
+#define SCALARS(...) ((const uint32_t[]){ __VA_ARGS__ }), (int)(sizeof((const uint32_t[]){ __VA_ARGS__ }) / sizeof(uint32_t))
+#define BYTES(s) (s), (sizeof(s) - 1)
+#define SAMPLE(what, encoding, bytes, ...) sample(what, encoding, HAMVUKILE_DROP_MARK, tables_of(encoding), BYTES(bytes), SCALARS(__VA_ARGS__))
+
+static void samples(void) {
+    static const uint32_t pair[] = { 189000, 65536 };
+    tables ranges = tables_of(30);
+    int e;
+    ranges.second = pair;
+    ranges.second_length = 2;
+    for (e = 0; e <= HAMVUKILE_MAX_ENCODING; e++) sample("1: no bytes", (uint8_t)e, HAMVUKILE_DROP_MARK, tables_of((uint8_t)e), "", 0, pair, 0);
+    SAMPLE("2: UTF-8 F0 9F 92 A9", 0, "\xF0\x9F\x92\xA9", 0x1F4A9);
+    SAMPLE("3: UTF-8 E2 82", 0, "\xE2\x82", 0xFFFD);
+    SAMPLE("4: UTF-8 ED A0 80", 0, "\xED\xA0\x80", 0xFFFD, 0xFFFD, 0xFFFD);
+    SAMPLE("4: UTF-8 C0 80", 0, "\xC0\x80", 0xFFFD, 0xFFFD);
+    SAMPLE("5: Shift_JIS 82 22", 34, "\x82\x22", 0xFFFD, 0x22);
+    SAMPLE("6: gb18030 81 30 2C", 30, "\x81\x30\x2C", 0xFFFD, 0x30, 0x2C);
+    SAMPLE("7: gb18030 81 30", 30, "\x81\x30", 0xFFFD);
+    SAMPLE("8: gb18030 81 35 F4 37", 30, "\x81\x35\xF4\x37", 0xE7C7);
+    sample("8: gb18030 90 30 81 30", 30, HAMVUKILE_DROP_MARK, ranges, BYTES("\x90\x30\x81\x30"), SCALARS(0x10000));
+    SAMPLE("9: UTF-16LE 3D D8 A9 DC", 38, "\x3D\xD8\xA9\xDC", 0x1F4A9);
+    SAMPLE("9: UTF-16LE 3D D8 41 00", 38, "\x3D\xD8\x41\x00", 0xFFFD, 0x41);
+    SAMPLE("10: ISO-2022-JP 1B 28 42 twice", 33, "\x1B\x28\x42\x1B\x28\x42", 0xFFFD);
+    SAMPLE("10: ISO-2022-JP 1B 24", 33, "\x1B\x24", 0xFFFD, 0x24);
+    SAMPLE("11: EUC-JP 8F A1 09", 32, "\x8F\xA1\x09", 0xFFFD, 0x09);
+    SAMPLE("12: Big5 88 62", 31, "\x88\x62", 0xCA, 0x304);
+    SAMPLE("13: UTF-8 EF BB BF 41, drop", 0, "\xEF\xBB\xBF\x41", 0x41);
+    sample("13: UTF-8 EF BB BF 41, keep", 0, HAMVUKILE_KEEP_MARK, tables_of(0), BYTES("\xEF\xBB\xBF\x41"), SCALARS(0xFEFF, 0x41));
+    SAMPLE("14: replacement 41 42", 36, "\x41\x42", 0xFFFD);
+    SAMPLE("showtext's: windows-1252 80 09 41", 21, "\x80\x09\x41", 0x20AC, 0x09, 0x41);
+}
+
+/* Sample 15, and what else a writer answers. */
+static void writing(void) {
+    static const uint32_t han[] = { 0x4E00 }, text[] = { 0x41, 0x4E00 }, surrogate[] = { 0x4E00, 0xD800 };
+    uint8_t room[16];
+    hamvukile_written w;
+    memset(room, 0x55, sizeof room);
+    w = hamvukile_encode(21, HAMVUKILE_HTML, han, 1, NULL, 0, NULL, 0, room, 8);
+    check("15: U+4E00 as windows-1252, html", w.refusal == 0 && w.written == 8 && w.index == 0 && memcmp(room, "&#19968;\x55", 9) == 0);
+    w = hamvukile_encode(21, HAMVUKILE_REFUSING, han, 1, NULL, 0, NULL, 0, room, 0);
+    check("15: U+4E00 as windows-1252, refusing", w.refusal == HAMVUKILE_MALFORMED && w.written == 0 && w.index == 0);
+    memset(room, 0x55, sizeof room);
+    w = hamvukile_encode(21, HAMVUKILE_REFUSING, text, 2, NULL, 0, NULL, 0, room, 1);
+    check("an unwritable scalar at index 1", w.refusal == HAMVUKILE_MALFORMED && w.written == 1 && w.index == 1 && room[0] == 0x41 && room[1] == 0x55);
+    w = hamvukile_encode(0, HAMVUKILE_HTML, han, 1, NULL, 0, NULL, 0, room, 3);
+    check("U+4E00 as UTF-8", w.refusal == 0 && w.written == 3 && memcmp(room, "\xE4\xB8\x80", 3) == 0);
+    check("writing: 7", hamvukile_encode(0, HAMVUKILE_HTML, han, 1, NULL, 0, NULL, 0, room, 2).refusal == HAMVUKILE_SMALL_ROOM);
+    check("writing: 2 before 3", hamvukile_encode(40, 2, han, 1, NULL, 0, NULL, 0, room, 16).refusal == HAMVUKILE_UNKNOWN_ENCODING);
+    check("writing: 3 before 9", hamvukile_encode(30, 2, han, 1, NULL, 0, NULL, 0, room, 16).refusal == HAMVUKILE_UNKNOWN_MODE);
+    check("writing: 9 before 4", hamvukile_encode(30, 0, han, 1, NULL, 0, NULL, 0, room, 16).refusal == HAMVUKILE_NO_ENCODER);
+    check("writing: 4", hamvukile_encode(1, 0, han, 1, NULL, 0, NULL, 0, room, 16).refusal == HAMVUKILE_WRONG_TABLE);
+    check("writing: 8", hamvukile_encode(0, 0, unmapped, 16385, NULL, 0, NULL, 0, room, 16).refusal == HAMVUKILE_TOO_LONG);
+    check("writing: 10 before 7", hamvukile_encode(21, 1, surrogate, 2, NULL, 0, NULL, 0, room, 0).refusal == HAMVUKILE_NOT_SCALAR);
+}
+
+/* Sample 16, the other refusals of a decoder, and that they change nothing. */
+static void refusals(void) {
+    static uint8_t chunk[65537];
+    static uint32_t room[65537];
+    tables none = { NULL, 0, NULL, 0 };
+    hamvukile_decoder forged;
+    hamvukile_answer a, b;
+    a = hamvukile_open(0, HAMVUKILE_REPLACING, HAMVUKILE_DROP_MARK);
+    a = feed(a.decoder, (const uint8_t *)"\xE2", 1, none, room, 1);
+    check("16: E2 is held", a.refusal == 0 && a.written == 0 && a.decoder.held == 1);
+    room[0] = UNTOUCHED;
+    b = feed(a.decoder, (const uint8_t *)"\x82", 1, none, room, 1);
+    check("16: room 1", b.refusal == HAMVUKILE_SMALL_ROOM && b.written == 0 && memcmp(&a.decoder, &b.decoder, sizeof a.decoder) == 0 && room[0] == UNTOUCHED);
+    b = feed(a.decoder, (const uint8_t *)"\x82", 1, none, room, 2);
+    check("16: room 2", b.refusal == 0 && b.decoder.held == 2);
+    a = hamvukile_open(0, HAMVUKILE_REPLACING, HAMVUKILE_DROP_MARK);
+    b = feed(a.decoder, chunk, 65536, none, room, 65536);
+    check("16: a chunk of 65,536 bytes", b.refusal == 0 && b.written == 65536);
+    b = feed(a.decoder, chunk, 65537, none, room, 65537);
+    check("16: a chunk of 65,537 bytes", b.refusal == HAMVUKILE_TOO_LONG);
+    b = feed(a.decoder, chunk, 0, tables_of(1), room, 0);
+    check("4: a table that is not asked for", b.refusal == HAMVUKILE_WRONG_TABLE);
+    a = hamvukile_open(40, 2, 2);
+    check("2: encoding 40", a.refusal == HAMVUKILE_UNKNOWN_ENCODING && a.decoder.encoding == 0 && a.decoder.ended == 1);
+    check("3: mode 2", hamvukile_open(0, 2, 0).refusal == HAMVUKILE_UNKNOWN_MODE);
+    check("3: rule 2", hamvukile_open(0, 0, 2).refusal == HAMVUKILE_UNKNOWN_MODE);
+    check("6: after a refused opening", feed(a.decoder, chunk, 1, none, room, 1).refusal == HAMVUKILE_ENDED_DECODER);
+    forged = hamvukile_open(0, 0, 0).decoder;
+    forged.first = 1;
+    b = hamvukile_finish(forged, room, 3);
+    check("5: a stale byte", b.refusal == HAMVUKILE_FORGED_DECODER && memcmp(&forged, &b.decoder, sizeof forged) == 0);
+    a = hamvukile_open(0, HAMVUKILE_REFUSING, HAMVUKILE_DROP_MARK);
+    room[1] = UNTOUCHED;
+    a = feed(a.decoder, (const uint8_t *)"A\xFF" "B", 3, none, room, 3);
+    check("11: A FF B", a.refusal == HAMVUKILE_MALFORMED && a.written == 1 && room[0] == 0x41 && room[1] == UNTOUCHED && a.decoder.ended == 1);
+    check("6: after report 11", feed(a.decoder, chunk, 1, none, room, 1).refusal == HAMVUKILE_ENDED_DECODER);
+}
+
+/* Labels and names. */
+static void labels(void) {
+    hamvukile_found f = hamvukile_label((const uint8_t *)" Latin1", 7);
+    hamvukile_named n;
+    uint8_t room[HAMVUKILE_MAX_NAME + 1];
+    int e;
+    check("the label ' Latin1'", f.refusal == 0 && f.encoding == 21 && f.start == 1 && f.length == 6);
+    f = hamvukile_label((const uint8_t *)"latin-1", 7);
+    check("1: the label 'latin-1'", f.refusal == HAMVUKILE_UNKNOWN_LABEL && f.encoding == 0 && f.start == 0 && f.length == 0);
+    check("1: no label", hamvukile_label(NULL, 0).refusal == HAMVUKILE_UNKNOWN_LABEL);
+    for (e = 0; e <= HAMVUKILE_MAX_ENCODING; e++) {
+        memset(room, 0x55, sizeof room);
+        n = hamvukile_name((uint8_t)e, room, HAMVUKILE_MAX_NAME);
+        f = hamvukile_label(room, n.length);
+        check("a name is a label of its encoding", n.refusal == 0 && f.refusal == 0 && f.encoding == e && f.length == n.length && room[n.length] == 0x55);
+        check("7: a room smaller than the name", hamvukile_name((uint8_t)e, room, n.length - 1).refusal == HAMVUKILE_SMALL_ROOM);
+    }
+    n = hamvukile_name(21, room, sizeof room);
+    check("the name of encoding 21", n.length == 12 && memcmp(room, "windows-1252", 12) == 0);
+    check("2: the name of encoding 40", hamvukile_name(40, room, 0).refusal == HAMVUKILE_UNKNOWN_ENCODING);
+}
+
+/* A line, and what the call answers. */
+static void line(const char *text, uint32_t *table, size_t length, uint8_t refusal, uint8_t entry, uint32_t pointer) {
+    hamvukile_line l = hamvukile_index_line((const uint8_t *)text, strlen(text), table, length);
+    check(text, l.refusal == refusal && l.entry == entry && l.pointer == pointer);
+}
+
+static void index_lines(void) {
+    static char spaces[1026];
+    uint32_t table[4] = { 0, 0, 0x41, 0 };
+    memset(spaces, ' ', 1025);
+    line("", table, 4, 0, 0, 0);
+    line("# a comment", table, 4, 0, 0, 0);
+    line("  1\t0x00E9\t\xC3\xA9 (LATIN SMALL LETTER E WITH ACUTE)", table, 4, 0, 1, 1);
+    line("0003\t0x1F4A9", table, 4, 0, 1, 3);
+    check("the cells that the lines fill", table[0] == 0 && table[1] == 0xE9 && table[2] == 0x41 && table[3] == 0x1F4A9);
+    line("1\t0x00E9", table, 4, HAMVUKILE_TAKEN_CELL, 0, 0);
+    line("2\t0x00E9", table, 4, HAMVUKILE_TAKEN_CELL, 0, 0);
+    line("4\t0x00E9", table, 4, HAMVUKILE_TAKEN_CELL, 0, 0);
+    line("0\t0x0041", table, 4, HAMVUKILE_BAD_LINE, 0, 0);
+    line("0\t0xD800", table, 4, HAMVUKILE_BAD_LINE, 0, 0);
+    line("0\t0x00e9", table, 4, HAMVUKILE_BAD_LINE, 0, 0);
+    line("0\t0x00E9\r", table, 4, HAMVUKILE_BAD_LINE, 0, 0);
+    line("\t0\t0x00E9", table, 4, HAMVUKILE_BAD_LINE, 0, 0);
+    line(" ", table, 4, HAMVUKILE_BAD_LINE, 0, 0);
+    line(spaces, table, 4, HAMVUKILE_TOO_LONG, 0, 0);
+    spaces[1024] = 0;
+    line(spaces, table, 4, HAMVUKILE_BAD_LINE, 0, 0);
+}
+
+static void part(const char *what, void (*run)(void)) {
+    int before = compared;
+    run();
+    printf("%s: %d compared\n", what, compared - before);
+}
+
+int main(void) {
+    part("sample readings, whole and byte by byte", samples);
+    part("writing", writing);
+    part("refusals", refusals);
+    part("labels and names", labels);
+    part("index lines", index_lines);
+    printf("%d compared, %d different\n", compared, different);
+    return different != 0;
+}
