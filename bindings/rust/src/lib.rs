@@ -307,7 +307,7 @@ impl<'a> Tables<'a> {
     /// For GBK and gb18030: the index, and the ranges as pointer and code point in turn. `None` where the ranges are of
     /// odd length or more than 207 pairs.
     pub fn gb18030(index: &'a [u32; 23_940], ranges: &'a [u32]) -> Option<Tables<'a>> {
-        (ranges.len() % 2 == 0 && ranges.len() <= 414).then_some(Tables {
+        (ranges.len() & 1 == 0 && ranges.len() <= 414).then_some(Tables {
             first: index,
             second: ranges,
         })
