@@ -47,10 +47,6 @@ encoderOf e table =
 abbrev pub cellsOf : ℕ → ℕ
 cellsOf e = eqb e 0 then 0 else eqb e 21 then 0 else leb e 28 then 128 else 0
 
--- The tables that a call is lent.
-abbrev pub lent : List ℕ → List ℕ → Tables
-lent t1 t2 = record { first = t1; second = t2 }
-
 -- What such an encoding writes of some scalars.
 abbrev pub writingOf : ℕ → ℕ → List ℕ → List ℕ → Writing
 writingOf e m table cs = writing (encoderOf e table) m cs

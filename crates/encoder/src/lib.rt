@@ -16,8 +16,9 @@ ghost use mathlib.Core.Bool.{true};
 ghost use Prim.Native.Nat.{_≤_};
 ghost use lib.ListN.{length};
 ghost use Rattle.standard.specs.Base.{isScalar, scalars as areScalars};
+ghost use Rattle.standard.specs.Encodings.{lent};
 ghost use Rattle.encoder.specs.Writer.{write, encoding as outcome};
-ghost use Rattle.encoder.specs.WriterCode.{lent, writes, cellsOf, writingOf, refusalOf};
+ghost use Rattle.encoder.specs.WriterCode.{writes, cellsOf, writingOf, refusalOf};
 
 // How many bytes are written of the scalars.
 fn count(encoding: u8, mode: u8, scalars: &[u32], table: &[u32]) -> usize

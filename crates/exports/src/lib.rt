@@ -1,11 +1,11 @@
 // The public calls by their C names: include/hamvukile.h is their manual. Each answers what the call of its own crate answers.
 // A slice is a pointer and a length. Trimming, whose result is a part of the caller's bytes, reaches C as start and length of the label call.
 ghost use mathlib.Core.Path.{_≡_};
+ghost use Rattle.standard.specs.Encodings.{lent};
 ghost use Rattle.labels.specs.Labels.{label, naming};
 ghost use Rattle.index.specs.IndexCall.{indexLine};
 ghost use Rattle.decoder.specs.Calls.{opening, feeding, finishing};
 ghost use Rattle.encoder.specs.Writer.{encoding as writing};
-ghost use Rattle.exports.specs.Lent.{lent};
 use decoder::Answer;
 use decoder::Decoder;
 use encoder::Written;

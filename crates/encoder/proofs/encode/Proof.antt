@@ -1,5 +1,5 @@
+use Rattle.standard.specs.Encodings.{lent}
 use Rattle.encoder.proofs.Refusals.{accepted, tells-refusal, tells-written}
-use Rattle.encoder.specs.WriterCode.{lent}
 use mathlib.Core.Path.{sym, _∙_}
 use native.Mathlib.Omega.{arith}
 use borrow.Author.Needs.{needs}

@@ -1,5 +1,5 @@
+use Rattle.standard.specs.Encodings.{lent}
 use Rattle.encoder.proofs.Refusals.{refused-2, refused-3, refused-9, refused-first, refused-second, refused-8, refused-10, refused-7, refused-not, first-few}
-use Rattle.encoder.specs.WriterCode.{lent}
 use borrow.Author.Tests.{not-true, not-false}
 use mathlib.Core.Path.{sym, _∙_}
 use native.Mathlib.Omega.{arith}
