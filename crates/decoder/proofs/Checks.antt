@@ -1,10 +1,10 @@
 -- What the code's tests of a record and of a call come to. Assumes nothing.
-use mathlib.Core.Path.{_≡_, refl, sym, ap, _∙_, subst}
-use mathlib.Core.Bool.{Bool, true, false, _&&_, _||_, not, and-false, and-true, or-true}
+use mathlib.Core.Path.{_≡_, refl, sym, ap, _∙_}
+use mathlib.Core.Bool.{Bool, true, false, _&&_, _||_, not, and-false}
 use mathlib.Core.List.{List, [], _∷_, _++_, append-nil}
 use Prim.Native.Nat.{ℕ, zero, suc, _+_, _-_, _≤_, _<_}
 use native.Mathlib.Omega.{arith}
-use lib.Dec.{T, ltb, leb, eqb, lit≤}
+use lib.Dec.{ltb, leb, eqb}
 use lib.ListN.{length, take, drop}
 use lib.Seq.{sets, sets-eq}
 use native.Mathlib.Nat.{zero-add}
@@ -20,12 +20,11 @@ use Rattle.standard.proofs.Items.{shown-cons}
 use Rattle.sequences.specs.Code.{nextOf, outOf, front}
 use Rattle.sequences.specs.declared.Sequence.{Sequence}
 use Rattle.decoder.specs.Valid.{shiftOf, heldOf, possible, isMore, unused, validRest, valid}
-use Rattle.decoder.specs.Calls.{closed, holding, newShift, openRefusal, opening, Outcome, refuse, write, handOut, handOutRead, feedRefusal, feeding, finishRefusal, finishing}
+use Rattle.decoder.specs.Calls.{closed, holding, openRefusal, opening, Outcome, refuse, write, handOut, handOutRead, feedRefusal, feeding, finishRefusal, finishing}
 use Rattle.decoder.specs.Code.{closing}
 use Rattle.decoder.specs.declared.Decoder.{Decoder}
-use Rattle.decoder.specs.declared.Answer.{Answer}
 use Rattle.decoder.proofs.Loop.{item-of}
-use Rattle.decoder.proofs.Numbers.{Cases, by-family, marked-is}
+use Rattle.decoder.proofs.Numbers.{by-family}
 use Rattle.decoder.proofs.Validity.{parts}
 
 -- whether more bytes are wanted does not depend on the tables
@@ -63,10 +62,13 @@ one-out t s b = go (eqb b 0x1B) (eqb (s .state) 3) (leb 0x21 b && leb b 0x7E) (e
   where
     kana : Bool → Out
     kana y = y then text ((0xFF61 - 0x21 + b) ∷ []) else error
+
     byte : Bool → Bool → Bool → Bool → Bool → Out
     byte x y v w u = x then kana y else v then error else w then text (0xA5 ∷ []) else u then text (0x203E ∷ []) else text (b ∷ [])
+
     answer : Bool → Bool → Bool → Out → Next
     answer a c i o = a then more else c then (i then more else item 1 (shift 3 false) error) else item 1 (shift (s .state) false) o
+
     one : (x y v w u : Bool) → length (given (byte x y v w u)) ≡ 1
     one true true v w u = refl
     one true false v w u = refl
@@ -74,6 +76,7 @@ one-out t s b = go (eqb b 0x1B) (eqb (s .state) 3) (leb 0x21 b && leb b 0x7E) (e
     one false y false true u = refl
     one false y false false true = refl
     one false y false false false = refl
+
     go : (a c i x y v w u : Bool) → length (given (lastOut (answer a c i (byte x y v w u)))) ≡ 1
     go true c i x y v w u = refl
     go false true true x y v w u = refl
@@ -103,6 +106,7 @@ module _ (t : Tables) (s : Shift) (b : ℕ) (q : Sequence) (e : nextOf q ≡ nex
     where
       given-is : (n : ℕ) → Out
       given-is n = eqb n 3 then error else text (take n (q .first ∷ q .second ∷ []))
+
       one-of : (n : ℕ) → (n ≡ 3 → ⊥) → length (given (given-is n)) ≡ 1 → (q .first ∷ []) ≡ given (given-is n)
       one-of zero h l = absurd (omega arith)
       one-of (suc zero) h l = refl
@@ -194,6 +198,7 @@ module _ (d : Decoder) where
       where
         number : (v n f c r : Bool) → ℕ
         number v n f c r = not v then 5 else n then 6 else not f then 4 else c then 8 else r then 7 else 0
+
         go : (v : Bool) → valid d ≡ v → (n f c : Bool) → ltb 65536 (length chunk) ≡ c → (r : Bool) → ltb (length room) (length chunk + d .held) ≡ r → number v n f c r ≡ 0 → (d .held ≤ 3) × (length chunk ≤ 65536) × (length chunk + d .held ≤ length room)
         go false p n f c q r s z = absurd (omega arith)
         go true p true f c q r s z = absurd (omega arith)
@@ -234,6 +239,7 @@ module _ (d : Decoder) where
       where
         number : (v n r : Bool) → ℕ
         number v n r = not v then 5 else n then 6 else r then 7 else 0
+
         go : (v : Bool) → valid d ≡ v → (n r : Bool) → ltb (length room) (d .held) ≡ r → number v n r ≡ 0 → (d .held ≤ 3) × (d .held ≤ length room)
         go false p n r s z = absurd (omega arith)
         go true p true r s z = absurd (omega arith)
@@ -256,19 +262,55 @@ module _ (d : Decoder) where
 one-error : (t : Tables) (e : ℕ) (s : Shift) (b : ℕ) → ending t (family e) s (b ∷ []) ≡ error ∷ []
 unfolding ending oneError isoEnd
 one-error t e s b = by-family (λ f. ending t f s (b ∷ []) ≡ error ∷ []) e (record {
-  c0 = λ h. refl; c21 = λ h. refl; c1-28 = λ l u n. refl; c29-30 = λ l u. refl; c31 = λ h. refl; c32 = λ h. refl; c33 = λ h. refl; c34 = λ h. refl; c35 = λ h. refl; c36 = λ h. refl; c37 = λ h. refl; c38 = λ h. refl; c39 = λ l. refl;
+  c0 = λ h. refl;
+  c21 = λ h. refl;
+  c1-28 = λ l u n. refl;
+  c29-30 = λ l u. refl;
+  c31 = λ h. refl;
+  c32 = λ h. refl;
+  c33 = λ h. refl;
+  c34 = λ h. refl;
+  c35 = λ h. refl;
+  c36 = λ h. refl;
+  c37 = λ h. refl;
+  c38 = λ h. refl;
+  c39 = λ l. refl;
 })
 
 other-error : (t : Tables) (e : ℕ) (s : Shift) (b : ℕ) (xs : List ℕ) → (e ≡ 33 → ⊥) → ending t (family e) s (b ∷ xs) ≡ error ∷ []
 unfolding ending oneError
 other-error t e s b xs n = by-family (λ f. ending t f s (b ∷ xs) ≡ error ∷ []) e (record {
-  c0 = λ h. refl; c21 = λ h. refl; c1-28 = λ l u n. refl; c29-30 = λ l u. refl; c31 = λ h. refl; c32 = λ h. refl; c33 = λ h. absurd (n h); c34 = λ h. refl; c35 = λ h. refl; c36 = λ h. refl; c37 = λ h. refl; c38 = λ h. refl; c39 = λ l. refl;
+  c0 = λ h. refl;
+  c21 = λ h. refl;
+  c1-28 = λ l u n. refl;
+  c29-30 = λ l u. refl;
+  c31 = λ h. refl;
+  c32 = λ h. refl;
+  c33 = λ h. absurd (n h);
+  c34 = λ h. refl;
+  c35 = λ h. refl;
+  c36 = λ h. refl;
+  c37 = λ h. refl;
+  c38 = λ h. refl;
+  c39 = λ l. refl;
 })
 
 no-bytes : (t : Tables) (e : ℕ) (s : Shift) → ending t (family e) s [] ≡ []
 unfolding ending oneError isoEnd
 no-bytes t e s = by-family (λ f. ending t f s [] ≡ []) e (record {
-  c0 = λ h. refl; c21 = λ h. refl; c1-28 = λ l u n. refl; c29-30 = λ l u. refl; c31 = λ h. refl; c32 = λ h. refl; c33 = λ h. refl; c34 = λ h. refl; c35 = λ h. refl; c36 = λ h. refl; c37 = λ h. refl; c38 = λ h. refl; c39 = λ l. refl;
+  c0 = λ h. refl;
+  c21 = λ h. refl;
+  c1-28 = λ l u n. refl;
+  c29-30 = λ l u. refl;
+  c31 = λ h. refl;
+  c32 = λ h. refl;
+  c33 = λ h. refl;
+  c34 = λ h. refl;
+  c35 = λ h. refl;
+  c36 = λ h. refl;
+  c37 = λ h. refl;
+  c38 = λ h. refl;
+  c39 = λ l. refl;
 })
 
 abbrev pub wrote : Decoder → ℕ → List ℕ → List ℕ → Outcome
@@ -286,7 +328,19 @@ held-two (suc (suc n)) a b c h g = (take n (c ∷ []), refl)
 starts-error : (t : Tables) (e : ℕ) (s : Shift) (b : ℕ) (xs : List ℕ) → (is : List Out) × (ending t (family e) s (b ∷ xs) ≡ error ∷ is)
 unfolding ending oneError isoEnd
 starts-error t e s b xs = by-family (λ f. (is : List Out) × (ending t f s (b ∷ xs) ≡ error ∷ is)) e (record {
-  c0 = λ h. ([], refl); c21 = λ h. ([], refl); c1-28 = λ l u n. ([], refl); c29-30 = λ l u. ([], refl); c31 = λ h. ([], refl); c32 = λ h. ([], refl); c33 = λ h. iso xs; c34 = λ h. ([], refl); c35 = λ h. ([], refl); c36 = λ h. ([], refl); c37 = λ h. ([], refl); c38 = λ h. ([], refl); c39 = λ l. ([], refl);
+  c0 = λ h. ([], refl);
+  c21 = λ h. ([], refl);
+  c1-28 = λ l u n. ([], refl);
+  c29-30 = λ l u. ([], refl);
+  c31 = λ h. ([], refl);
+  c32 = λ h. ([], refl);
+  c33 = λ h. iso xs;
+  c34 = λ h. ([], refl);
+  c35 = λ h. ([], refl);
+  c36 = λ h. ([], refl);
+  c37 = λ h. ([], refl);
+  c38 = λ h. ([], refl);
+  c39 = λ l. ([], refl);
 })
   where
     iso : (xs : List ℕ) → (is : List Out) × (isoEnd t s (b ∷ xs) ≡ error ∷ is)

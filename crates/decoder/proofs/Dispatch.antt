@@ -6,7 +6,6 @@ use Prim.Native.Nat.{ℕ, _≤_, _<_}
 use native.Mathlib.Omega.{arith}
 use lib.Dec.{eqb}
 use borrow.Author.Tests.{eqb-true, eqb-false, le-leb, lt-leb, ne-eqb}
-use Rattle.standard.specs.Base.{_then_else_}
 use Rattle.standard.specs.Encodings.{family, lent}
 use Rattle.standard.specs.Indexes.{windows1252}
 use Rattle.standard.specs.Sequence.{Shift}

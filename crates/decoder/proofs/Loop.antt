@@ -91,6 +91,7 @@ module _ (t : Tables) (f : Family) (s : Shift) where
           pick : (b : Bool) → leb (length xs) 4 ≡ b → length xs ≤ 4
           pick true q = leb-true (length xs) 4 q
           pick false q = let l : 4 < length xs = leb-false (length xs) 4 q in absurd (omega (arith, n, length-take-le 4 xs (omega arith)))
+
       go : (a : Next) → next t f s (take 4 xs) ≡ a → next t f s (take 4 xs) ≡ next t f s xs
       go more h = ap (next t f s) (take-all 4 xs (few (at-more (keeps f) (next t f) (next-laws t f) s (take 4 xs) h .0)))
       go (item w s′ o) h =
@@ -122,6 +123,7 @@ emit-start e m r room = go (eqb m 1 && broken (r .items))
   where
     same : (n : ℕ) (cs : List ℕ) (d : Decoder) → write n cs d room ≡ written n 0 cs d room
     same n cs d = rw (zero-plus (length cs))
+
     go : (b : Bool) → (b then write 11 (before (r .items)) (closed e m) room else write 0 (shown (r .items)) (holding e m (r .shift) (r .rest)) room) ≡
         (b then written 11 0 (before (r .items)) (closed e m) room else written 0 0 (shown (r .items)) (holding e m (r .shift) (r .rest)) room)
     go true = same 11 (before (r .items)) (closed e m)

@@ -1,8 +1,8 @@
 // The decoder: its record, opening, feed and finish.
 
 use sequences::Sequence;
-use sequences::drop_mark;
 use sequences::big5::big5;
+use sequences::drop_mark;
 use sequences::euc_jp::euc_jp;
 use sequences::euc_kr::euc_kr;
 use sequences::gb18030::gb18030;
@@ -11,10 +11,9 @@ use sequences::replacement::replacement;
 use sequences::shift_jis::shift_jis;
 use sequences::single_byte::single_byte;
 use sequences::user_defined::user_defined;
-use sequences::utf8::utf8;
 use sequences::utf_16::utf_16;
+use sequences::utf8::utf8;
 use sequences::windows_1252::windows_1252;
-
 ghost use mathlib.Core.Path.{_≡_};
 ghost use mathlib.Core.Bool.{true, false, _&&_, _||_, not};
 ghost use mathlib.Core.List.{_∷_, [], _++_};
@@ -60,7 +59,18 @@ pub struct Answer {
 }
 
 // The sequence at the front of up to four bytes.
-fn next(t1: &[u32], t2: &[u32], encoding: u8, state: u8, flag: u8, b0: u8, b1: u8, b2: u8, b3: u8, have: usize) -> Sequence
+fn next(
+    t1: &[u32],
+    t2: &[u32],
+    encoding: u8,
+    state: u8,
+    flag: u8,
+    b0: u8,
+    b1: u8,
+    b2: u8,
+    b3: u8,
+    have: usize,
+) -> Sequence
     ensures { λ r. ⌜ nextOf r ≡ next (lent (now (t1 .entry)) (now (t2 .entry))) (family encoding) (shift state (eqb flag 1)) (front have b0 b1 b2 b3) ⌝ }
 {
     if encoding == 0 {
@@ -170,11 +180,33 @@ fn bit(flag: u8) -> u8
 fn ends(encoding: u8, mode: u8, refusal: u8, written: usize) -> Answer
     ensures { λ r. ⌜ r ≡ closing encoding mode refusal written ⌝ }
 {
-    Answer { written, refusal, decoder: Decoder { encoding, mode, state: 0, flag: 0, held: 0, first: 0, second: 0, third: 0, ended: 1 } }
+    Answer {
+        written,
+        refusal,
+        decoder: Decoder {
+            encoding,
+            mode,
+            state: 0,
+            flag: 0,
+            held: 0,
+            first: 0,
+            second: 0,
+            third: 0,
+            ended: 1,
+        },
+    }
 }
 
 // The sequence at a place of the bytes held and then the chunk.
-fn sequence_at(d: Decoder, chunk: &[u8], t1: &[u32], t2: &[u32], at: usize, state: u8, flag: u8) -> Sequence
+fn sequence_at(
+    d: Decoder,
+    chunk: &[u8],
+    t1: &[u32],
+    t2: &[u32],
+    at: usize,
+    state: u8,
+    flag: u8,
+) -> Sequence
     requires { ⌜ (d .held ≤ 3) × (length (now chunk) ≤ 65536) × (at ≤ d .held + length (now chunk)) ⌝ }
     ensures { λ r. ⌜ nextOf r ≡ next (lent (now (t1 .entry)) (now (t2 .entry))) (family (d .encoding)) (shift state (eqb flag 1)) (drop at (heldOf d ++ now (chunk .entry))) ⌝ }
 {
@@ -196,7 +228,21 @@ fn holds(d: Decoder, chunk: &[u8], at: usize, state: u8, flag: u8, written: usiz
     let second = byte_at(d, chunk, at + 1);
     let third = byte_at(d, chunk, at + 2);
     let kept = bit(flag);
-    Answer { written, refusal: 0, decoder: Decoder { encoding: d.encoding, mode: d.mode, state, flag: kept, held: have as u8, first, second, third, ended: 0 } }
+    Answer {
+        written,
+        refusal: 0,
+        decoder: Decoder {
+            encoding: d.encoding,
+            mode: d.mode,
+            state,
+            flag: kept,
+            held: have as u8,
+            first,
+            second,
+            third,
+            ended: 0,
+        },
+    }
 }
 
 // An accepted feed: sequence after sequence, from the bytes held and then the chunk.
@@ -392,7 +438,18 @@ fn started(d: Decoder) -> bool
 {
     let none = [0u32; 1];
     let empty = &none[0..0];
-    let q = next(empty, empty, d.encoding, d.state, d.flag, d.first, d.second, d.third, 0, d.held as usize);
+    let q = next(
+        empty,
+        empty,
+        d.encoding,
+        d.state,
+        d.flag,
+        d.first,
+        d.second,
+        d.third,
+        0,
+        d.held as usize,
+    );
     q.width == 0
 }
 
@@ -495,10 +552,38 @@ impl Decoder {
         }
         if rule == 0 {
             if marked(encoding) {
-                return Answer { written: 0, refusal: 0, decoder: Decoder { encoding, mode, state: 0, flag: 1, held: 0, first: 0, second: 0, third: 0, ended: 0 } };
+                return Answer {
+                    written: 0,
+                    refusal: 0,
+                    decoder: Decoder {
+                        encoding,
+                        mode,
+                        state: 0,
+                        flag: 1,
+                        held: 0,
+                        first: 0,
+                        second: 0,
+                        third: 0,
+                        ended: 0,
+                    },
+                };
             }
         }
-        Answer { written: 0, refusal: 0, decoder: Decoder { encoding, mode, state: 0, flag: 0, held: 0, first: 0, second: 0, third: 0, ended: 0 } }
+        Answer {
+            written: 0,
+            refusal: 0,
+            decoder: Decoder {
+                encoding,
+                mode,
+                state: 0,
+                flag: 0,
+                held: 0,
+                first: 0,
+                second: 0,
+                third: 0,
+                ended: 0,
+            },
+        }
     }
 
     // Decodes a chunk into the room: the bytes held and then the chunk, with the tables that the encoding wants.
@@ -510,7 +595,11 @@ impl Decoder {
         if n == 0 {
             return read(self, chunk, t1, t2, room);
         }
-        Answer { written: 0, refusal: n, decoder: self }
+        Answer {
+            written: 0,
+            refusal: n,
+            decoder: self,
+        }
     }
 
     // The end of input: what it gives for the bytes held.
@@ -521,6 +610,10 @@ impl Decoder {
         if n == 0 {
             return end(self, room);
         }
-        Answer { written: 0, refusal: n, decoder: self }
+        Answer {
+            written: 0,
+            refusal: n,
+            decoder: self,
+        }
     }
 }

@@ -3,8 +3,7 @@ use mathlib.Core.Path.{_≡_, refl, sym, ap, _∙_}
 use mathlib.Core.Bool.{Bool, true, false, not, _&&_, and-true}
 use mathlib.Core.List.{List, [], _∷_, _++_, append-assoc, append-nil}
 use mathlib.Core.Option.{Option, some, none}
-use Prim.Native.Nat.{ℕ, zero, suc, _+_, _-_, _*_, _≤_, _<_}
-use native.Mathlib.Nat.{add-zero}
+use Prim.Native.Nat.{ℕ, zero, suc, _+_, _*_, _≤_, _<_}
 use native.Mathlib.Numerals.{add-one}
 use native.Mathlib.Omega.{arith}
 use lib.Dec.{leb, eqb}
@@ -14,7 +13,7 @@ use borrow.Author.Tests.{leb-true, le-leb}
 use Rattle.standard.specs.Base.{_then_else_, within, every, isScalar, scalars}
 use Rattle.standard.specs.Machine.{Result, reference}
 use Rattle.standard.proofs.Tests.{and-left, and-right, under, above}
-use Rattle.encoder.specs.Writer.{bytesOf, Writing, onward, unwritten, writing, Outcome, answerOf, write}
+use Rattle.encoder.specs.Writer.{Writing, onward, unwritten, writing, Outcome, answerOf, write}
 use Rattle.encoder.specs.WriterCode.{listed, given, Gives, piece}
 use Rattle.encoder.specs.declared.Written.{Written}
 use Rattle.encoder.specs.declared.scalar.Bytes.{Bytes}

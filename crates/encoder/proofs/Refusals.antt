@@ -1,19 +1,18 @@
 -- The refusal of a call, and what the call leaves. Assumes nothing.
 use mathlib.Core.Path.{_≡_, refl, sym, ap, _∙_}
-use mathlib.Core.Bool.{Bool, true, false, not, _&&_, _||_, and-false}
+use mathlib.Core.Bool.{Bool, true, false, not, _&&_, and-false}
 use mathlib.Core.List.{List}
-use mathlib.Core.Option.{Option, some, none}
+use mathlib.Core.Option.{some, none}
 use Prim.Native.Nat.{ℕ, zero, suc, _+_, _-_, _≤_, _<_}
 use native.Mathlib.Omega.{arith}
 use lib.Dec.{ltb, leb, eqb}
 use lib.ListN.{length}
-use borrow.Author.Tests.{ltb-false, leb-true, leb-false, eqb-true, eqb-false, lt-ltb, le-ltb, le-leb, lt-leb, eq-eqb, ne-eqb}
+use borrow.Author.Tests.{ltb-false, leb-true, leb-false, eqb-true, eqb-false, lt-ltb, le-ltb, le-leb, eq-eqb, ne-eqb}
 use Rattle.standard.specs.Base.{_then_else_, scalars}
 use Rattle.standard.specs.Encodings.{family, Tables, traits, fits}
-use Rattle.standard.specs.Machine.{Result}
 use Rattle.standard.specs.Encoders.{encoder}
 use Rattle.standard.proofs.Tests.{split, or-case, and-left}
-use Rattle.encoder.specs.Writer.{Writing, Outcome, refuse, write, writeAccepted, writeBy, encoding}
+use Rattle.encoder.specs.Writer.{Outcome, refuse, write, encoding}
 use Rattle.encoder.specs.declared.Written.{Written}
 use Rattle.encoder.specs.WriterCode.{writes, cellsOf, encoderOf, writingOf, refusalOf}
 

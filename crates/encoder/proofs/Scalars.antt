@@ -5,10 +5,10 @@ use mathlib.Core.List.{List, [], _∷_, _++_}
 use mathlib.Core.Option.{Option, some, none}
 use Prim.Native.Nat.{ℕ, zero, suc, _+_, _-_, _/_, _%_, _≤_, _<_}
 use native.Mathlib.Omega.{arith}
-use lib.Dec.{ltb, leb, eqb}
+use lib.Dec.{eqb}
 use lib.ListN.{length}
 use borrow.Author.Tests.{lt-ltb, le-ltb, le-leb, lt-leb, eqb-true, eqb-false, eq-eqb, ne-eqb}
-use Rattle.standard.specs.Base.{_then_else_, within, every, mapped}
+use Rattle.standard.specs.Base.{within, every, mapped}
 use Rattle.standard.specs.Indexes.{indexPointer, pointerFrom, irregular, countFrom, windows1252}
 use Rattle.standard.specs.Machine.{Result, tokens, error-with}
 use Rattle.standard.specs.Encoders.{utf8-following, utf8-bytes, utf8-encode, orErrorWith, single-encode, user-encode}

@@ -21,7 +21,7 @@ fn digits(c: u32) -> usize
 }
 
 // How many bytes are written of a scalar where writing goes on.
-pub fn size(b: Bytes, c: u32) -> usize
+pub(crate) fn size(b: Bytes, c: u32) -> usize
     requires { ⌜ b .count ≤ 4 ⌝ }
     ensures { λ r. ⌜ (r ≡ length (piece b c)) × (r ≤ c + 4) ⌝ }
 {
@@ -33,7 +33,7 @@ pub fn size(b: Bytes, c: u32) -> usize
 }
 
 // Does writing stop here: an unwritable scalar in mode 1?
-pub fn stops(mode: u8, b: Bytes) -> bool
+pub(crate) fn stops(mode: u8, b: Bytes) -> bool
     ensures { λ r. ⌜ r ≡ eqb mode 1 && eqb (b .count) 0 ⌝ }
 {
     if mode != 1 {
@@ -91,7 +91,7 @@ fn put_bytes(room: &mut [u8], at: usize, b: Bytes) -> usize
 }
 
 // What is written of a scalar where writing goes on; the place behind it.
-pub fn put(room: &mut [u8], at: usize, b: Bytes, c: u32) -> usize
+pub(crate) fn put(room: &mut [u8], at: usize, b: Bytes, c: u32) -> usize
     requires { ⌜ (at + length (piece b c) ≤ length (now room)) × (b .count ≤ 4) ⌝ }
     ensures { λ r. ⌜ (r ≡ at + length (piece b c)) × (now (room .exit) ≡ sets (now (room .entry)) at (piece b c)) ⌝ }
 {

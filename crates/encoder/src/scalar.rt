@@ -11,7 +11,7 @@ ghost use Rattle.standard.specs.Encoders.{utf8-encode, single-encode, user-enco
 ghost use Rattle.encoder.specs.WriterCode.{Gives, encoderOf};
 
 // As many bytes as `count` says, from the first on; none where the scalar is unwritable.
-pub struct Bytes {
+pub(crate) struct Bytes {
     pub count: usize,
     pub first: u8,
     pub second: u8,
@@ -126,7 +126,7 @@ fn user_defined(c: u32) -> Bytes
 }
 
 // The bytes of a scalar in an encoding that has a writer.
-pub fn bytes_of(encoding: u8, table: &[u32], c: u32) -> Bytes
+pub(crate) fn bytes_of(encoding: u8, table: &[u32], c: u32) -> Bytes
     requires { ⌜ (c ≤ 0x10FFFF) × (length (now table) ≤ 128) ⌝ }
     ensures { λ r. ⌜ Gives (encoderOf encoding (now (table .entry)) c) r ⌝ }
 {

@@ -1,13 +1,13 @@
 -- A cell that counts as mapped, by ranges, and the cell at a pointer. Assumes nothing.
-use mathlib.Core.Path.{_≡_, refl}
-use mathlib.Core.Bool.{Bool, true, false, and-false, and-true}
+use mathlib.Core.Path.{_≡_}
+use mathlib.Core.Bool.{true, false, and-true}
 use mathlib.Core.List.{List}
 use Prim.Native.Nat.{ℕ, _≤_, _<_}
 use native.Mathlib.Omega.{arith}
 use lib.Dec.{leb}
 use lib.ListN.{length, getD, List·getD-eq-default}
 use borrow.Author.Tests.{le-leb, lt-leb}
-use Rattle.standard.specs.Base.{within, mapped}
+use Rattle.standard.specs.Base.{mapped}
 use Rattle.standard.specs.Sequence.{cell}
 use Rattle.standard.proofs.Tests.{under, above}
 

@@ -2,18 +2,18 @@
 use mathlib.Core.Path.{_≡_, refl, sym, ap, _∙_}
 use mathlib.Core.Bool.{Bool, true, false, _&&_, and-false, or-false}
 use mathlib.Core.List.{List, [], _∷_}
-use Prim.Native.Nat.{ℕ, zero, suc, _+_, _-_, _*_, _≤_, _<_, min}
+use Prim.Native.Nat.{ℕ, zero, suc, _+_, _-_, _*_, _≤_, _<_}
 use native.Mathlib.Nat.{mul-le-mul-left, add-zero}
 use native.Mathlib.Numerals.{add-one}
 use native.Mathlib.Omega.{arith}
 use lib.Dec.{leb, eqb}
 use lib.ListN.{length, getD, drop, take, length-take, length-drop, drop-of-length-le}
 use lib.Seq.{slice, slice-cons, slice-empty, length-slice, drop-cons, drop-drop, getD-drop}
-use borrow.Author.Tests.{lt-ltb, le-ltb, lt-leb, le-leb, ne-eqb, eq-eqb}
+use borrow.Author.Tests.{lt-ltb, le-ltb, le-leb, ne-eqb, eq-eqb}
 use Rattle.standard.specs.Base.{within, mapped}
-use Rattle.standard.proofs.Tests.{split, under, above}
+use Rattle.standard.proofs.Tests.{under, above}
 use Rattle.index.specs.IndexLine.{decimal, hexadecimal, digit, value, ending}
-use Rattle.index.specs.IndexRead.{Read, noEntry, bad, entry, front, behind, space, marked, fits, readParts, isNoEntry, read}
+use Rattle.index.specs.IndexRead.{noEntry, bad, entry, front, behind, space, marked, fits, readParts, isNoEntry, read}
 use Rattle.index.specs.IndexCode.{Past, entryAt}
 
 pub decimal-small : (b : ℕ) → b < 0x30 → decimal b ≡ false

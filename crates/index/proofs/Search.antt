@@ -1,20 +1,20 @@
 -- A code point searched for in a stretch of a table, and an entry put into a table. Assumes nothing.
-use mathlib.Core.Path.{_≡_, refl, sym, ap, _∙_}
-use mathlib.Core.Bool.{Bool, true, false, _&&_, and-false}
+use mathlib.Core.Path.{_≡_, refl, sym, ap}
+use mathlib.Core.Bool.{true, false, _&&_, and-false}
 use mathlib.Core.List.{List, [], _∷_}
-use mathlib.Core.Option.{Option, some, none}
+use mathlib.Core.Option.{some, none}
 use Prim.Native.Nat.{ℕ, suc, _+_, _≤_, _<_, min}
 use native.Mathlib.Numerals.{add-one}
 use native.Mathlib.Omega.{arith}
 use lib.Dec.{ltb, leb, eqb}
-use lib.ListN.{length, getD, drop, take, length-take, drop-of-length-le}
+use lib.ListN.{length, getD, take, length-take, drop-of-length-le}
 use lib.Seq.{slice, slice-cons, take-all, take-length}
 use borrow.Author.Tests.{leb-true, leb-false, eqb-true, eq-eqb, ne-eqb, le-ltb, lt-ltb}
-use Rattle.standard.specs.Base.{_then_else_, mapped}
-use Rattle.standard.specs.Indexes.{indexPointer, pointerFrom}
+use Rattle.standard.specs.Base.{mapped}
+use Rattle.standard.specs.Indexes.{pointerFrom}
 use Rattle.standard.proofs.Tests.{split}
 use Rattle.index.specs.IndexRead.{Read, entry, read}
-use Rattle.index.specs.IndexCall.{Outcome, without, fill, free, enter, indexLine}
+use Rattle.index.specs.IndexCall.{Outcome, without, fill, enter, indexLine}
 
 module _ (table : List ℕ) (end c : ℕ) where
   pub stretch-end : (i : ℕ) → end ≤ i → none ≡ pointerFrom i (slice i end table) c

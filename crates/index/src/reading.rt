@@ -157,7 +157,7 @@ fn entry(line: &[u8], start: usize, tab: usize) -> Reading
 }
 
 // A line, read from its start.
-pub fn read(line: &[u8]) -> Reading
+pub(crate) fn read(line: &[u8]) -> Reading
     requires { ⌜ length (now line) ≤ 1024 ⌝ }
     ensures { λ r. ⌜ readOf r ≡ read (now (line .entry)) ⌝ }
 {

@@ -6,9 +6,9 @@ use Prim.Native.Nat.{ℕ, zero, suc, _-_, _≤_, _<_}
 use native.Mathlib.Omega.{arith}
 use lib.Dec.{ltb, leb, eqb}
 use lib.ListN.{take}
-use borrow.Author.Tests.{ltb-true, ltb-false, leb-false, not-true, not-false, le-ltb, lt-ltb, lt-leb, le-leb, ne-eqb, eq-eqb}
+use borrow.Author.Tests.{ltb-true, ltb-false, leb-false, not-true, not-false, le-ltb, lt-ltb, le-leb, ne-eqb, eq-eqb}
 use Rattle.standard.specs.Base.{_then_else_, within}
-use Rattle.standard.specs.Sequence.{Next, more, item, Shift, Out, await, scalar, bad, code, pair, trailed}
+use Rattle.standard.specs.Sequence.{more, item, Shift, Out, await, scalar, bad, code, pair, trailed}
 
 -- a range, from facts
 pub in-range : (l b h : ℕ) → l ≤ b → b ≤ h → within l b h ≡ true

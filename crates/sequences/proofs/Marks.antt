@@ -9,7 +9,7 @@ use lib.ListN.{take}
 use lib.Seq.{take-nil}
 use borrow.Author.Tests.{ne-eqb, eq-eqb}
 use Rattle.standard.specs.Base.{_then_else_}
-use Rattle.standard.specs.Sequence.{Out, text, error, Next, more, item, shift}
+use Rattle.standard.specs.Sequence.{Out, text, Next, more, item, shift}
 use Rattle.standard.specs.Next.{unmark, unmarked}
 use Rattle.sequences.specs.Code.{nextOf, outOf}
 use Rattle.sequences.specs.declared.Sequence.{Sequence}

@@ -1,12 +1,12 @@
 -- UTF-8, leaf by leaf. Assumes nothing.
 use mathlib.Core.Path.{_≡_, refl, _∙_}
 use mathlib.Core.Bool.{Bool, true, false}
-use mathlib.Core.List.{List, [], _∷_}
+use mathlib.Core.List.{[], _∷_}
 use Prim.Native.Nat.{ℕ, zero, suc, _+_, _-_, _*_, _≤_, _<_}
 use native.Mathlib.Omega.{arith}
 use lib.Dec.{eqb}
 use lib.ListN.{take}
-use borrow.Author.Tests.{le-ltb, lt-ltb, eq-eqb, ne-eqb}
+use borrow.Author.Tests.{le-ltb, lt-ltb, ne-eqb}
 use Rattle.standard.specs.Base.{within}
 use Rattle.standard.specs.Sequence.{Next, more, await, scalar, bad}
 use Rattle.standard.specs.Sequences.Utf8.{utf8, utf8Low, utf8High, follows, utf8Two, utf8Three, utf8Four}

@@ -1,10 +1,7 @@
 use borrow.Author.Tests.{eq-eqb, ne-eqb}
-use borrow.Author.Needs.{needs}
 use native.Mathlib.Omega.{arith}
 use Rattle.decoder.proofs.bit.Statement.{statement}
 use Rattle.decoder.proofs.bit.Tie as tie
-use Rattle.decoder.proofs.bit.Reads as reads
-use Rattle.decoder.proofs.bit.Lts as lts
 
 returns : tie.Need-returns
 returns c = rw (eq-eqb ((c .before .args) .flag) 1 (omega arith))

@@ -5,8 +5,6 @@ use native.Mathlib.Omega.{arith}
 use borrow.Author.Needs.{needs}
 use Rattle.decoder.proofs.byte_at.Statement.{statement}
 use Rattle.decoder.proofs.byte_at.Tie as tie
-use Rattle.decoder.proofs.byte_at.Reads as reads
-use Rattle.decoder.proofs.byte_at.Lts as lts
 
 cast-held : tie.Need-cast-held
 cast-held c = search needs

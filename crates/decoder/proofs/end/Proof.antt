@@ -1,16 +1,12 @@
 use lib.ListN.{length-set}
 use mathlib.Core.List.{[], _∷_}
-use mathlib.Core.Path.{_≡_, refl, sym, ap, _∙_}
+use mathlib.Core.Path.{sym, ap, _∙_}
 use Rattle.decoder.specs.Calls.{Outcome}
 use Rattle.decoder.proofs.Checks.{end-none, end-report, end-one, end-other, end-iso, from-front}
 use native.Mathlib.Omega.{arith}
 use borrow.Author.Needs.{needs}
 use Rattle.decoder.proofs.end.Statement.{statement}
 use Rattle.decoder.proofs.end.Tie as tie
-use Rattle.decoder.proofs.end.Reads as reads
-use Rattle.decoder.proofs.end.Lts as lts
-use Rattle.decoder.proofs.ends.Reads as ends-reads
-use Rattle.decoder.proofs.last_scalar.Reads as last-scalar-reads
 
 ends-requires : tie.Need-ends-requires
 ends-requires c κs = search needs

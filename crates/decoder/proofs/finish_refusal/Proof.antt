@@ -4,9 +4,6 @@ use native.Mathlib.Omega.{arith}
 use borrow.Author.Needs.{needs}
 use Rattle.decoder.proofs.finish_refusal.Statement.{statement}
 use Rattle.decoder.proofs.finish_refusal.Tie as tie
-use Rattle.decoder.proofs.finish_refusal.Reads as reads
-use Rattle.decoder.proofs.finish_refusal.Lts as lts
-use Rattle.decoder.proofs.valid.Reads as valid-reads
 
 valid-requires : tie.Need-valid-requires
 valid-requires c κs = search needs

@@ -4,10 +4,6 @@ use native.Mathlib.Omega.{arith}
 use borrow.Author.Needs.{needs}
 use Rattle.decoder.proofs.holds.Statement.{statement}
 use Rattle.decoder.proofs.holds.Tie as tie
-use Rattle.decoder.proofs.holds.Reads as reads
-use Rattle.decoder.proofs.holds.Lts as lts
-use Rattle.decoder.proofs.bit.Reads as bit-reads
-use Rattle.decoder.proofs.byte_at.Reads as byte-at-reads
 
 cast-have : tie.Need-cast-have
 cast-have c = search needs

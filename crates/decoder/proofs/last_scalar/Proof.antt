@@ -1,4 +1,4 @@
-use mathlib.Core.Path.{sym, _∙_}
+use mathlib.Core.Path.{_∙_}
 use lib.Dec.{eqb}
 use Rattle.standard.specs.Sequence.{shift}
 use Rattle.decoder.proofs.Checks.{iso-family, last-more, last-error, last-one}
@@ -6,9 +6,6 @@ use native.Mathlib.Omega.{arith}
 use borrow.Author.Needs.{needs}
 use Rattle.decoder.proofs.last_scalar.Statement.{statement}
 use Rattle.decoder.proofs.last_scalar.Tie as tie
-use Rattle.decoder.proofs.last_scalar.Reads as reads
-use Rattle.decoder.proofs.last_scalar.Lts as lts
-use Rattle.decoder.proofs.next.Reads as next-reads
 
 sub-empty : tie.Need-sub-empty
 sub-empty c = search needs

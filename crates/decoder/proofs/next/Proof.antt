@@ -1,15 +1,13 @@
 use mathlib.Core.Path.{sym, ap, _∙_}
 use native.Mathlib.Omega.{arith}
 use lib.Dec.{eqb}
-use Rattle.standard.specs.Sequence.{Next, shift}
+use Rattle.standard.specs.Sequence.{shift}
 use Rattle.standard.specs.Next.{unmarked}
 use Rattle.sequences.specs.Code.{front}
 use Rattle.decoder.proofs.Dispatch.{is-utf8, is-1252, is-single, is-gb, is-big5, is-euc-jp, is-iso, is-shift-jis, is-euc-kr, is-replacement, is-utf16, is-user, past-36}
 use borrow.Author.Needs.{needs}
 use Rattle.decoder.proofs.next.Statement.{statement}
 use Rattle.decoder.proofs.next.Tie as tie
-use Rattle.decoder.proofs.next.Reads as reads
-use Rattle.decoder.proofs.next.Lts as lts
 
 utf8-requires : tie.Need-utf8-requires
 utf8-requires c κs = search needs

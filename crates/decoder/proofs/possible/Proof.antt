@@ -2,14 +2,11 @@ use borrow.Author.Tests.{eq-eqb, ne-eqb}
 use mathlib.Core.Path.{sym, _∙_}
 use lib.Dec.{eqb}
 use Rattle.standard.specs.Sequence.{shift}
-use Rattle.decoder.proofs.Numbers.{possible-is, marked-is}
+use Rattle.decoder.proofs.Numbers.{possible-is}
 use native.Mathlib.Omega.{arith}
 use borrow.Author.Needs.{needs}
 use Rattle.decoder.proofs.possible.Statement.{statement}
 use Rattle.decoder.proofs.possible.Tie as tie
-use Rattle.decoder.proofs.possible.Reads as reads
-use Rattle.decoder.proofs.possible.Lts as lts
-use Rattle.decoder.proofs.marked.Reads as marked-reads
 
 returns : tie.Need-returns
 returns c =

@@ -1,14 +1,12 @@
 use native.Mathlib.Numerals.{add-one}
 use lib.ListN.{length, length-set}
 use mathlib.Core.List.{[], _∷_}
-use mathlib.Core.Path.{_≡_, refl, ap}
+use mathlib.Core.Path.{refl, ap}
 use Rattle.decoder.proofs.Loop.{out-error, out-none, out-one, out-two, out-some, patch-sets, patch-none}
 use native.Mathlib.Omega.{arith}
 use borrow.Author.Needs.{needs}
 use Rattle.decoder.proofs.put.Statement.{statement}
 use Rattle.decoder.proofs.put.Tie as tie
-use Rattle.decoder.proofs.put.Reads as reads
-use Rattle.decoder.proofs.put.Lts as lts
 
 mul-room : tie.Need-mul-room
 mul-room c = search needs

@@ -1,11 +1,8 @@
 use Prim.Native.Nat.{_%_}
 use borrow.Author.Tests.{eq-eqb, ne-eqb}
-use borrow.Author.Needs.{needs}
 use native.Mathlib.Omega.{arith}
 use Rattle.decoder.proofs.ranges_fit.Statement.{statement}
 use Rattle.decoder.proofs.ranges_fit.Tie as tie
-use Rattle.decoder.proofs.ranges_fit.Reads as reads
-use Rattle.decoder.proofs.ranges_fit.Lts as lts
 
 returns : tie.Need-returns
 returns c = rw (eq-eqb ((c .before .args) .size % 2) 0 (omega arith))

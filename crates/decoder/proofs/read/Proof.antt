@@ -1,19 +1,12 @@
-use mathlib.Core.Path.{_≡_, refl, sym, ap, _∙_}
+use mathlib.Core.Path.{sym, ap, _∙_}
 use lib.ListN.{length}
-use Prim.Native.Nat.{ℕ, _+_, _-_, _≤_}
+use Prim.Native.Nat.{_+_, _-_}
 use Rattle.decoder.specs.Calls.{Outcome}
 use Rattle.decoder.proofs.Loop.{Running, start-running, turn-few, turn-more, turn-width, turn-space, turn-report, turn-on, stops-no, stops-yes}
 use borrow.Author.Needs.{needs}
 use native.Mathlib.Omega.{arith}
 use Rattle.decoder.proofs.read.Statement.{statement}
 use Rattle.decoder.proofs.read.Tie as tie
-use Rattle.decoder.proofs.read.Reads as reads
-use Rattle.decoder.proofs.read.Lts as lts
-use Rattle.decoder.proofs.ends.Reads as ends-reads
-use Rattle.decoder.proofs.holds.Reads as holds-reads
-use Rattle.decoder.proofs.put.Reads as put-reads
-use Rattle.decoder.proofs.sequence_at.Reads as sequence-at-reads
-use Rattle.decoder.proofs.stops.Reads as stops-reads
 
 abbrev Inv-loop : tie.InvT-loop
 Inv-loop d chunk t1 t2 room₀ at₀ state₀ flag₀ written₀ room at state flag written = Running d chunk t1 t2 room₀ room at state flag written

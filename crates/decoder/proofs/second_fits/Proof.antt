@@ -5,9 +5,6 @@ use native.Mathlib.Omega.{arith}
 use borrow.Author.Needs.{needs}
 use Rattle.decoder.proofs.second_fits.Statement.{statement}
 use Rattle.decoder.proofs.second_fits.Tie as tie
-use Rattle.decoder.proofs.second_fits.Reads as reads
-use Rattle.decoder.proofs.second_fits.Lts as lts
-use Rattle.decoder.proofs.ranges_fit.Reads as ranges-fit-reads
 
 ranges-fit-requires : tie.Need-ranges-fit-requires
 ranges-fit-requires c κs = search needs

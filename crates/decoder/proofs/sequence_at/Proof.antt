@@ -1,6 +1,6 @@
 use lib.Dec.{eqb}
 use mathlib.Core.List.{_++_}
-use mathlib.Core.Path.{_≡_, refl, sym, ap, _∙_}
+use mathlib.Core.Path.{sym, ap, _∙_}
 use Prim.Native.Nat.{ℕ, _-_}
 use Rattle.decoder.specs.Valid.{heldOf}
 use Rattle.standard.specs.Sequence.{shift}
@@ -10,10 +10,6 @@ use native.Mathlib.Omega.{arith}
 use borrow.Author.Needs.{needs}
 use Rattle.decoder.proofs.sequence_at.Statement.{statement}
 use Rattle.decoder.proofs.sequence_at.Tie as tie
-use Rattle.decoder.proofs.sequence_at.Reads as reads
-use Rattle.decoder.proofs.sequence_at.Lts as lts
-use Rattle.decoder.proofs.byte_at.Reads as byte-at-reads
-use Rattle.decoder.proofs.next.Reads as next-reads
 
 cast-have : tie.Need-cast-have
 cast-have c = search needs

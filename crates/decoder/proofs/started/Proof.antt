@@ -3,9 +3,6 @@ use native.Mathlib.Omega.{arith}
 use borrow.Author.Needs.{needs}
 use Rattle.decoder.proofs.started.Statement.{statement}
 use Rattle.decoder.proofs.started.Tie as tie
-use Rattle.decoder.proofs.started.Reads as reads
-use Rattle.decoder.proofs.started.Lts as lts
-use Rattle.decoder.proofs.next.Reads as next-reads
 
 sub-empty : tie.Need-sub-empty
 sub-empty c = search needs

@@ -1,10 +1,7 @@
 use borrow.Author.Tests.{eq-eqb, ne-eqb}
-use borrow.Author.Needs.{needs}
 use native.Mathlib.Omega.{arith}
 use Rattle.decoder.proofs.stops.Statement.{statement}
 use Rattle.decoder.proofs.stops.Tie as tie
-use Rattle.decoder.proofs.stops.Reads as reads
-use Rattle.decoder.proofs.stops.Lts as lts
 
 returns : tie.Need-returns
 returns c = rw (eq-eqb ((c .before .args) .mode) 1 (omega arith))

@@ -1,14 +1,9 @@
 use mathlib.Core.Path.{sym, _∙_}
 use Rattle.standard.specs.Encodings.{lent}
 use Rattle.decoder.proofs.Checks.{fits-yes, fits-no}
-use native.Mathlib.Omega.{arith}
 use borrow.Author.Needs.{needs}
 use Rattle.decoder.proofs.tables_fit.Statement.{statement}
 use Rattle.decoder.proofs.tables_fit.Tie as tie
-use Rattle.decoder.proofs.tables_fit.Reads as reads
-use Rattle.decoder.proofs.tables_fit.Lts as lts
-use Rattle.decoder.proofs.first_cells.Reads as first-cells-reads
-use Rattle.decoder.proofs.second_fits.Reads as second-fits-reads
 
 first-cells-requires : tie.Need-first-cells-requires
 first-cells-requires c κs = search needs

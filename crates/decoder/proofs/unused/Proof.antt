@@ -1,12 +1,8 @@
 use mathlib.Core.Path.{sym, _∙_}
 use Rattle.decoder.proofs.Checks.{unused-yes, unused-second, unused-third}
-use native.Mathlib.Omega.{arith}
 use borrow.Author.Needs.{needs}
 use Rattle.decoder.proofs.unused.Statement.{statement}
 use Rattle.decoder.proofs.unused.Tie as tie
-use Rattle.decoder.proofs.unused.Reads as reads
-use Rattle.decoder.proofs.unused.Lts as lts
-use Rattle.decoder.proofs.free.Reads as free-reads
 
 free-requires : tie.Need-free-requires
 free-requires c κs = search needs

@@ -4,10 +4,6 @@ use native.Mathlib.Omega.{arith}
 use borrow.Author.Needs.{needs}
 use Rattle.decoder.proofs.valid.Statement.{statement}
 use Rattle.decoder.proofs.valid.Tie as tie
-use Rattle.decoder.proofs.valid.Reads as reads
-use Rattle.decoder.proofs.valid.Lts as lts
-use Rattle.decoder.proofs.unused.Reads as unused-reads
-use Rattle.decoder.proofs.valid_rest.Reads as valid-rest-reads
 
 returns : tie.Need-returns
 returns c = sym (no-encoding ((c .before .before .args) .d) (omega arith))

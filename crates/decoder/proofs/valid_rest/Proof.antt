@@ -5,10 +5,6 @@ use native.Mathlib.Omega.{arith}
 use borrow.Author.Needs.{needs}
 use Rattle.decoder.proofs.valid_rest.Statement.{statement}
 use Rattle.decoder.proofs.valid_rest.Tie as tie
-use Rattle.decoder.proofs.valid_rest.Reads as reads
-use Rattle.decoder.proofs.valid_rest.Lts as lts
-use Rattle.decoder.proofs.possible.Reads as possible-reads
-use Rattle.decoder.proofs.started.Reads as started-reads
 
 possible-requires : tie.Need-possible-requires
 possible-requires c κs = search needs

@@ -5,12 +5,8 @@ use lib.ListN.{length, drop}
 use Prim.Native.Nat.{_-_}
 use mathlib.Core.Path.{_≡_, refl, sym, _∙_}
 use borrow.Author.Needs.{needs}
-use native.Mathlib.Omega.{arith}
 use Rattle.encoder.proofs.all_scalars.Statement.{statement}
 use Rattle.encoder.proofs.all_scalars.Tie as tie
-use Rattle.encoder.proofs.all_scalars.Reads as reads
-use Rattle.encoder.proofs.all_scalars.Lts as lts
-use Rattle.encoder.proofs.is_scalar.Reads as is-scalar-reads
 
 abbrev Inv-loop : tie.InvT-loop
 Inv-loop scalars i₀ i = areScalars (drop i scalars) ≡ areScalars scalars

@@ -7,11 +7,6 @@ use borrow.Author.Needs.{needs}
 use native.Mathlib.Omega.{arith}
 use Rattle.encoder.proofs.count.Statement.{statement}
 use Rattle.encoder.proofs.count.Tie as tie
-use Rattle.encoder.proofs.count.Reads as reads
-use Rattle.encoder.proofs.count.Lts as lts
-use Rattle.encoder.proofs.pieces.size.Reads as size-reads
-use Rattle.encoder.proofs.pieces.stops.Reads as stops-reads
-use Rattle.encoder.proofs.scalar.bytes_of.Reads as bytes-of-reads
 
 abbrev Inv-loop : tie.InvT-loop
 Inv-loop encoding mode scalars table n₀ i₀ n i = Counted (encoderOf encoding table) mode scalars n i
@@ -19,51 +14,39 @@ Inv-loop encoding mode scalars table n₀ i₀ n i = Counted (encoderOf encoding
 abbrev μ-loop : tie.MeasureT-loop
 μ-loop encoding mode scalars table n₀ i₀ n i = length scalars - i
 
--- src/lib.rt:29:5
 loop-holds : tie.Need-loop-holds Inv-loop μ-loop
 loop-holds c = counted-start _ _ _
 
--- src/lib.rt:30:17
 mul-c : tie.Need-mul-c Inv-loop μ-loop
 mul-c c = search needs
 
--- src/lib.rt:30:17
 shared-slice-read-c : tie.Need-shared-slice-read-c Inv-loop μ-loop
 shared-slice-read-c c = search needs
 
--- src/lib.rt:31:13
 bytes-of-requires : tie.Need-bytes-of-requires Inv-loop μ-loop
 bytes-of-requires c κs = (scalar-at ((c .before .before .before .before .before .args) .scalars .now) (c .before .before .loop .i) (c .before .before .before .before .before .pre .0) (c .before .loop-test .taken), c .before .before .before .before .before .pre .2)
 
--- src/lib.rt:32:12
 stops-requires : tie.Need-stops-requires Inv-loop μ-loop
 stops-requires c κs = search needs
 
--- src/lib.rt:33:13
 returns : tie.Need-returns Inv-loop μ-loop
 returns c = counted-stop _ _ _ _ _ (c .before .before .before .before .before .loop .inv) (c .before .before .before .before .loop-test .taken) _ (c .before .before .bytes-of .ensures) (sym (c .before .stops .ensures) ∙ c .if1 .taken)
 
--- src/lib.rt:35:14
 size-requires : tie.Need-size-requires Inv-loop μ-loop
 size-requires c κs = c .before .before .bytes-of .ensures .few
 
--- src/lib.rt:35:9
 add-n : tie.Need-add-n Inv-loop μ-loop
 add-n c = record { fits = omega (arith, c .before .before .before .before .before .before .loop .inv .bound, c .size .ensures .1, scalar-at ((c .before .before .before .before .before .before .before .before .before .args) .scalars .now) (c .before .before .before .before .before .before .loop .i) (c .before .before .before .before .before .before .before .before .before .pre .0) (c .before .before .before .before .before .loop-test .taken), c .before .before .before .before .before .before .before .before .before .pre .1, c .before .before .before .before .before .loop-test .taken) }
 
--- src/lib.rt:36:9
 add-i : tie.Need-add-i Inv-loop μ-loop
 add-i c = search needs
 
--- src/lib.rt:29:5
 loop-less : tie.Need-loop-less Inv-loop μ-loop
 loop-less c = search needs
 
--- src/lib.rt:29:5
 loop-again : tie.Need-loop-again Inv-loop μ-loop
 loop-again c = counted-on _ _ _ _ _ (c .before .before .before .before .before .before .loop .inv) (c .before .before .before .before .before .loop-test .taken) _ (c .before .before .before .bytes-of .ensures) (sym (c .before .before .stops .ensures) ∙ c .before .if1 .left) (c .size .result) (c .size .ensures .0) (omega (arith, c .size .ensures .1, scalar-at ((c .before .before .before .before .before .before .before .before .before .args) .scalars .now) (c .before .before .before .before .before .before .loop .i) (c .before .before .before .before .before .before .before .before .before .pre .0) (c .before .before .before .before .before .loop-test .taken)))
 
--- src/lib.rt:23:1
 returns-2 : tie.Need-returns-2 Inv-loop μ-loop
 returns-2 c = counted-end _ _ _ _ _ (c .before .loop .inv) (c .loop-test .left)
 

@@ -1,32 +1,22 @@
 use Rattle.standard.specs.Encodings.{lent}
 use Rattle.encoder.proofs.Refusals.{accepted, tells-refusal, tells-written}
 use mathlib.Core.Path.{sym, _∙_}
-use native.Mathlib.Omega.{arith}
 use borrow.Author.Needs.{needs}
 use Rattle.encoder.proofs.encode.Statement.{statement}
 use Rattle.encoder.proofs.encode.Tie as tie
-use Rattle.encoder.proofs.encode.Reads as reads
-use Rattle.encoder.proofs.encode.Lts as lts
-use Rattle.encoder.proofs.refusal.Reads as refusal-reads
-use Rattle.encoder.proofs.write.Reads as write-reads
 
--- src/lib.rt:146:9
 refusal-requires : tie.Need-refusal-requires
 refusal-requires c κs = search needs
 
--- src/lib.rt:148:9
 returns : tie.Need-returns
 returns c = tells-refusal ((c .before .before .before .before .before .before .args) .encoding) ((c .before .before .before .before .before .before .args) .mode) (lent ((c .before .before .before .before .before .before .args) .t1 .now) ((c .before .before .before .before .before .before .args) .t2 .now)) ((c .before .before .before .before .before .before .args) .scalars .now) ((c .before .before .before .before .before .before .args) .room .now) (c .before .refusal .result) (c .before .refusal .ensures) (c .if1 .taken)
 
--- src/lib.rt:150:5
 write-requires : tie.Need-write-requires
 write-requires c κs = let k = accepted ((c .before .before .before .before .before .before .before .args) .encoding) ((c .before .before .before .before .before .before .before .args) .mode) (lent ((c .before .before .before .before .before .before .before .args) .t1 .now) ((c .before .before .before .before .before .before .before .args) .t2 .now)) ((c .before .before .before .before .before .before .before .args) .scalars .now) ((c .before .before .before .before .before .before .before .args) .room .now) (sym (c .before .before .refusal .ensures) ∙ c .before .if1 .left) in (k .are-scalars, k .few, k .space)
 
--- src/lib.rt:143:1
 same-length : tie.Need-same-length
 same-length c = search needs
 
--- src/lib.rt:143:1
 returns-2 : tie.Need-returns-2
 returns-2 c = tells-written ((c .before .before .before .before .before .before .before .before .before .before .args) .encoding) ((c .before .before .before .before .before .before .before .before .before .before .args) .mode) (lent ((c .before .before .before .before .before .before .before .before .before .before .args) .t1 .now) ((c .before .before .before .before .before .before .before .before .before .before .args) .t2 .now)) ((c .before .before .before .before .before .before .before .before .before .before .args) .scalars .now) ((c .before .before .before .before .before .before .before .before .before .before .args) .room .now) (c .before .before .before .before .before .refusal .result) (c .before .before .before .before .before .refusal .ensures) (c .before .before .before .before .if1 .left) (c .before .before .write .ensures)
 

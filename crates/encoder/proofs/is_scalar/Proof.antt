@@ -1,20 +1,14 @@
 use Rattle.encoder.proofs.Counting.{scalar-low, scalar-surrogate, scalar-high}
 use borrow.Author.Needs.{needs}
-use native.Mathlib.Omega.{arith}
 use Rattle.encoder.proofs.is_scalar.Statement.{statement}
 use Rattle.encoder.proofs.is_scalar.Tie as tie
-use Rattle.encoder.proofs.is_scalar.Reads as reads
-use Rattle.encoder.proofs.is_scalar.Lts as lts
 
--- src/lib.rt:64:9
 returns : tie.Need-returns
 returns c = scalar-low ((c .before .args) .c) (search needs)
 
--- src/lib.rt:67:9
 returns-2 : tie.Need-returns-2
 returns-2 c = scalar-surrogate ((c .before .before .args) .c) (search needs) (search needs)
 
--- src/lib.rt:60:1
 returns-3 : tie.Need-returns-3
 returns-3 c = scalar-high ((c .before .before .args) .c) (search needs)
 

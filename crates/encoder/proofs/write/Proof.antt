@@ -4,14 +4,8 @@ use lib.ListN.{length}
 use Prim.Native.Nat.{_-_}
 use mathlib.Core.Path.{sym, _∙_}
 use borrow.Author.Needs.{needs}
-use native.Mathlib.Omega.{arith}
 use Rattle.encoder.proofs.write.Statement.{statement}
 use Rattle.encoder.proofs.write.Tie as tie
-use Rattle.encoder.proofs.write.Reads as reads
-use Rattle.encoder.proofs.write.Lts as lts
-use Rattle.encoder.proofs.pieces.put.Reads as put-reads
-use Rattle.encoder.proofs.pieces.stops.Reads as stops-reads
-use Rattle.encoder.proofs.scalar.bytes_of.Reads as bytes-of-reads
 
 abbrev Inv-loop : tie.InvT-loop
 Inv-loop encoding mode scalars table room₀ o₀ i₀ room o i = Running (encoderOf encoding table) mode scalars room₀ room i o
@@ -19,55 +13,42 @@ Inv-loop encoding mode scalars table room₀ o₀ i₀ room o i = Running (encod
 abbrev μ-loop : tie.MeasureT-loop
 μ-loop encoding mode scalars table room₀ o₀ i₀ room o i = length scalars - i
 
--- src/lib.rt:48:5
 loop-holds : tie.Need-loop-holds Inv-loop μ-loop
 loop-holds c = running-start _ _ _ _
 
--- src/lib.rt:49:17
 mul-c : tie.Need-mul-c Inv-loop μ-loop
 mul-c c = search needs
 
--- src/lib.rt:49:17
 shared-slice-read-c : tie.Need-shared-slice-read-c Inv-loop μ-loop
 shared-slice-read-c c = search needs
 
--- src/lib.rt:50:13
 bytes-of-requires : tie.Need-bytes-of-requires Inv-loop μ-loop
 bytes-of-requires c κs = (scalar-at ((c .before .before .before .before .before .before .args) .scalars .now) (c .before .before .loop .i) (c .before .before .before .before .before .before .pre .0) (c .before .loop-test .taken), c .before .before .before .before .before .before .pre .1)
 
--- src/lib.rt:51:12
 stops-requires : tie.Need-stops-requires Inv-loop μ-loop
 stops-requires c κs = search needs
 
--- src/lib.rt:52:13
 same-length : tie.Need-same-length Inv-loop μ-loop
 same-length c = search needs
 
--- src/lib.rt:52:13
 returns : tie.Need-returns Inv-loop μ-loop
 returns c = running-stop _ _ _ _ _ _ _ (c .before .before .before .before .before .loop .inv) (c .before .before .before .before .loop-test .taken) _ (c .before .before .bytes-of .ensures) (sym (c .before .stops .ensures) ∙ c .if1 .taken)
 
--- src/lib.rt:54:9
 put-requires : tie.Need-put-requires Inv-loop μ-loop
 put-requires c κs = (running-room _ _ _ _ _ _ _ (c .before .before .before .before .before .before .loop .inv) (c .before .before .before .before .before .loop-test .taken) _ (c .before .before .before .bytes-of .ensures) (sym (c .before .before .stops .ensures) ∙ c .before .if1 .left) (c .before .before .before .before .before .before .before .before .before .before .pre .2), c .before .before .before .bytes-of .ensures .few)
 
--- src/lib.rt:55:9
 add-i : tie.Need-add-i Inv-loop μ-loop
 add-i c = search needs
 
--- src/lib.rt:48:5
 loop-less : tie.Need-loop-less Inv-loop μ-loop
 loop-less c = search needs
 
--- src/lib.rt:48:5
 loop-again : tie.Need-loop-again Inv-loop μ-loop
 loop-again c = running-on _ _ _ _ _ _ _ (c .before .before .before .before .before .before .before .before .before .loop .inv) (c .before .before .before .before .before .before .before .before .loop-test .taken) _ (c .before .before .before .before .before .before .bytes-of .ensures) (sym (c .before .before .before .before .before .stops .ensures) ∙ c .before .before .before .before .if1 .left) (c .before .before .before .before .before .before .before .before .before .before .before .before .before .pre .2) _ _ (c .before .before .put .ensures .0) (c .before .before .put .ensures .1)
 
--- src/lib.rt:42:1
 same-length-2 : tie.Need-same-length-2 Inv-loop μ-loop
 same-length-2 c = search needs
 
--- src/lib.rt:42:1
 returns-2 : tie.Need-returns-2 Inv-loop μ-loop
 returns-2 c = running-end _ _ _ _ _ _ _ (c .before .loop .inv) (c .loop-test .left)
 

@@ -1,16 +1,10 @@
 use borrow.Author.Tests.{le-leb, lt-leb}
-use borrow.Author.Needs.{needs}
-use native.Mathlib.Omega.{arith}
 use Rattle.encoder.proofs.writes.Statement.{statement}
 use Rattle.encoder.proofs.writes.Tie as tie
-use Rattle.encoder.proofs.writes.Reads as reads
-use Rattle.encoder.proofs.writes.Lts as lts
 
--- src/lib.rt:90:9
 returns : tie.Need-returns
 returns c = rw (le-leb _ _ (c .if1 .taken))
 
--- src/lib.rt:86:1
 returns-2 : tie.Need-returns-2
 returns-2 c = rw (lt-leb _ _ (c .if1 .left))
 

@@ -4,31 +4,22 @@ use native.Mathlib.Omega.{arith}
 use borrow.Author.Needs.{needs}
 use Rattle.index.proofs.cell.Statement.{statement}
 use Rattle.index.proofs.cell.Tie as tie
-use Rattle.index.proofs.cell.Reads as reads
-use Rattle.index.proofs.cell.Lts as lts
-use Rattle.index.proofs.mapped.Reads as mapped-reads
 
--- src/lib.rt:36:9
 returns : tie.Need-returns
 returns c = sym (cell-out ((c .before .before .args) .table .now) ((c .before .before .args) .p) (omega arith))
 
--- src/lib.rt:38:13
 mul-c : tie.Need-mul-c
 mul-c c = search needs
 
--- src/lib.rt:38:13
 shared-slice-read-c : tie.Need-shared-slice-read-c
 shared-slice-read-c c = search needs
 
--- src/lib.rt:39:8
 mapped-requires : tie.Need-mapped-requires
 mapped-requires c κs = search needs
 
--- src/lib.rt:32:1
 returns-2 : tie.Need-returns-2
 returns-2 c = sym (cell-mapped ((c .before .before .before .before .before .args) .table .now) ((c .before .before .before .before .before .args) .p) (sym (c .before .mapped .ensures) ∙ c .if2 .taken))
 
--- src/lib.rt:32:1
 returns-3 : tie.Need-returns-3
 returns-3 c = sym (cell-unmapped ((c .before .before .before .before .before .args) .table .now) ((c .before .before .before .before .before .args) .p) (sym (c .before .mapped .ensures) ∙ c .if2 .left))
 

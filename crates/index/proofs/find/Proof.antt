@@ -4,11 +4,8 @@ use lib.Seq.{slice}
 use mathlib.Core.Path.{_≡_, refl, _∙_}
 use Prim.Native.Nat.{_-_}
 use borrow.Author.Needs.{needs}
-use native.Mathlib.Omega.{arith}
 use Rattle.index.proofs.find.Statement.{statement}
 use Rattle.index.proofs.find.Tie as tie
-use Rattle.index.proofs.find.Reads as reads
-use Rattle.index.proofs.find.Lts as lts
 
 abbrev Inv-loop : tie.InvT-loop
 Inv-loop table start end c i₀ i = pointerFrom i (slice i end table) c ≡ pointerFrom start (slice start end table) c
@@ -16,35 +13,27 @@ Inv-loop table start end c i₀ i = pointerFrom i (slice i end table) c ≡ poin
 abbrev μ-loop : tie.MeasureT-loop
 μ-loop table start end c i₀ i = end - i
 
--- src/lib.rt:108:5
 loop-holds : tie.Need-loop-holds Inv-loop μ-loop
 loop-holds c = refl
 
--- src/lib.rt:109:12
 mul-if1 : tie.Need-mul-if1 Inv-loop μ-loop
 mul-if1 c = search needs
 
--- src/lib.rt:109:12
 shared-slice-read-if1 : tie.Need-shared-slice-read-if1 Inv-loop μ-loop
 shared-slice-read-if1 c = search needs
 
--- src/lib.rt:110:13
 returns : tie.Need-returns Inv-loop μ-loop
 returns c = stretch-found ((c .before .before .before .before .args) .table .now) ((c .before .before .before .before .args) .end) ((c .before .before .before .before .args) .c) (search needs) (c .before .before .before .loop .i) (c .before .before .loop-test .taken) (c .before .before .before .before .pre .0) (c .if1 .taken) ∙ c .before .before .before .loop .inv
 
--- src/lib.rt:112:9
 add-i : tie.Need-add-i Inv-loop μ-loop
 add-i c = search needs
 
--- src/lib.rt:108:5
 loop-less : tie.Need-loop-less Inv-loop μ-loop
 loop-less c = search needs
 
--- src/lib.rt:108:5
 loop-again : tie.Need-loop-again Inv-loop μ-loop
 loop-again c = stretch-on ((c .before .before .before .before .args) .table .now) ((c .before .before .before .before .args) .end) ((c .before .before .before .before .args) .c) (search needs) (c .before .before .before .loop .i) (c .before .before .loop-test .taken) (c .if1 .left) ∙ c .before .before .before .loop .inv
 
--- src/lib.rt:103:1
 returns-2 : tie.Need-returns-2 Inv-loop μ-loop
 returns-2 c = stretch-end ((c .before .before .args) .table .now) ((c .before .before .args) .end) ((c .before .before .args) .c) (c .before .loop .i) (c .loop-test .left) ∙ c .before .loop .inv
 

@@ -3,52 +3,37 @@ use mathlib.Core.Path.{ap, sym}
 use Rattle.index.specs.IndexRead.{noEntry, bad, entry}
 use Rattle.index.proofs.Search.{told, line-long, line-read}
 use mathlib.Core.Path.{_∙_}
-use native.Mathlib.Omega.{arith}
 use borrow.Author.Needs.{needs}
 use Rattle.index.proofs.index_line.Statement.{statement}
 use Rattle.index.proofs.index_line.Tie as tie
-use Rattle.index.proofs.index_line.Reads as reads
-use Rattle.index.proofs.index_line.Lts as lts
-use Rattle.index.proofs.enter.Reads as enter-reads
-use Rattle.index.proofs.reading.read.Reads as read-reads
 
--- src/lib.rt:154:9
 returns : tie.Need-returns
 returns c = told (line-long ((c .before .before .before .args) .line .now) ((c .before .before .before .args) .table .now) (c .if1 .taken))
 
--- src/lib.rt:156:11
 read-requires : tie.Need-read-requires
 read-requires c κs = search needs
 
--- src/lib.rt:157:29
 enum-told : tie.Need-enum-told
 enum-told c = search needs
 
--- src/lib.rt:158:25
 enum-told-2 : tie.Need-enum-told-2
 enum-told-2 c = search needs
 
--- src/lib.rt:159:24
 enum-known-pointer : tie.Need-enum-known-pointer
 enum-known-pointer c = search needs
 
--- src/lib.rt:159:39
 enter-requires : tie.Need-enter-requires
 enter-requires c κs = search needs
 
--- src/lib.rt:150:1
 returns-2 : tie.Need-returns-2
 returns-2 c = told (line-read ((c .before .before .before .before .before .before .args) .line .now) ((c .before .before .before .before .before .before .args) .table .now) (c .before .before .before .if1 .left) {r = noEntry} (ap readOf (sym (c .enum-told .given .1)) ∙ c .before .before .read .ensures))
 
--- src/lib.rt:150:1
 returns-3 : tie.Need-returns-3
 returns-3 c = told (line-read ((c .before .before .before .before .before .before .args) .line .now) ((c .before .before .before .before .before .before .args) .table .now) (c .before .before .before .if1 .left) {r = bad} (ap readOf (sym (c .enum-told2 .given .1)) ∙ c .before .before .read .ensures))
 
--- src/lib.rt:150:1
 same-length : tie.Need-same-length
 same-length c = search needs
 
--- src/lib.rt:150:1
 returns-4 : tie.Need-returns-4
 returns-4 c = let e = ap readOf (sym (c .before .before .before .before .before .pointer .given .1)) ∙ c .before .before .before .before .before .before .before .read .ensures in let t = told (line-read ((c .before .before .before .before .before .before .before .before .before .before .before .args) .line .now) ((c .before .before .before .before .before .before .before .before .before .before .before .args) .table .now) (c .before .before .before .before .before .before .before .before .if1 .left) {r = entry _ _} e) in (c .before .before .enter .ensures .0 ∙ t .0, c .before .before .enter .ensures .1 ∙ t .1)
 

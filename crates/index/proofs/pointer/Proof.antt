@@ -3,19 +3,13 @@ use Rattle.standard.specs.Indexes.{pointerFrom}
 use Prim.Native.Nat.{ℕ}
 use mathlib.Core.List.{List}
 use mathlib.Core.Path.{ap, _∙_}
-use native.Mathlib.Omega.{arith}
 use borrow.Author.Needs.{needs}
 use Rattle.index.proofs.pointer.Statement.{statement}
 use Rattle.index.proofs.pointer.Tie as tie
-use Rattle.index.proofs.pointer.Reads as reads
-use Rattle.index.proofs.pointer.Lts as lts
-use Rattle.index.proofs.pointer_between.Reads as pointer-between-reads
 
--- src/lib.rt:131:5
 pointer-between-requires : tie.Need-pointer-between-requires
 pointer-between-requires c κs = search needs
 
--- src/lib.rt:128:1
 returns : tie.Need-returns
 returns c = c .pointer-between .ensures ∙ ap (λ (l : List ℕ). pointerFrom 0 l ((c .before .before .args) .c)) (whole ((c .before .before .args) .table .now))
 

@@ -2,37 +2,26 @@ use Rattle.index.proofs.Search.{unmapped-missing, clipped}
 use Rattle.standard.specs.Indexes.{pointerFrom}
 use borrow.Author.Tests.{not-true, not-false}
 use lib.Seq.{slice}
-use lib.ListN.{length}
-use Prim.Native.Nat.{ℕ, min}
+use Prim.Native.Nat.{ℕ}
 use mathlib.Core.List.{List}
 use mathlib.Core.Path.{ap, sym, _∙_}
 use native.Mathlib.Omega.{arith}
 use borrow.Author.Needs.{needs}
 use Rattle.index.proofs.pointer_between.Statement.{statement}
 use Rattle.index.proofs.pointer_between.Tie as tie
-use Rattle.index.proofs.pointer_between.Reads as reads
-use Rattle.index.proofs.pointer_between.Lts as lts
-use Rattle.index.proofs.find.Reads as find-reads
-use Rattle.index.proofs.least.Reads as least-reads
-use Rattle.index.proofs.mapped.Reads as mapped-reads
 
--- src/lib.rt:121:9
 mapped-requires : tie.Need-mapped-requires
 mapped-requires c κs = search needs
 
--- src/lib.rt:122:9
 returns : tie.Need-returns
 returns c = unmapped-missing ((c .before .before .before .args) .c) (sym (c .before .mapped .ensures) ∙ not-true _ (c .if1 .taken)) _ _
 
--- src/lib.rt:124:24
 least-requires : tie.Need-least-requires
 least-requires c κs = search needs
 
--- src/lib.rt:124:5
 find-requires : tie.Need-find-requires
 find-requires c κs = (sym (c .before .before .mapped .ensures) ∙ not-false _ (c .before .if1 .left), omega (arith, c .least .ensures))
 
--- src/lib.rt:118:1
 returns-2 : tie.Need-returns-2
 returns-2 c = c .find .ensures ∙ ap (λ (n : ℕ). pointerFrom ((c .before .before .before .before .before .args) .start) (slice ((c .before .before .before .before .before .args) .start) n ((c .before .before .before .before .before .args) .table .now)) ((c .before .before .before .before .before .args) .c)) (c .before .least .ensures) ∙ ap (λ (l : List ℕ). pointerFrom ((c .before .before .before .before .before .args) .start) l ((c .before .before .before .before .before .args) .c)) (clipped ((c .before .before .before .before .before .args) .start) ((c .before .before .before .before .before .args) .end) ((c .before .before .before .before .before .args) .table .now))
 

@@ -1,16 +1,11 @@
-use mathlib.Core.Path.{_≡_, sym, ap, _∙_}
+use mathlib.Core.Path.{sym, ap, _∙_}
 use Prim.Native.Nat.{ℕ}
 use Rattle.standard.specs.Encodings.{lent}
 use Rattle.decoder.specs.Calls.{Outcome, refuse}
 use Rattle.decoder.proofs.Checks.{feed-bounds, feed-done, feed-refused}
-use native.Mathlib.Omega.{arith}
 use borrow.Author.Needs.{needs}
 use Rattle.decoder.proofs.Decoder.feed.Statement.{statement}
 use Rattle.decoder.proofs.Decoder.feed.Tie as tie
-use Rattle.decoder.proofs.Decoder.feed.Reads as reads
-use Rattle.decoder.proofs.Decoder.feed.Lts as lts
-use Rattle.decoder.proofs.feed_refusal.Reads as feed-refusal-reads
-use Rattle.decoder.proofs.read.Reads as read-reads
 
 feed-refusal-requires : tie.Need-feed-refusal-requires
 feed-refusal-requires c κs = search needs

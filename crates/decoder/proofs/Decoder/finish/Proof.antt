@@ -1,15 +1,10 @@
-use mathlib.Core.Path.{_≡_, sym, ap, _∙_}
+use mathlib.Core.Path.{sym, ap, _∙_}
 use Prim.Native.Nat.{ℕ}
 use Rattle.decoder.specs.Calls.{Outcome, refuse}
 use Rattle.decoder.proofs.Checks.{finish-bounds, finish-done, finish-refused}
-use native.Mathlib.Omega.{arith}
 use borrow.Author.Needs.{needs}
 use Rattle.decoder.proofs.Decoder.finish.Statement.{statement}
 use Rattle.decoder.proofs.Decoder.finish.Tie as tie
-use Rattle.decoder.proofs.Decoder.finish.Reads as reads
-use Rattle.decoder.proofs.Decoder.finish.Lts as lts
-use Rattle.decoder.proofs.end.Reads as end-reads
-use Rattle.decoder.proofs.finish_refusal.Reads as finish-refusal-reads
 
 finish-refusal-requires : tie.Need-finish-refusal-requires
 finish-refusal-requires c κs = search needs

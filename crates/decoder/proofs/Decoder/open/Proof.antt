@@ -1,6 +1,6 @@
 use borrow.Author.Tests.{lt-ltb, eq-eqb, ne-eqb}
 use lib.Dec.{ltb}
-use mathlib.Core.Bool.{true, false, or-true, and-true, and-false}
+use mathlib.Core.Bool.{true, false, or-true, and-false}
 use mathlib.Core.Path.{sym, _∙_}
 use Rattle.standard.specs.Encodings.{family, traits}
 use Rattle.decoder.proofs.Checks.{open-2, open-3, open-0}
@@ -8,10 +8,6 @@ use native.Mathlib.Omega.{arith}
 use borrow.Author.Needs.{needs}
 use Rattle.decoder.proofs.Decoder.open.Statement.{statement}
 use Rattle.decoder.proofs.Decoder.open.Tie as tie
-use Rattle.decoder.proofs.Decoder.open.Reads as reads
-use Rattle.decoder.proofs.Decoder.open.Lts as lts
-use Rattle.decoder.proofs.ends.Reads as ends-reads
-use Rattle.decoder.proofs.marked.Reads as marked-reads
 
 ends-requires : tie.Need-ends-requires
 ends-requires c κs = search needs

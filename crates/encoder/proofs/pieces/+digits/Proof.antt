@@ -19,23 +19,19 @@ digits-at t = and 0 digits-kinds.ps (is 0 digits-kinds.ps μ-digits t) digits.Pr
 abbrev digits-below : ℕ → In 0 digits-kinds.ps
 digits-below t = and 0 digits-kinds.ps (falls 0 digits-kinds.ps _<_ μ-digits t) digits.Pre
 
--- src/pieces.rt:19:9
 digits-returns :
     (t : ℕ) → digits-lts.Need-returns (digits-below t, digits.Post) (digits-at t) digits.Post
 digits-returns t c = (digits-one-length (c .before .args .c) (search needs), search needs)
 
--- src/pieces.rt:21:5
 digits-digits-requires :
     (t : ℕ) →
     digits-lts.Need-digits-requires (digits-below t, digits.Post) (digits-at t) digits.Post
 digits-digits-requires t c κs = (search needs, tt)
 
--- src/pieces.rt:21:5
 digits-add-result :
     (t : ℕ) → digits-lts.Need-add-result (digits-below t, digits.Post) (digits-at t) digits.Post
 digits-add-result t c = search needs
 
--- src/pieces.rt:15:1
 digits-returns-2 :
     (t : ℕ) → digits-lts.Need-returns-2 (digits-below t, digits.Post) (digits-at t) digits.Post
 digits-returns-2 t c = (digits-more-length (c .before .before .args .c) (search needs) (c .digits .result) (c .digits .ensures .0), omega (arith, c .digits .ensures .1))

@@ -21,7 +21,6 @@ abbrev put-digits-below : ℕ → In 1 put-digits-kinds.ps
 put-digits-below t =
     and 1 put-digits-kinds.ps (falls 1 put-digits-kinds.ps _<_ μ-put-digits t) put-digits.Pre
 
--- src/pieces.rt:52:21
 put-digits-add-room :
     (t : ℕ) →
     put-digits-lts.Need-add-room
@@ -30,35 +29,30 @@ put-digits-add-room :
     put-digits.Post
 put-digits-add-room t c = search needs
 
--- src/pieces.rt:52:20
 put-digits-cast-room : (t : ℕ) → put-digits-lts.Need-cast-room (
   put-digits-below t,
   put-digits.Post,
 ) (put-digits-at t) put-digits.Post
 put-digits-cast-room t c = search needs
 
--- src/pieces.rt:52:9
 put-digits-slice-write-room : (t : ℕ) → put-digits-lts.Need-slice-write-room (
   put-digits-below t,
   put-digits.Post,
 ) (put-digits-at t) put-digits.Post
 put-digits-slice-write-room t c = omega (arith, digits-one-length ((c .before .before .args) .c) (search needs), c .before .before .pre .1)
 
--- src/pieces.rt:53:16
 put-digits-add-result : (t : ℕ) → put-digits-lts.Need-add-result (
   put-digits-below t,
   put-digits.Post,
 ) (put-digits-at t) put-digits.Post
 put-digits-add-result t c = search needs
 
--- src/pieces.rt:53:9
 put-digits-same-length : (t : ℕ) → put-digits-lts.Need-same-length (
   put-digits-below t,
   put-digits.Post,
 ) (put-digits-at t) put-digits.Post
 put-digits-same-length t c = search needs
 
--- src/pieces.rt:53:9
 put-digits-returns :
     (t : ℕ) →
     put-digits-lts.Need-returns
@@ -67,49 +61,42 @@ put-digits-returns :
     put-digits.Post
 put-digits-returns t c = put-one-digit ((c .before .before .args) .room .now) ((c .before .before .args) .at) ((c .before .before .args) .c) _ (search needs) (search needs)
 
--- src/pieces.rt:55:9
 put-digits-put-digits-requires : (t : ℕ) → put-digits-lts.Need-put-digits-requires (
   put-digits-below t,
   put-digits.Post,
 ) (put-digits-at t) put-digits.Post
 put-digits-put-digits-requires t c κs = (omega (arith, c .before .before .before .pre .0), omega (arith, digits-room ((c .before .before .before .args) .room .now) ((c .before .before .before .args) .at) ((c .before .before .before .args) .c) _ (search needs) (c .before .before .before .pre .1)))
 
--- src/pieces.rt:56:19
 put-digits-add-room-2 : (t : ℕ) → put-digits-lts.Need-add-room-2 (
   put-digits-below t,
   put-digits.Post,
 ) (put-digits-at t) put-digits.Post
 put-digits-add-room-2 t c = search needs
 
--- src/pieces.rt:56:18
 put-digits-cast-room-2 : (t : ℕ) → put-digits-lts.Need-cast-room-2 (
   put-digits-below t,
   put-digits.Post,
 ) (put-digits-at t) put-digits.Post
 put-digits-cast-room-2 t c = search needs
 
--- src/pieces.rt:56:5
 put-digits-slice-write-room-2 : (t : ℕ) → put-digits-lts.Need-slice-write-room-2 (
   put-digits-below t,
   put-digits.Post,
 ) (put-digits-at t) put-digits.Post
 put-digits-slice-write-room-2 t c = omega (arith, digits-room ((c .before .before .before .before .before .before .args) .room .now) ((c .before .before .before .before .before .before .args) .at) ((c .before .before .before .before .before .before .args) .c) _ (search needs) (c .before .before .before .before .before .before .pre .1), c .before .before .put-digits .ensures .0, c .before .before .put-digits .kept .0)
 
--- src/pieces.rt:57:5
 put-digits-add-result-2 : (t : ℕ) → put-digits-lts.Need-add-result-2 (
   put-digits-below t,
   put-digits.Post,
 ) (put-digits-at t) put-digits.Post
 put-digits-add-result-2 t c = record { fits = omega (arith, digits-room ((c .before .before .before .before .before .before .args) .room .now) ((c .before .before .before .before .before .before .args) .at) ((c .before .before .before .before .before .before .args) .c) _ (search needs) (c .before .before .before .before .before .before .pre .1), c .before .before .put-digits .ensures .0) }
 
--- src/pieces.rt:47:1
 put-digits-same-length-2 : (t : ℕ) → put-digits-lts.Need-same-length-2 (
   put-digits-below t,
   put-digits.Post,
 ) (put-digits-at t) put-digits.Post
 put-digits-same-length-2 t c = search needs
 
--- src/pieces.rt:47:1
 put-digits-returns-2 : (t : ℕ) → put-digits-lts.Need-returns-2 (
   put-digits-below t,
   put-digits.Post,

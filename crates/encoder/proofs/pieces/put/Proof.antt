@@ -5,32 +5,22 @@ use native.Mathlib.Omega.{arith}
 use borrow.Author.Needs.{needs}
 use Rattle.encoder.proofs.pieces.put.Statement.{statement}
 use Rattle.encoder.proofs.pieces.put.Tie as tie
-use Rattle.encoder.proofs.pieces.put.Reads as reads
-use Rattle.encoder.proofs.pieces.put.Lts as lts
-use Rattle.encoder.proofs.pieces.put_bytes.Reads as put-bytes-reads
-use Rattle.encoder.proofs.pieces.put_reference.Reads as put-reference-reads
 
--- src/pieces.rt:100:9
 put-reference-requires : tie.Need-put-reference-requires
 put-reference-requires c κs = omega (arith, ap length (piece-reference ((c .before .before .before .before .args) .b) ((c .before .before .before .before .args) .c) (search needs)), c .before .before .before .before .pre .0)
 
--- src/pieces.rt:100:9
 same-length : tie.Need-same-length
 same-length c = search needs
 
--- src/pieces.rt:100:9
 returns : tie.Need-returns
 returns c = same-list ((c .before .before .before .before .before .before .before .args) .room .now) ((c .before .before .before .before .before .before .before .args) .at) (sym (piece-reference ((c .before .before .before .before .before .before .before .args) .b) ((c .before .before .before .before .before .before .before .args) .c) (c .before .before .before .before .if1 .taken))) (c .before .before .put-reference .ensures)
 
--- src/pieces.rt:102:5
 put-bytes-requires : tie.Need-put-bytes-requires
 put-bytes-requires c κs = (omega (arith, ap length (piece-bytes ((c .before .before .before .before .args) .b) ((c .before .before .before .before .args) .c) (search needs)), c .before .before .before .before .pre .0), search needs, search needs)
 
--- src/pieces.rt:95:1
 same-length-2 : tie.Need-same-length-2
 same-length-2 c = search needs
 
--- src/pieces.rt:95:1
 returns-2 : tie.Need-returns-2
 returns-2 c = same-list ((c .before .before .before .before .before .before .before .args) .room .now) ((c .before .before .before .before .before .before .before .args) .at) (sym (piece-bytes ((c .before .before .before .before .before .before .before .args) .b) ((c .before .before .before .before .before .before .before .args) .c) (c .before .before .before .before .if1 .left))) (c .before .before .put-bytes .ensures)
 

@@ -4,82 +4,61 @@ use native.Mathlib.Omega.{arith}
 use borrow.Author.Needs.{needs}
 use Rattle.encoder.proofs.pieces.put_bytes.Statement.{statement}
 use Rattle.encoder.proofs.pieces.put_bytes.Tie as tie
-use Rattle.encoder.proofs.pieces.put_bytes.Reads as reads
-use Rattle.encoder.proofs.pieces.put_bytes.Lts as lts
 
--- src/pieces.rt:78:5
 slice-write-room : tie.Need-slice-write-room
 slice-write-room c = omega (arith, listed-length ((c .args) .b) (search needs), c .pre .0)
 
--- src/pieces.rt:80:16
 add-result : tie.Need-add-result
 add-result c = record { fits = omega (arith, listed-length ((c .before .args) .b) (search needs), c .before .pre .0) }
 
--- src/pieces.rt:80:9
 same-length : tie.Need-same-length
 same-length c = search needs
 
--- src/pieces.rt:80:9
 returns : tie.Need-returns
 returns c = put-one ((c .before .args) .room .now) ((c .before .args) .at) ((c .before .args) .b) (search needs)
 
--- src/pieces.rt:82:10
 add-room : tie.Need-add-room
 add-room c = record { fits = omega (arith, listed-length ((c .before .args) .b) (search needs), c .before .pre .0) }
 
--- src/pieces.rt:82:5
 slice-write-room-2 : tie.Need-slice-write-room-2
 slice-write-room-2 c = simp length-set (omega (arith, listed-length ((c .before .args) .b) (search needs), c .before .pre .0))
 
--- src/pieces.rt:84:16
 add-result-2 : tie.Need-add-result-2
 add-result-2 c = record { fits = omega (arith, listed-length ((c .before .before .args) .b) (search needs), c .before .before .pre .0) }
 
--- src/pieces.rt:84:9
 same-length-2 : tie.Need-same-length-2
 same-length-2 c = search needs
 
--- src/pieces.rt:84:9
 returns-2 : tie.Need-returns-2
 returns-2 c = put-two ((c .before .before .args) .room .now) ((c .before .before .args) .at) ((c .before .before .args) .b) (search needs)
 
--- src/pieces.rt:86:10
 add-room-2 : tie.Need-add-room-2
 add-room-2 c = record { fits = omega (arith, listed-length ((c .before .before .args) .b) (search needs), c .before .before .pre .0) }
 
--- src/pieces.rt:86:5
 slice-write-room-3 : tie.Need-slice-write-room-3
 slice-write-room-3 c = simp length-set (omega (arith, listed-length ((c .before .before .args) .b) (search needs), c .before .before .pre .0))
 
--- src/pieces.rt:88:16
 add-result-3 : tie.Need-add-result-3
 add-result-3 c = record { fits = omega (arith, listed-length ((c .before .before .before .args) .b) (search needs), c .before .before .before .pre .0) }
 
--- src/pieces.rt:88:9
 same-length-3 : tie.Need-same-length-3
 same-length-3 c = search needs
 
--- src/pieces.rt:88:9
 returns-3 : tie.Need-returns-3
 returns-3 c = put-three ((c .before .before .before .args) .room .now) ((c .before .before .before .args) .at) ((c .before .before .before .args) .b) (search needs)
 
--- src/pieces.rt:90:10
 add-room-3 : tie.Need-add-room-3
 add-room-3 c = record { fits = omega (arith, listed-length ((c .before .before .before .args) .b) (search needs), c .before .before .before .pre .0) }
 
--- src/pieces.rt:90:5
 slice-write-room-4 : tie.Need-slice-write-room-4
 slice-write-room-4 c = simp length-set (omega (arith, listed-length ((c .before .before .before .args) .b) (search needs), c .before .before .before .pre .0))
 
--- src/pieces.rt:91:5
 add-result-4 : tie.Need-add-result-4
 add-result-4 c = record { fits = omega (arith, listed-length ((c .before .before .before .args) .b) (search needs), c .before .before .before .pre .0) }
 
--- src/pieces.rt:73:1
 same-length-4 : tie.Need-same-length-4
 same-length-4 c = search needs
 
--- src/pieces.rt:73:1
 returns-4 : tie.Need-returns-4
 returns-4 c = put-four ((c .before .before .before .args) .room .now) ((c .before .before .before .args) .at) ((c .before .before .before .args) .b) (search needs)
 

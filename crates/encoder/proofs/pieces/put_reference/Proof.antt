@@ -4,43 +4,31 @@ use native.Mathlib.Omega.{arith}
 use borrow.Author.Needs.{needs}
 use Rattle.encoder.proofs.pieces.put_reference.Statement.{statement}
 use Rattle.encoder.proofs.pieces.put_reference.Tie as tie
-use Rattle.encoder.proofs.pieces.put_reference.Reads as reads
-use Rattle.encoder.proofs.pieces.put_reference.Lts as lts
-use Rattle.encoder.proofs.pieces.put_digits.Reads as put-digits-reads
 
--- src/pieces.rt:65:5
 slice-write-room : tie.Need-slice-write-room
 slice-write-room c = omega (arith, reference-length ((c .before .args) .c), c .before .pre)
 
--- src/pieces.rt:66:10
 add-room : tie.Need-add-room
 add-room c = search needs
 
--- src/pieces.rt:66:5
 slice-write-room-2 : tie.Need-slice-write-room-2
 slice-write-room-2 c = simp length-set (omega (arith, reference-length ((c .before .args) .c), c .before .pre))
 
--- src/pieces.rt:67:33
 add-put-digits : tie.Need-add-put-digits
 add-put-digits c = search needs
 
--- src/pieces.rt:67:9
 put-digits-requires : tie.Need-put-digits-requires
 put-digits-requires c κs = simp length-set (omega (arith, reference-length ((c .before .before .args) .c), c .before .before .pre))
 
--- src/pieces.rt:68:5
 slice-write-room-3 : tie.Need-slice-write-room-3
 slice-write-room-3 c = omega (arith, reference-length ((c .before .before .before .before .before .args) .c), c .before .before .before .before .before .pre, c .before .before .put-digits .ensures .0, simp length-set at (c .before .before .put-digits .kept .0))
 
--- src/pieces.rt:69:5
 add-result : tie.Need-add-result
 add-result c = record { fits = omega (arith, reference-length ((c .before .before .before .before .before .args) .c), c .before .before .before .before .before .pre, c .before .before .put-digits .ensures .0) }
 
--- src/pieces.rt:61:1
 same-length : tie.Need-same-length
 same-length c = simp length-set (simp length-set at (c .before .before .put-digits .kept .0))
 
--- src/pieces.rt:61:1
 returns : tie.Need-returns
 returns c = put-reference ((c .before .before .before .before .before .args) .room .now) ((c .before .before .before .before .before .args) .at) ((c .before .before .before .before .before .args) .c) (c .before .before .put-digits .result) _ (c .before .before .put-digits .ensures .0) (c .before .before .put-digits .ensures .1)
 

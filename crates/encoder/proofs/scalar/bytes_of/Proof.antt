@@ -1,44 +1,29 @@
 use Rattle.encoder.proofs.Scalars.{gives-as, of-utf8, of-windows-1252, of-single-byte, of-user-defined}
-use native.Mathlib.Omega.{arith}
 use borrow.Author.Needs.{needs}
 use Rattle.encoder.proofs.scalar.bytes_of.Statement.{statement}
 use Rattle.encoder.proofs.scalar.bytes_of.Tie as tie
-use Rattle.encoder.proofs.scalar.bytes_of.Reads as reads
-use Rattle.encoder.proofs.scalar.bytes_of.Lts as lts
-use Rattle.encoder.proofs.scalar.single_byte.Reads as single-byte-reads
-use Rattle.encoder.proofs.scalar.user_defined.Reads as user-defined-reads
-use Rattle.encoder.proofs.scalar.utf8.Reads as utf8-reads
-use Rattle.encoder.proofs.scalar.windows_1252.Reads as windows-1252-reads
 
--- src/scalar.rt:105:9
 utf8-requires : tie.Need-utf8-requires
 utf8-requires c κs = search needs
 
--- src/scalar.rt:105:9
 returns : tie.Need-returns
 returns c = gives-as (c .utf8 .ensures) (of-utf8 ((c .before .before .before .args) .encoding) ((c .before .before .before .args) .table .now) ((c .before .before .before .args) .c) (search needs))
 
--- src/scalar.rt:108:9
 windows-1252-requires : tie.Need-windows-1252-requires
 windows-1252-requires c κs = search needs
 
--- src/scalar.rt:108:9
 returns-2 : tie.Need-returns-2
 returns-2 c = gives-as (c .windows-1252 .ensures) (of-windows-1252 ((c .before .before .before .before .args) .encoding) ((c .before .before .before .before .args) .table .now) ((c .before .before .before .before .args) .c) (search needs))
 
--- src/scalar.rt:111:9
 single-byte-requires : tie.Need-single-byte-requires
 single-byte-requires c κs = search needs
 
--- src/scalar.rt:111:9
 returns-3 : tie.Need-returns-3
 returns-3 c = gives-as (c .single-byte .ensures) (of-single-byte ((c .before .before .before .before .before .args) .encoding) ((c .before .before .before .before .before .args) .table .now) ((c .before .before .before .before .before .args) .c) (search needs) (search needs) (search needs))
 
--- src/scalar.rt:113:5
 user-defined-requires : tie.Need-user-defined-requires
 user-defined-requires c κs = search needs
 
--- src/scalar.rt:100:1
 returns-4 : tie.Need-returns-4
 returns-4 c = gives-as (c .user-defined .ensures) (of-user-defined ((c .before .before .before .before .before .args) .encoding) ((c .before .before .before .before .before .args) .table .now) ((c .before .before .before .before .before .args) .c) (search needs))
 

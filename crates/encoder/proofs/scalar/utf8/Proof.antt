@@ -1,82 +1,59 @@
 use Rattle.encoder.proofs.Scalars.{gives-as, utf8-one, utf8-two, utf8-three, utf8-four}
-use native.Mathlib.Omega.{arith}
 use borrow.Author.Needs.{needs}
 use Rattle.encoder.proofs.scalar.utf8.Statement.{statement}
 use Rattle.encoder.proofs.scalar.utf8.Tie as tie
-use Rattle.encoder.proofs.scalar.utf8.Reads as reads
-use Rattle.encoder.proofs.scalar.utf8.Lts as lts
-use Rattle.encoder.proofs.scalar.low.Reads as low-reads
-use Rattle.encoder.proofs.scalar.one.Reads as one-reads
 
--- src/scalar.rt:46:20
 cast-one : tie.Need-cast-one
 cast-one c = search needs
 
--- src/scalar.rt:46:9
 one-requires : tie.Need-one-requires
 one-requires c κs = search needs
 
--- src/scalar.rt:46:9
 returns : tie.Need-returns
 returns c = gives-as (c .one .ensures) (utf8-one ((c .before .before .args) .c) (search needs))
 
--- src/scalar.rt:49:42
 add-t5 : tie.Need-add-t5
 add-t5 c = search needs
 
--- src/scalar.rt:49:41
 cast-t6 : tie.Need-cast-t6
 cast-t6 c = search needs
 
--- src/scalar.rt:49:72
 low-requires : tie.Need-low-requires
 low-requires c κs = search needs
 
--- src/scalar.rt:49:9
 returns-2 : tie.Need-returns-2
 returns-2 c = utf8-two ((c .before .before .before .args) .c) (search needs) (search needs) (c .low .result) (c .low .ensures)
 
--- src/scalar.rt:52:42
 add-t9 : tie.Need-add-t9
 add-t9 c = search needs
 
--- src/scalar.rt:52:41
 cast-t10 : tie.Need-cast-t10
 cast-t10 c = search needs
 
--- src/scalar.rt:52:74
 low-requires-2 : tie.Need-low-requires-2
 low-requires-2 c κs = search needs
 
--- src/scalar.rt:52:94
 low-requires-3 : tie.Need-low-requires-3
 low-requires-3 c κs = search needs
 
--- src/scalar.rt:52:9
 returns-3 : tie.Need-returns-3
 returns-3 c = utf8-three ((c .before .before .before .before .before .args) .c) (search needs) (search needs) (c .before .low2 .result) (c .low3 .result) (c .before .low2 .ensures) (c .low3 .ensures)
 
--- src/scalar.rt:54:31
 add-t15 : tie.Need-add-t15
 add-t15 c = search needs
 
--- src/scalar.rt:54:30
 cast-t16 : tie.Need-cast-t16
 cast-t16 c = search needs
 
--- src/scalar.rt:54:65
 low-requires-4 : tie.Need-low-requires-4
 low-requires-4 c κs = search needs
 
--- src/scalar.rt:54:87
 low-requires-5 : tie.Need-low-requires-5
 low-requires-5 c κs = search needs
 
--- src/scalar.rt:54:108
 low-requires-6 : tie.Need-low-requires-6
 low-requires-6 c κs = search needs
 
--- src/scalar.rt:41:1
 returns-4 : tie.Need-returns-4
 returns-4 c = utf8-four ((c .before .before .before .before .before .before .args) .c) (search needs) (c .before .before .low4 .result) (c .before .low5 .result) (c .low6 .result) (c .before .before .low4 .ensures) (c .before .low5 .ensures) (c .low6 .ensures)
 

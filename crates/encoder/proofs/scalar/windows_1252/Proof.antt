@@ -1,48 +1,34 @@
 use Rattle.encoder.proofs.Scalars.{gives-as, windows-low, windows-self, windows-high}
 use Rattle.standard.specs.Indexes.{irregular}
-use native.Mathlib.Omega.{arith}
 use borrow.Author.Needs.{needs}
 use Rattle.encoder.proofs.scalar.windows_1252.Statement.{statement}
 use Rattle.encoder.proofs.scalar.windows_1252.Tie as tie
-use Rattle.encoder.proofs.scalar.windows_1252.Reads as reads
-use Rattle.encoder.proofs.scalar.windows_1252.Lts as lts
-use Rattle.encoder.proofs.scalar.one.Reads as one-reads
-use Rattle.encoder.proofs.scalar.single_byte.Reads as single-byte-reads
 
--- src/scalar.rt:76:28
 slice-aggregate-single-byte : tie.Need-slice-aggregate-single-byte
 slice-aggregate-single-byte c = search needs
 
--- src/scalar.rt:76:9
 single-byte-requires : tie.Need-single-byte-requires
 single-byte-requires c κs = search needs
 
--- src/scalar.rt:76:9
 returns : tie.Need-returns
 unfolding irregular
 returns c = gives-as (c .single-byte .ensures) (windows-low ((c .before .before .before .args) .c) (search needs))
 
--- src/scalar.rt:79:20
 cast-one : tie.Need-cast-one
 cast-one c = search needs
 
--- src/scalar.rt:79:9
 one-requires : tie.Need-one-requires
 one-requires c κs = search needs
 
--- src/scalar.rt:79:9
 returns-2 : tie.Need-returns-2
 returns-2 c = gives-as (c .one .ensures) (windows-self ((c .before .before .before .args) .c) (search needs) (search needs))
 
--- src/scalar.rt:81:17
 slice-aggregate-single-byte-2 : tie.Need-slice-aggregate-single-byte-2
 slice-aggregate-single-byte-2 c = search needs
 
--- src/scalar.rt:81:5
 single-byte-requires-2 : tie.Need-single-byte-requires-2
 single-byte-requires-2 c κs = search needs
 
--- src/scalar.rt:72:1
 returns-3 : tie.Need-returns-3
 unfolding irregular
 returns-3 c = gives-as (c .single-byte2 .ensures) (windows-high ((c .before .before .before .before .args) .c) (search needs))

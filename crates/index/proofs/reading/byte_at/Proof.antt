@@ -1,21 +1,15 @@
 use lib.ListN.{List·getD-eq-default}
 use mathlib.Core.Path.{sym}
-use native.Mathlib.Omega.{arith}
 use borrow.Author.Needs.{needs}
 use Rattle.index.proofs.reading.byte_at.Statement.{statement}
 use Rattle.index.proofs.reading.byte_at.Tie as tie
-use Rattle.index.proofs.reading.byte_at.Reads as reads
-use Rattle.index.proofs.reading.byte_at.Lts as lts
 
--- src/reading.rt:100:26
 shared-slice-read-result : tie.Need-shared-slice-read-result
 shared-slice-read-result c = search needs
 
--- src/reading.rt:97:1
 returns : tie.Need-returns
 returns c = search needs
 
--- src/reading.rt:97:1
 returns-2 : tie.Need-returns-2
 returns-2 c = sym (List·getD-eq-default ((c .before .args) .line .now) 0 (search needs))
 

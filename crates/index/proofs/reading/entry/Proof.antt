@@ -1,87 +1,61 @@
 use borrow.Author.Tests.{not-true, not-false}
 use Rattle.index.proofs.Parts.{entry-none, entry-long, entry-unmarked, entry-short-code, entry-long-code, entry-open, entry-unmapped, entry-whole, code-inside}
 use mathlib.Core.Path.{sym, _∙_}
-use native.Mathlib.Omega.{arith}
 use borrow.Author.Needs.{needs}
 use Rattle.index.proofs.reading.entry.Statement.{statement}
 use Rattle.index.proofs.reading.entry.Tie as tie
-use Rattle.index.proofs.reading.entry.Reads as reads
-use Rattle.index.proofs.reading.entry.Lts as lts
-use Rattle.index.proofs.mapped.Reads as mapped-reads
-use Rattle.index.proofs.reading.closed.Reads as closed-reads
-use Rattle.index.proofs.reading.marked.Reads as marked-reads
-use Rattle.index.proofs.reading.number.Reads as number-reads
-use Rattle.index.proofs.reading.past.Reads as past-reads
 
--- src/reading.rt:133:9
 returns : tie.Need-returns
 returns c = entry-none ((c .before .before .args) .line .now) ((c .before .before .args) .start) ((c .before .before .args) .tab) (search needs) (search needs) (search needs)
 
--- src/reading.rt:135:12
 sub-if2 : tie.Need-sub-if2
 sub-if2 c = search needs
 
--- src/reading.rt:136:9
 returns-2 : tie.Need-returns-2
 returns-2 c = entry-long ((c .before .before .before .args) .line .now) ((c .before .before .before .args) .start) ((c .before .before .before .args) .tab) (search needs) (search needs) (search needs)
 
--- src/reading.rt:138:9
 marked-requires : tie.Need-marked-requires
 marked-requires c κs = search needs
 
--- src/reading.rt:139:9
 returns-3 : tie.Need-returns-3
 returns-3 c = entry-unmarked ((c .before .before .before .before .before .args) .line .now) ((c .before .before .before .before .before .args) .start) ((c .before .before .before .before .before .args) .tab) (search needs) (search needs) (sym (c .before .marked .ensures) ∙ not-true _ (c .if3 .taken))
 
--- src/reading.rt:141:16
 add-code : tie.Need-add-code
 add-code c = search needs
 
--- src/reading.rt:142:9
 past-requires : tie.Need-past-requires
 past-requires c κs = search needs
 
--- src/reading.rt:143:14
 add-if4 : tie.Need-add-if4
 add-if4 c = search needs
 
--- src/reading.rt:144:9
 returns-4 : tie.Need-returns-4
 returns-4 c = entry-short-code ((c .before .before .before .before .before .before .before .args) .line .now) ((c .before .before .before .before .before .before .before .args) .start) ((c .before .before .before .before .before .before .before .args) .tab) (search needs) (search needs) (search needs) (search needs) (sym (c .before .before .before .marked .ensures) ∙ not-false _ (c .before .before .if3 .left)) (c .before .past .result) (c .before .past .ensures) (search needs)
 
--- src/reading.rt:146:8
 add-if5 : tie.Need-add-if5
 add-if5 c = search needs
 
--- src/reading.rt:147:9
 returns-5 : tie.Need-returns-5
 returns-5 c = entry-long-code ((c .before .before .before .before .before .before .before .before .args) .line .now) ((c .before .before .before .before .before .before .before .before .args) .start) ((c .before .before .before .before .before .before .before .before .args) .tab) (search needs) (search needs) (search needs) (search needs) (sym (c .before .before .before .before .marked .ensures) ∙ not-false _ (c .before .before .before .if3 .left)) (c .before .before .past .result) (c .before .before .past .ensures) (search needs) (search needs)
 
--- src/reading.rt:149:9
 closed-requires : tie.Need-closed-requires
 closed-requires c κs = search needs
 
--- src/reading.rt:150:9
 returns-6 : tie.Need-returns-6
 returns-6 c = entry-open ((c .before .before .before .before .before .before .before .before .before .before .args) .line .now) ((c .before .before .before .before .before .before .before .before .before .before .args) .start) ((c .before .before .before .before .before .before .before .before .before .before .args) .tab) (search needs) (search needs) (search needs) (search needs) (sym (c .before .before .before .before .before .before .marked .ensures) ∙ not-false _ (c .before .before .before .before .before .if3 .left)) (c .before .before .before .before .past .result) (c .before .before .before .before .past .ensures) (search needs) (search needs) (sym (c .before .closed .ensures) ∙ not-true _ (c .if6 .taken))
 
--- src/reading.rt:152:9
 number-requires : tie.Need-number-requires
 number-requires c κs = (code-inside ((c .before .before .before .before .before .before .before .before .before .before .args) .line .now) ((c .before .before .before .before .before .before .before .before .before .before .args) .start) ((c .before .before .before .before .before .before .before .before .before .before .args) .tab) (search needs) (search needs) (search needs) (search needs) (sym (c .before .before .before .before .before .before .marked .ensures) ∙ not-false _ (c .before .before .before .before .before .if3 .left)) (c .before .before .before .before .past .result) (c .before .before .before .before .past .ensures) (search needs), search needs, search needs)
 
--- src/reading.rt:153:9
 mapped-requires : tie.Need-mapped-requires
 mapped-requires c κs = search needs
 
--- src/reading.rt:154:9
 returns-7 : tie.Need-returns-7
 returns-7 c = entry-unmapped ((c .before .before .before .before .before .before .before .before .before .before .before .before .before .args) .line .now) ((c .before .before .before .before .before .before .before .before .before .before .before .before .before .args) .start) ((c .before .before .before .before .before .before .before .before .before .before .before .before .before .args) .tab) (search needs) (search needs) (search needs) (search needs) (sym (c .before .before .before .before .before .before .before .before .before .marked .ensures) ∙ not-false _ (c .before .before .before .before .before .before .before .before .if3 .left)) (c .before .before .before .before .before .before .before .past .result) (c .before .before .before .before .before .before .before .past .ensures) (search needs) (search needs) (sym (c .before .before .before .before .closed .ensures) ∙ not-false _ (c .before .before .before .if6 .left)) (c .before .before .number .result) (c .before .before .number .ensures) (sym (c .before .mapped .ensures) ∙ not-true _ (c .if7 .taken))
 
--- src/reading.rt:156:20
 number-requires-2 : tie.Need-number-requires-2
 number-requires-2 c κs = search needs
 
--- src/reading.rt:128:1
 returns-8 : tie.Need-returns-8
 returns-8 c = entry-whole ((c .before .before .before .before .before .before .before .before .before .before .before .before .before .before .args) .line .now) ((c .before .before .before .before .before .before .before .before .before .before .before .before .before .before .args) .start) ((c .before .before .before .before .before .before .before .before .before .before .before .before .before .before .args) .tab) (search needs) (search needs) (search needs) (search needs) (sym (c .before .before .before .before .before .before .before .before .before .before .marked .ensures) ∙ not-false _ (c .before .before .before .before .before .before .before .before .before .if3 .left)) (c .before .before .before .before .before .before .before .before .past .result) (c .before .before .before .before .before .before .before .before .past .ensures) (search needs) (search needs) (sym (c .before .before .before .before .before .closed .ensures) ∙ not-false _ (c .before .before .before .before .if6 .left)) (c .before .before .before .number .result) (c .before .before .before .number .ensures) (sym (c .before .before .mapped .ensures) ∙ not-false _ (c .before .if7 .left)) (c .number2 .result) (c .number2 .ensures)
 

@@ -1,43 +1,29 @@
 use Rattle.index.proofs.Parts.{mark-first, mark-second, mark-third}
-use borrow.Author.Tests.{eq-eqb, ne-eqb}
-use mathlib.Core.Path.{sym, _∙_}
-use native.Mathlib.Omega.{arith}
 use borrow.Author.Needs.{needs}
 use Rattle.index.proofs.reading.marked.Statement.{statement}
 use Rattle.index.proofs.reading.marked.Tie as tie
-use Rattle.index.proofs.reading.marked.Reads as reads
-use Rattle.index.proofs.reading.marked.Lts as lts
-use Rattle.index.proofs.reading.byte_at.Reads as byte-at-reads
 
--- src/reading.rt:108:8
 byte-at-requires : tie.Need-byte-at-requires
 byte-at-requires c κs = search needs
 
--- src/reading.rt:109:9
 returns : tie.Need-returns
 returns c = mark-first ((c .before .before .before .args) .line .now) ((c .before .before .before .args) .at) _ (c .before .byte-at .ensures) (c .if1 .taken)
 
--- src/reading.rt:111:22
 add-byte-at : tie.Need-add-byte-at
 add-byte-at c = search needs
 
--- src/reading.rt:111:8
 byte-at-requires-2 : tie.Need-byte-at-requires-2
 byte-at-requires-2 c κs = search needs
 
--- src/reading.rt:112:9
 returns-2 : tie.Need-returns-2
 returns-2 c = mark-second ((c .before .before .before .before .before .args) .line .now) ((c .before .before .before .before .before .args) .at) _ (c .before .before .before .byte-at .ensures) (c .before .before .if1 .left) _ (c .before .byte-at2 .ensures) (c .if2 .taken)
 
--- src/reading.rt:114:19
 add-byte-at-2 : tie.Need-add-byte-at-2
 add-byte-at-2 c = search needs
 
--- src/reading.rt:114:5
 byte-at-requires-3 : tie.Need-byte-at-requires-3
 byte-at-requires-3 c κs = search needs
 
--- src/reading.rt:104:1
 returns-3 : tie.Need-returns-3
 returns-3 c = mark-third ((c .before .before .before .before .before .before .args) .line .now) ((c .before .before .before .before .before .before .args) .at) _ (c .before .before .before .before .byte-at .ensures) (c .before .before .before .if1 .left) _ (c .before .before .byte-at2 .ensures) (c .before .if2 .left) _ (c .byte-at3 .ensures)
 

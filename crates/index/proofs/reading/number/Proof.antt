@@ -4,9 +4,6 @@ use borrow.Author.Needs.{needs}
 use native.Mathlib.Omega.{arith}
 use Rattle.index.proofs.reading.number.Statement.{statement}
 use Rattle.index.proofs.reading.number.Tie as tie
-use Rattle.index.proofs.reading.number.Reads as reads
-use Rattle.index.proofs.reading.number.Lts as lts
-use Rattle.index.proofs.reading.digit.Reads as digit-reads
 
 abbrev Inv-loop : tie.InvT-loop
 Inv-loop line at end base n₀ i₀ n i = Numbered line at end base n i
@@ -14,39 +11,30 @@ Inv-loop line at end base n₀ i₀ n i = Numbered line at end base n i
 abbrev μ-loop : tie.MeasureT-loop
 μ-loop line at end base n₀ i₀ n i = end - i
 
--- src/reading.rt:89:5
 loop-holds : tie.Need-loop-holds Inv-loop μ-loop
 loop-holds c = numbered-start _ _ _ _
 
--- src/reading.rt:90:13
 mul-n : tie.Need-mul-n Inv-loop μ-loop
 mul-n c = record { fits = omega (arith, next-fits ((c .before .before .before .args) .line .now) ((c .before .before .before .args) .at) ((c .before .before .before .args) .end) ((c .before .before .before .args) .base) (c .before .loop .n) (c .before .loop .i) (c .before .loop .inv) (c .loop-test .taken) (search needs) (search needs) (search needs) 0 (search needs)) }
 
--- src/reading.rt:90:30
 shared-slice-read-digit : tie.Need-shared-slice-read-digit Inv-loop μ-loop
 shared-slice-read-digit c = search needs
 
--- src/reading.rt:90:24
 digit-requires : tie.Need-digit-requires Inv-loop μ-loop
 digit-requires c κs = search needs
 
--- src/reading.rt:90:13
 add-n : tie.Need-add-n Inv-loop μ-loop
 add-n c = record { fits = omega (arith, next-fits ((c .before .before .before .before .before .args) .line .now) ((c .before .before .before .before .before .args) .at) ((c .before .before .before .before .before .args) .end) ((c .before .before .before .before .before .args) .base) (c .before .before .before .loop .n) (c .before .before .before .loop .i) (c .before .before .before .loop .inv) (c .before .before .loop-test .taken) (search needs) (search needs) (search needs) (c .digit .result) (c .digit .ensures .1)) }
 
--- src/reading.rt:91:9
 add-i : tie.Need-add-i Inv-loop μ-loop
 add-i c = search needs
 
--- src/reading.rt:89:5
 loop-less : tie.Need-loop-less Inv-loop μ-loop
 loop-less c = search needs
 
--- src/reading.rt:89:5
 loop-again : tie.Need-loop-again Inv-loop μ-loop
 loop-again c = numbered-on ((c .before .before .before .before .before .args) .line .now) ((c .before .before .before .before .before .args) .at) ((c .before .before .before .before .before .args) .end) ((c .before .before .before .before .before .args) .base) (c .before .before .before .loop .n) (c .before .before .before .loop .i) (c .before .before .before .loop .inv) (c .before .before .loop-test .taken) (search needs) (search needs) (search needs) (c .digit .result) (c .digit .ensures .1) (c .digit .ensures .0)
 
--- src/reading.rt:83:1
 returns : tie.Need-returns Inv-loop μ-loop
 returns c = numbered-end _ _ _ _ _ _ (c .before .loop .inv) (c .loop-test .left)
 

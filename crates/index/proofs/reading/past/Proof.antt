@@ -5,12 +5,8 @@ use mathlib.Core.Path.{sym, _∙_}
 use lib.ListN.{length}
 use Prim.Native.Nat.{ℕ, _-_}
 use borrow.Author.Needs.{needs}
-use native.Mathlib.Omega.{arith}
 use Rattle.index.proofs.reading.past.Statement.{statement}
 use Rattle.index.proofs.reading.past.Tie as tie
-use Rattle.index.proofs.reading.past.Reads as reads
-use Rattle.index.proofs.reading.past.Lts as lts
-use Rattle.index.proofs.reading.is.Reads as is-reads
 
 abbrev Inv-loop : tie.InvT-loop
 Inv-loop line at kind i₀ i = (r : ℕ) → Past (passes kind) line i r → Past (passes kind) line at r
@@ -18,35 +14,27 @@ Inv-loop line at kind i₀ i = (r : ℕ) → Past (passes kind) line i r → Pas
 abbrev μ-loop : tie.MeasureT-loop
 μ-loop line at kind i₀ i = length line - i
 
--- src/reading.rt:59:5
 loop-holds : tie.Need-loop-holds Inv-loop μ-loop
 loop-holds c = λ r s. s
 
--- src/reading.rt:60:22
 shared-slice-read-is : tie.Need-shared-slice-read-is Inv-loop μ-loop
 shared-slice-read-is c = search needs
 
--- src/reading.rt:60:13
 is-requires : tie.Need-is-requires Inv-loop μ-loop
 is-requires c κs = search needs
 
--- src/reading.rt:61:13
 returns : tie.Need-returns Inv-loop μ-loop
 returns c = c .before .before .before .before .loop .inv _ (past-stop (passes ((c .before .before .before .before .before .before .args) .kind)) ((c .before .before .before .before .before .before .args) .line .now) (c .before .before .before .before .loop .i) (c .before .before .before .loop-test .taken) (sym (c .before .is .ensures) ∙ not-true _ (c .if1 .taken)))
 
--- src/reading.rt:63:9
 add-i : tie.Need-add-i Inv-loop μ-loop
 add-i c = search needs
 
--- src/reading.rt:59:5
 loop-less : tie.Need-loop-less Inv-loop μ-loop
 loop-less c = search needs
 
--- src/reading.rt:59:5
 loop-again : tie.Need-loop-again Inv-loop μ-loop
 loop-again c = λ r s. c .before .before .before .before .loop .inv r (past-on (passes ((c .before .before .before .before .before .before .args) .kind)) ((c .before .before .before .before .before .before .args) .line .now) (c .before .before .before .before .loop .i) r (c .before .before .before .loop-test .taken) (sym (c .before .is .ensures) ∙ not-false _ (c .if1 .left)) s)
 
--- src/reading.rt:55:1
 returns-2 : tie.Need-returns-2 Inv-loop μ-loop
 returns-2 c = c .before .loop .inv _ (past-end (passes ((c .before .before .before .args) .kind)) ((c .before .before .before .args) .line .now) (c .before .loop .i) (c .loop-test .left))
 
