@@ -1,5 +1,10 @@
 // The decoder: its record, opening, feed and finish.
 
+mod refusals;
+
+use refusals::feed_refusal;
+use refusals::finish_refusal;
+use refusals::marked;
 use sequences::Sequence;
 use sequences::big5::big5;
 use sequences::drop_mark;
@@ -15,19 +20,18 @@ use sequences::utf_16::utf_16;
 use sequences::utf8::utf8;
 use sequences::windows_1252::windows_1252;
 ghost use mathlib.Core.Path.{_≡_};
-ghost use mathlib.Core.Bool.{true, false, _&&_, _||_, not};
+ghost use mathlib.Core.Bool.{false, _&&_};
 ghost use mathlib.Core.List.{_∷_, [], _++_};
-ghost use Prim.Native.Nat.{_+_, _-_, _%_, _≤_, _<_};
-ghost use lib.Dec.{ltb, leb, eqb};
+ghost use Prim.Native.Nat.{_+_, _-_, _≤_, _<_};
+ghost use lib.Dec.{eqb};
 ghost use lib.ListN.{length, getD, drop};
-ghost use Rattle.standard.specs.Base.{_then_else_};
-ghost use Rattle.standard.specs.Encodings.{family, ISO-2022-JP, traits, secondFits, fits, noTables, lent};
+ghost use Rattle.standard.specs.Encodings.{family, ISO-2022-JP, noTables, lent};
 ghost use Rattle.standard.specs.Sequence.{shift};
 ghost use Rattle.standard.specs.Next.{next};
 ghost use Rattle.standard.specs.Decode.{decode, ending, lastOut, given};
 ghost use Rattle.sequences.specs.Code.{nextOf, outOf, front};
-ghost use Rattle.decoder.specs.Valid.{shiftOf, heldOf, possible, isMore, unused, validRest, valid};
-ghost use Rattle.decoder.specs.Calls.{bit, opening, closed, handOut, handOutRead, feedRefusal, feeding, finishRefusal, finishing};
+ghost use Rattle.decoder.specs.Valid.{shiftOf, heldOf};
+ghost use Rattle.decoder.specs.Calls.{bit, opening, closed, handOut, handOutRead, feeding, finishing};
 ghost use Rattle.decoder.specs.Code.{patch, closing, leaving};
 
 // What a decoder keeps from call to call. Every field is a number in use; one that is not in use is 0.
@@ -307,233 +311,6 @@ fn end(d: Decoder, room: &mut [u32]) -> Answer
     }
     room[1] = last_scalar(d.state, d.flag, d.second);
     ends(d.encoding, d.mode, 0, 2)
-}
-
-// The cells of the first table of an encoding.
-fn first_cells(encoding: u8) -> usize
-    ensures { λ r. ⌜ r ≡ traits (family encoding) .first ⌝ }
-{
-    if encoding == 0 {
-        return 0;
-    }
-    if encoding == 21 {
-        return 0;
-    }
-    if encoding <= 28 {
-        return 128;
-    }
-    if encoding <= 30 {
-        return 23940;
-    }
-    if encoding == 31 {
-        return 19782;
-    }
-    if encoding <= 34 {
-        return 11280;
-    }
-    if encoding == 35 {
-        return 23940;
-    }
-    0
-}
-
-// Does a second table of so many cells fit?
-fn second_fits(encoding: u8, size: usize) -> bool
-    ensures { λ r. ⌜ r ≡ secondFits (traits (family encoding) .second) size ⌝ }
-{
-    if encoding == 29 {
-        return ranges_fit(size);
-    }
-    if encoding == 30 {
-        return ranges_fit(size);
-    }
-    if encoding == 32 {
-        return size == 8836;
-    }
-    size == 0
-}
-
-// The ranges have an even length, at most 414.
-fn ranges_fit(size: usize) -> bool
-    ensures { λ r. ⌜ r ≡ (eqb (size % 2) 0 && leb size 414) ⌝ }
-{
-    if size % 2 == 0 {
-        return size <= 414;
-    }
-    false
-}
-
-// Are the lent tables' lengths as they must be?
-fn tables_fit(encoding: u8, t1: &[u32], t2: &[u32]) -> bool
-    ensures { λ r. ⌜ r ≡ fits (family encoding) (lent (now (t1 .entry)) (now (t2 .entry))) ⌝ }
-{
-    if t1.len() == first_cells(encoding) {
-        return second_fits(encoding, t2.len());
-    }
-    false
-}
-
-// Does rule "drop" apply to an encoding?
-fn marked(encoding: u8) -> bool
-    ensures { λ r. ⌜ r ≡ traits (family encoding) .mark ⌝ }
-{
-    if encoding == 0 {
-        return true;
-    }
-    if encoding == 37 {
-        return true;
-    }
-    encoding == 38
-}
-
-// Can a decoder of this encoding and mode come to this shift?
-fn possible(encoding: u8, mode: u8, state: u8, flag: u8) -> bool
-    ensures { λ r. ⌜ r ≡ possible (family encoding) mode (shift state (eqb flag 1)) ⌝ }
-{
-    if encoding == 33 {
-        return state <= 3;
-    }
-    if state != 0 {
-        return false;
-    }
-    if flag != 1 {
-        return true;
-    }
-    if marked(encoding) {
-        return true;
-    }
-    if encoding == 36 {
-        return mode == 0;
-    }
-    false
-}
-
-// Is byte n, counted from 0, in use, or else 0?
-fn free(n: u8, held: u8, b: u8) -> bool
-    ensures { λ r. ⌜ r ≡ (ltb n held || eqb b 0) ⌝ }
-{
-    if n < held {
-        return true;
-    }
-    b == 0
-}
-
-// Are the bytes that are not in use 0?
-fn unused(d: Decoder) -> bool
-    ensures { λ r. ⌜ r ≡ unused d ⌝ }
-{
-    if free(2, d.held, d.third) {
-        if free(1, d.held, d.second) {
-            return free(0, d.held, d.first);
-        }
-        return false;
-    }
-    false
-}
-
-// Are the bytes held a started sequence? No table is looked into.
-fn started(d: Decoder) -> bool
-    requires { ⌜ d .held ≤ 3 ⌝ }
-    ensures { λ r. ⌜ r ≡ isMore (next noTables (family (d .encoding)) (shiftOf d) (heldOf d)) ⌝ }
-{
-    let none = [0u32; 1];
-    let empty = &none[0..0];
-    let q = next(
-        empty,
-        empty,
-        d.encoding,
-        d.state,
-        d.flag,
-        d.first,
-        d.second,
-        d.third,
-        0,
-        d.held as usize,
-    );
-    q.width == 0
-}
-
-// What the test of a record says of one that has ended, and of one that has not.
-fn valid_rest(d: Decoder) -> bool
-    requires { ⌜ d .held ≤ 3 ⌝ }
-    ensures { λ r. ⌜ r ≡ validRest d ⌝ }
-{
-    if d.ended != 1 {
-        if possible(d.encoding, d.mode, d.state, d.flag) {
-            return started(d);
-        }
-        return false;
-    }
-    if d.held != 0 {
-        return false;
-    }
-    if d.state != 0 {
-        return false;
-    }
-    d.flag == 0
-}
-
-// Do some opening, accepted feeds and finish leave this record?
-fn valid(d: Decoder) -> bool
-    ensures { λ r. ⌜ r ≡ valid d ⌝ }
-{
-    if 39 < d.encoding {
-        return false;
-    }
-    if 1 < d.mode {
-        return false;
-    }
-    if 1 < d.flag {
-        return false;
-    }
-    if 3 < d.held {
-        return false;
-    }
-    if 1 < d.ended {
-        return false;
-    }
-    if unused(d) {
-        return valid_rest(d);
-    }
-    false
-}
-
-// The refusal number of a feed, or 0.
-fn feed_refusal(d: Decoder, chunk: &[u8], t1: &[u32], t2: &[u32], room: &[u32]) -> u8
-    ensures { λ r. ⌜ r ≡ feedRefusal d (lent (now (t1 .entry)) (now (t2 .entry))) (now (chunk .entry)) (now (room .entry)) ⌝ }
-{
-    if valid(d) {
-        if d.ended == 1 {
-            return 6;
-        }
-        if tables_fit(d.encoding, t1, t2) {
-            if 65536 < chunk.len() {
-                return 8;
-            }
-            if room.len() < chunk.len() + d.held as usize {
-                return 7;
-            }
-            return 0;
-        }
-        return 4;
-    }
-    5
-}
-
-// The refusal number of a finish, or 0.
-fn finish_refusal(d: Decoder, room: &[u32]) -> u8
-    ensures { λ r. ⌜ r ≡ finishRefusal d (now (room .entry)) ⌝ }
-{
-    if valid(d) {
-        if d.ended == 1 {
-            return 6;
-        }
-        if room.len() < d.held as usize {
-            return 7;
-        }
-        return 0;
-    }
-    5
 }
 
 impl Decoder {

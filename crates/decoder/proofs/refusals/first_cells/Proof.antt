@@ -2,8 +2,8 @@ use borrow.Author.Tests.{eq-eqb, ne-eqb, le-leb, lt-leb}
 use mathlib.Core.Path.{sym, _∙_}
 use Rattle.decoder.proofs.Numbers.{first-cells-is}
 use native.Mathlib.Omega.{arith}
-use Rattle.decoder.proofs.first_cells.Statement.{statement}
-use Rattle.decoder.proofs.first_cells.Tie as tie
+use Rattle.decoder.proofs.refusals.first_cells.Statement.{statement}
+use Rattle.decoder.proofs.refusals.first_cells.Tie as tie
 
 returns : tie.Need-returns
 returns c = sym (first-cells-is ((c .before .args) .encoding) ∙ rw (eq-eqb ((c .before .args) .encoding) 0 (omega arith)))

@@ -2,8 +2,8 @@ use borrow.Author.Tests.{eq-eqb, ne-eqb}
 use mathlib.Core.Path.{sym, _∙_}
 use Rattle.decoder.proofs.Numbers.{marked-is}
 use native.Mathlib.Omega.{arith}
-use Rattle.decoder.proofs.marked.Statement.{statement}
-use Rattle.decoder.proofs.marked.Tie as tie
+use Rattle.decoder.proofs.refusals.marked.Statement.{statement}
+use Rattle.decoder.proofs.refusals.marked.Tie as tie
 
 returns : tie.Need-returns
 returns c = sym (marked-is ((c .before .args) .encoding) ∙ rw (eq-eqb ((c .before .args) .encoding) 0 (omega arith)))

@@ -3,8 +3,8 @@ use Rattle.standard.specs.Encodings.{lent}
 use Rattle.decoder.proofs.Checks.{feed-5, feed-6, feed-4, feed-8, feed-7, feed-0}
 use native.Mathlib.Omega.{arith}
 use borrow.Author.Needs.{needs}
-use Rattle.decoder.proofs.feed_refusal.Statement.{statement}
-use Rattle.decoder.proofs.feed_refusal.Tie as tie
+use Rattle.decoder.proofs.refusals.feed_refusal.Statement.{statement}
+use Rattle.decoder.proofs.refusals.feed_refusal.Tie as tie
 
 valid-requires : tie.Need-valid-requires
 valid-requires c κs = search needs

@@ -5,8 +5,8 @@ use Rattle.standard.specs.Sequence.{shift}
 use Rattle.decoder.proofs.Numbers.{possible-is}
 use native.Mathlib.Omega.{arith}
 use borrow.Author.Needs.{needs}
-use Rattle.decoder.proofs.possible.Statement.{statement}
-use Rattle.decoder.proofs.possible.Tie as tie
+use Rattle.decoder.proofs.refusals.possible.Statement.{statement}
+use Rattle.decoder.proofs.refusals.possible.Tie as tie
 
 returns : tie.Need-returns
 returns c =

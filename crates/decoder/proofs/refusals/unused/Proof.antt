@@ -1,8 +1,8 @@
 use mathlib.Core.Path.{sym, _∙_}
 use Rattle.decoder.proofs.Checks.{unused-yes, unused-second, unused-third}
 use borrow.Author.Needs.{needs}
-use Rattle.decoder.proofs.unused.Statement.{statement}
-use Rattle.decoder.proofs.unused.Tie as tie
+use Rattle.decoder.proofs.refusals.unused.Statement.{statement}
+use Rattle.decoder.proofs.refusals.unused.Tie as tie
 
 free-requires : tie.Need-free-requires
 free-requires c κs = search needs

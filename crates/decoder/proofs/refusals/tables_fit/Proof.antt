@@ -2,8 +2,8 @@ use mathlib.Core.Path.{sym, _∙_}
 use Rattle.standard.specs.Encodings.{lent}
 use Rattle.decoder.proofs.Checks.{fits-yes, fits-no}
 use borrow.Author.Needs.{needs}
-use Rattle.decoder.proofs.tables_fit.Statement.{statement}
-use Rattle.decoder.proofs.tables_fit.Tie as tie
+use Rattle.decoder.proofs.refusals.tables_fit.Statement.{statement}
+use Rattle.decoder.proofs.refusals.tables_fit.Tie as tie
 
 first-cells-requires : tie.Need-first-cells-requires
 first-cells-requires c κs = search needs

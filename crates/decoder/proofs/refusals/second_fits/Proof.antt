@@ -3,8 +3,8 @@ use mathlib.Core.Path.{sym, _∙_}
 use Rattle.decoder.proofs.Numbers.{second-fits-is}
 use native.Mathlib.Omega.{arith}
 use borrow.Author.Needs.{needs}
-use Rattle.decoder.proofs.second_fits.Statement.{statement}
-use Rattle.decoder.proofs.second_fits.Tie as tie
+use Rattle.decoder.proofs.refusals.second_fits.Statement.{statement}
+use Rattle.decoder.proofs.refusals.second_fits.Tie as tie
 
 ranges-fit-requires : tie.Need-ranges-fit-requires
 ranges-fit-requires c κs = search needs

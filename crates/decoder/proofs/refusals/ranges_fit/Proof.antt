@@ -1,8 +1,8 @@
 use Prim.Native.Nat.{_%_}
 use borrow.Author.Tests.{eq-eqb, ne-eqb}
 use native.Mathlib.Omega.{arith}
-use Rattle.decoder.proofs.ranges_fit.Statement.{statement}
-use Rattle.decoder.proofs.ranges_fit.Tie as tie
+use Rattle.decoder.proofs.refusals.ranges_fit.Statement.{statement}
+use Rattle.decoder.proofs.refusals.ranges_fit.Tie as tie
 
 returns : tie.Need-returns
 returns c = rw (eq-eqb ((c .before .args) .size % 2) 0 (omega arith))

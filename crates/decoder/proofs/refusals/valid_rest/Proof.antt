@@ -3,8 +3,8 @@ use mathlib.Core.Path.{sym, _∙_}
 use Rattle.decoder.proofs.Checks.{rest-open, rest-ended, all-no, all-first}
 use native.Mathlib.Omega.{arith}
 use borrow.Author.Needs.{needs}
-use Rattle.decoder.proofs.valid_rest.Statement.{statement}
-use Rattle.decoder.proofs.valid_rest.Tie as tie
+use Rattle.decoder.proofs.refusals.valid_rest.Statement.{statement}
+use Rattle.decoder.proofs.refusals.valid_rest.Tie as tie
 
 possible-requires : tie.Need-possible-requires
 possible-requires c κs = search needs

@@ -2,8 +2,8 @@ use mathlib.Core.Path.{sym, _∙_}
 use Rattle.decoder.proofs.Checks.{finish-5, finish-6, finish-7, finish-0}
 use native.Mathlib.Omega.{arith}
 use borrow.Author.Needs.{needs}
-use Rattle.decoder.proofs.finish_refusal.Statement.{statement}
-use Rattle.decoder.proofs.finish_refusal.Tie as tie
+use Rattle.decoder.proofs.refusals.finish_refusal.Statement.{statement}
+use Rattle.decoder.proofs.refusals.finish_refusal.Tie as tie
 
 valid-requires : tie.Need-valid-requires
 valid-requires c κs = search needs

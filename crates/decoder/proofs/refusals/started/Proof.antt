@@ -1,8 +1,8 @@
 use Rattle.decoder.proofs.Checks.{started-is}
 use native.Mathlib.Omega.{arith}
 use borrow.Author.Needs.{needs}
-use Rattle.decoder.proofs.started.Statement.{statement}
-use Rattle.decoder.proofs.started.Tie as tie
+use Rattle.decoder.proofs.refusals.started.Statement.{statement}
+use Rattle.decoder.proofs.refusals.started.Tie as tie
 
 sub-empty : tie.Need-sub-empty
 sub-empty c = search needs

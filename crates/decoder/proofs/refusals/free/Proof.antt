@@ -1,7 +1,7 @@
 use borrow.Author.Tests.{lt-ltb, le-ltb}
 use native.Mathlib.Omega.{arith}
-use Rattle.decoder.proofs.free.Statement.{statement}
-use Rattle.decoder.proofs.free.Tie as tie
+use Rattle.decoder.proofs.refusals.free.Statement.{statement}
+use Rattle.decoder.proofs.refusals.free.Tie as tie
 
 returns : tie.Need-returns
 returns c = rw (lt-ltb ((c .before .args) .n) ((c .before .args) .held) (omega arith))

@@ -2,8 +2,8 @@ use mathlib.Core.Path.{sym, _∙_}
 use Rattle.decoder.proofs.Checks.{no-encoding, no-mode, no-flag, no-held, no-ended, no-unused, valid-rest}
 use native.Mathlib.Omega.{arith}
 use borrow.Author.Needs.{needs}
-use Rattle.decoder.proofs.valid.Statement.{statement}
-use Rattle.decoder.proofs.valid.Tie as tie
+use Rattle.decoder.proofs.refusals.valid.Statement.{statement}
+use Rattle.decoder.proofs.refusals.valid.Tie as tie
 
 returns : tie.Need-returns
 returns c = sym (no-encoding ((c .before .before .args) .d) (omega arith))
