@@ -32,7 +32,12 @@ is-scalar-requires c κs = search needs
 
 -- src/lib.rt:78:13
 returns : tie.Need-returns Inv-loop μ-loop
-returns c = all-not ((c .before .before .before .before .before .before .args) .scalars .now) (c .before .before .before .before .loop .i) (c .before .before .before .loop-test .taken) (sym (c .before .is-scalar .ensures) ∙ not-true _ (c .if1 .taken)) ∙ c .before .before .before .before .loop .inv
+returns c =
+    let args = c .before .before .before .before .before .before .args in
+    let at-loop = c .before .before .before .before .loop in
+    let at-loop-test = c .before .before .before .loop-test in
+    let at-is-scalar = c .before .is-scalar in
+    all-not (args .scalars .now) (at-loop .i) (at-loop-test .taken) (sym (at-is-scalar .ensures) ∙ not-true _ (c .if1 .taken)) ∙ at-loop .inv
 
 -- src/lib.rt:80:9
 add-i : tie.Need-add-i Inv-loop μ-loop
@@ -44,7 +49,12 @@ loop-less c = search needs
 
 -- src/lib.rt:76:5
 loop-again : tie.Need-loop-again Inv-loop μ-loop
-loop-again c = all-on ((c .before .before .before .before .before .before .args) .scalars .now) (c .before .before .before .before .loop .i) (c .before .before .before .loop-test .taken) (sym (c .before .is-scalar .ensures) ∙ not-false _ (c .if1 .left)) ∙ c .before .before .before .before .loop .inv
+loop-again c =
+    let args = c .before .before .before .before .before .before .args in
+    let at-loop = c .before .before .before .before .loop in
+    let at-loop-test = c .before .before .before .loop-test in
+    let at-is-scalar = c .before .is-scalar in
+    all-on (args .scalars .now) (at-loop .i) (at-loop-test .taken) (sym (at-is-scalar .ensures) ∙ not-false _ (c .if1 .left)) ∙ at-loop .inv
 
 -- src/lib.rt:72:1
 returns-2 : tie.Need-returns-2 Inv-loop μ-loop

@@ -24,19 +24,34 @@ shared-slice-read-c : tie.Need-shared-slice-read-c Inv-loop μ-loop
 shared-slice-read-c c = search needs
 
 bytes-of-requires : tie.Need-bytes-of-requires Inv-loop μ-loop
-bytes-of-requires c κs = (scalar-at ((c .before .before .before .before .before .args) .scalars .now) (c .before .before .loop .i) (c .before .before .before .before .before .pre .0) (c .before .loop-test .taken), c .before .before .before .before .before .pre .2)
+bytes-of-requires c κs =
+    let args = c .before .before .before .before .before .args in
+    let at-loop = c .before .before .loop in
+    let at-pre = c .before .before .before .before .before .pre in
+    let at-loop-test = c .before .loop-test in
+    (scalar-at (args .scalars .now) (at-loop .i) (at-pre .0) (at-loop-test .taken), at-pre .2)
 
 stops-requires : tie.Need-stops-requires Inv-loop μ-loop
 stops-requires c κs = search needs
 
 returns : tie.Need-returns Inv-loop μ-loop
-returns c = counted-stop _ _ _ _ _ (c .before .before .before .before .before .loop .inv) (c .before .before .before .before .loop-test .taken) _ (c .before .before .bytes-of .ensures) (sym (c .before .stops .ensures) ∙ c .if1 .taken)
+returns c =
+    let at-loop = c .before .before .before .before .before .loop in
+    let at-loop-test = c .before .before .before .before .loop-test in
+    let at-bytes-of = c .before .before .bytes-of in
+    let at-stops = c .before .stops in
+    counted-stop _ _ _ _ _ (at-loop .inv) (at-loop-test .taken) _ (at-bytes-of .ensures) (sym (at-stops .ensures) ∙ c .if1 .taken)
 
 size-requires : tie.Need-size-requires Inv-loop μ-loop
 size-requires c κs = c .before .before .bytes-of .ensures .few
 
 add-n : tie.Need-add-n Inv-loop μ-loop
-add-n c = record { fits = omega (arith, c .before .before .before .before .before .before .loop .inv .bound, c .size .ensures .1, scalar-at ((c .before .before .before .before .before .before .before .before .before .args) .scalars .now) (c .before .before .before .before .before .before .loop .i) (c .before .before .before .before .before .before .before .before .before .pre .0) (c .before .before .before .before .before .loop-test .taken), c .before .before .before .before .before .before .before .before .before .pre .1, c .before .before .before .before .before .loop-test .taken) }
+add-n c =
+    let args = c .before .before .before .before .before .before .before .before .before .args in
+    let at-loop = c .before .before .before .before .before .before .loop in
+    let at-pre = c .before .before .before .before .before .before .before .before .before .pre in
+    let at-loop-test = c .before .before .before .before .before .loop-test in
+    record { fits = omega (arith, at-loop .inv .bound, c .size .ensures .1, scalar-at (args .scalars .now) (at-loop .i) (at-pre .0) (at-loop-test .taken), at-pre .1, at-loop-test .taken) }
 
 add-i : tie.Need-add-i Inv-loop μ-loop
 add-i c = search needs
@@ -45,7 +60,15 @@ loop-less : tie.Need-loop-less Inv-loop μ-loop
 loop-less c = search needs
 
 loop-again : tie.Need-loop-again Inv-loop μ-loop
-loop-again c = counted-on _ _ _ _ _ (c .before .before .before .before .before .before .loop .inv) (c .before .before .before .before .before .loop-test .taken) _ (c .before .before .before .bytes-of .ensures) (sym (c .before .before .stops .ensures) ∙ c .before .if1 .left) (c .size .result) (c .size .ensures .0) (omega (arith, c .size .ensures .1, scalar-at ((c .before .before .before .before .before .before .before .before .before .args) .scalars .now) (c .before .before .before .before .before .before .loop .i) (c .before .before .before .before .before .before .before .before .before .pre .0) (c .before .before .before .before .before .loop-test .taken)))
+loop-again c =
+    let args = c .before .before .before .before .before .before .before .before .before .args in
+    let at-loop = c .before .before .before .before .before .before .loop in
+    let at-loop-test = c .before .before .before .before .before .loop-test in
+    let at-bytes-of = c .before .before .before .bytes-of in
+    let at-stops = c .before .before .stops in
+    let at-if1 = c .before .if1 in
+    let at-pre = c .before .before .before .before .before .before .before .before .before .pre in
+    counted-on _ _ _ _ _ (at-loop .inv) (at-loop-test .taken) _ (at-bytes-of .ensures) (sym (at-stops .ensures) ∙ at-if1 .left) (c .size .result) (c .size .ensures .0) (omega (arith, c .size .ensures .1, scalar-at (args .scalars .now) (at-loop .i) (at-pre .0) (at-loop-test .taken)))
 
 returns-2 : tie.Need-returns-2 Inv-loop μ-loop
 returns-2 c = counted-end _ _ _ _ _ (c .before .loop .inv) (c .loop-test .left)

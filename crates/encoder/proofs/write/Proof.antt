@@ -23,7 +23,12 @@ shared-slice-read-c : tie.Need-shared-slice-read-c Inv-loop μ-loop
 shared-slice-read-c c = search needs
 
 bytes-of-requires : tie.Need-bytes-of-requires Inv-loop μ-loop
-bytes-of-requires c κs = (scalar-at ((c .before .before .before .before .before .before .args) .scalars .now) (c .before .before .loop .i) (c .before .before .before .before .before .before .pre .0) (c .before .loop-test .taken), c .before .before .before .before .before .before .pre .1)
+bytes-of-requires c κs =
+    let args = c .before .before .before .before .before .before .args in
+    let at-loop = c .before .before .loop in
+    let at-pre = c .before .before .before .before .before .before .pre in
+    let at-loop-test = c .before .loop-test in
+    (scalar-at (args .scalars .now) (at-loop .i) (at-pre .0) (at-loop-test .taken), at-pre .1)
 
 stops-requires : tie.Need-stops-requires Inv-loop μ-loop
 stops-requires c κs = search needs
@@ -32,10 +37,22 @@ same-length : tie.Need-same-length Inv-loop μ-loop
 same-length c = search needs
 
 returns : tie.Need-returns Inv-loop μ-loop
-returns c = running-stop _ _ _ _ _ _ _ (c .before .before .before .before .before .loop .inv) (c .before .before .before .before .loop-test .taken) _ (c .before .before .bytes-of .ensures) (sym (c .before .stops .ensures) ∙ c .if1 .taken)
+returns c =
+    let at-loop = c .before .before .before .before .before .loop in
+    let at-loop-test = c .before .before .before .before .loop-test in
+    let at-bytes-of = c .before .before .bytes-of in
+    let at-stops = c .before .stops in
+    running-stop _ _ _ _ _ _ _ (at-loop .inv) (at-loop-test .taken) _ (at-bytes-of .ensures) (sym (at-stops .ensures) ∙ c .if1 .taken)
 
 put-requires : tie.Need-put-requires Inv-loop μ-loop
-put-requires c κs = (running-room _ _ _ _ _ _ _ (c .before .before .before .before .before .before .loop .inv) (c .before .before .before .before .before .loop-test .taken) _ (c .before .before .before .bytes-of .ensures) (sym (c .before .before .stops .ensures) ∙ c .before .if1 .left) (c .before .before .before .before .before .before .before .before .before .before .pre .2), c .before .before .before .bytes-of .ensures .few)
+put-requires c κs =
+    let at-loop = c .before .before .before .before .before .before .loop in
+    let at-loop-test = c .before .before .before .before .before .loop-test in
+    let at-bytes-of = c .before .before .before .bytes-of in
+    let at-stops = c .before .before .stops in
+    let at-if1 = c .before .if1 in
+    let at-pre = c .before .before .before .before .before .before .before .before .before .before .pre in
+    (running-room _ _ _ _ _ _ _ (at-loop .inv) (at-loop-test .taken) _ (at-bytes-of .ensures) (sym (at-stops .ensures) ∙ at-if1 .left) (at-pre .2), at-bytes-of .ensures .few)
 
 add-i : tie.Need-add-i Inv-loop μ-loop
 add-i c = search needs
@@ -44,7 +61,15 @@ loop-less : tie.Need-loop-less Inv-loop μ-loop
 loop-less c = search needs
 
 loop-again : tie.Need-loop-again Inv-loop μ-loop
-loop-again c = running-on _ _ _ _ _ _ _ (c .before .before .before .before .before .before .before .before .before .loop .inv) (c .before .before .before .before .before .before .before .before .loop-test .taken) _ (c .before .before .before .before .before .before .bytes-of .ensures) (sym (c .before .before .before .before .before .stops .ensures) ∙ c .before .before .before .before .if1 .left) (c .before .before .before .before .before .before .before .before .before .before .before .before .before .pre .2) _ _ (c .before .before .put .ensures .0) (c .before .before .put .ensures .1)
+loop-again c =
+    let at-loop = c .before .before .before .before .before .before .before .before .before .loop in
+    let at-loop-test = c .before .before .before .before .before .before .before .before .loop-test in
+    let at-bytes-of = c .before .before .before .before .before .before .bytes-of in
+    let at-stops = c .before .before .before .before .before .stops in
+    let at-if1 = c .before .before .before .before .if1 in
+    let at-pre = c .before .before .before .before .before .before .before .before .before .before .before .before .before .pre in
+    let at-put = c .before .before .put in
+    running-on _ _ _ _ _ _ _ (at-loop .inv) (at-loop-test .taken) _ (at-bytes-of .ensures) (sym (at-stops .ensures) ∙ at-if1 .left) (at-pre .2) _ _ (at-put .ensures .0) (at-put .ensures .1)
 
 same-length-2 : tie.Need-same-length-2 Inv-loop μ-loop
 same-length-2 c = search needs

@@ -18,10 +18,16 @@ mapped-requires : tie.Need-mapped-requires
 mapped-requires c κs = search needs
 
 returns-2 : tie.Need-returns-2
-returns-2 c = sym (cell-mapped ((c .before .before .before .before .before .args) .table .now) ((c .before .before .before .before .before .args) .p) (sym (c .before .mapped .ensures) ∙ c .if2 .taken))
+returns-2 c =
+    let args = c .before .before .before .before .before .args in
+    let at-mapped = c .before .mapped in
+    sym (cell-mapped (args .table .now) (args .p) (sym (at-mapped .ensures) ∙ c .if2 .taken))
 
 returns-3 : tie.Need-returns-3
-returns-3 c = sym (cell-unmapped ((c .before .before .before .before .before .args) .table .now) ((c .before .before .before .before .before .args) .p) (sym (c .before .mapped .ensures) ∙ c .if2 .left))
+returns-3 c =
+    let args = c .before .before .before .before .before .args in
+    let at-mapped = c .before .mapped in
+    sym (cell-unmapped (args .table .now) (args .p) (sym (at-mapped .ensures) ∙ c .if2 .left))
 
 pub cell-spec : {M : Type 1} → statement M
 cell-spec =

@@ -13,7 +13,9 @@ slice-read-if2 : tie.Need-slice-read-if2
 slice-read-if2 c = search needs
 
 returns-2 : tie.Need-returns-2
-returns-2 c = told (enter-full ((c .before .before .before .args) .pointer) ((c .before .before .before .args) .c) ((c .before .before .before .args) .table .now) (c .if2 .taken))
+returns-2 c =
+    let args = c .before .before .before .args in
+    told (enter-full (args .pointer) (args .c) (args .table .now) (c .if2 .taken))
 
 mul-table : tie.Need-mul-table
 mul-table c = search needs
@@ -25,7 +27,10 @@ same-length : tie.Need-same-length
 same-length c = search needs
 
 returns-3 : tie.Need-returns-3
-returns-3 c = told (enter-free ((c .before .before .before .args) .pointer) ((c .before .before .before .args) .c) ((c .before .before .before .args) .table .now) (c .before .before .if1 .left) (c .if2 .left))
+returns-3 c =
+    let args = c .before .before .before .args in
+    let at-if1 = c .before .before .if1 in
+    told (enter-free (args .pointer) (args .c) (args .table .now) (at-if1 .left) (c .if2 .left))
 
 pub enter-spec : {M : Type 1} → statement M
 enter-spec =

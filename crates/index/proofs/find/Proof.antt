@@ -23,7 +23,12 @@ shared-slice-read-if1 : tie.Need-shared-slice-read-if1 Inv-loop μ-loop
 shared-slice-read-if1 c = search needs
 
 returns : tie.Need-returns Inv-loop μ-loop
-returns c = stretch-found ((c .before .before .before .before .args) .table .now) ((c .before .before .before .before .args) .end) ((c .before .before .before .before .args) .c) (search needs) (c .before .before .before .loop .i) (c .before .before .loop-test .taken) (c .before .before .before .before .pre .0) (c .if1 .taken) ∙ c .before .before .before .loop .inv
+returns c =
+    let args = c .before .before .before .before .args in
+    let at-loop = c .before .before .before .loop in
+    let at-loop-test = c .before .before .loop-test in
+    let at-pre = c .before .before .before .before .pre in
+    stretch-found (args .table .now) (args .end) (args .c) (search needs) (at-loop .i) (at-loop-test .taken) (at-pre .0) (c .if1 .taken) ∙ at-loop .inv
 
 add-i : tie.Need-add-i Inv-loop μ-loop
 add-i c = search needs
@@ -32,10 +37,17 @@ loop-less : tie.Need-loop-less Inv-loop μ-loop
 loop-less c = search needs
 
 loop-again : tie.Need-loop-again Inv-loop μ-loop
-loop-again c = stretch-on ((c .before .before .before .before .args) .table .now) ((c .before .before .before .before .args) .end) ((c .before .before .before .before .args) .c) (search needs) (c .before .before .before .loop .i) (c .before .before .loop-test .taken) (c .if1 .left) ∙ c .before .before .before .loop .inv
+loop-again c =
+    let args = c .before .before .before .before .args in
+    let at-loop = c .before .before .before .loop in
+    let at-loop-test = c .before .before .loop-test in
+    stretch-on (args .table .now) (args .end) (args .c) (search needs) (at-loop .i) (at-loop-test .taken) (c .if1 .left) ∙ at-loop .inv
 
 returns-2 : tie.Need-returns-2 Inv-loop μ-loop
-returns-2 c = stretch-end ((c .before .before .args) .table .now) ((c .before .before .args) .end) ((c .before .before .args) .c) (c .before .loop .i) (c .loop-test .left) ∙ c .before .loop .inv
+returns-2 c =
+    let args = c .before .before .args in
+    let at-loop = c .before .loop in
+    stretch-end (args .table .now) (args .end) (args .c) (at-loop .i) (c .loop-test .left) ∙ at-loop .inv
 
 pub find-spec : {M : Type 1} → statement M
 find-spec =

@@ -26,16 +26,31 @@ enter-requires : tie.Need-enter-requires
 enter-requires c κs = search needs
 
 returns-2 : tie.Need-returns-2
-returns-2 c = told (line-read ((c .before .before .before .before .before .before .args) .line .now) ((c .before .before .before .before .before .before .args) .table .now) (c .before .before .before .if1 .left) {r = noEntry} (ap readOf (sym (c .enum-told .given .1)) ∙ c .before .before .read .ensures))
+returns-2 c =
+    let args = c .before .before .before .before .before .before .args in
+    let at-if1 = c .before .before .before .if1 in
+    let at-read = c .before .before .read in
+    told (line-read (args .line .now) (args .table .now) (at-if1 .left) {r = noEntry} (ap readOf (sym (c .enum-told .given .1)) ∙ at-read .ensures))
 
 returns-3 : tie.Need-returns-3
-returns-3 c = told (line-read ((c .before .before .before .before .before .before .args) .line .now) ((c .before .before .before .before .before .before .args) .table .now) (c .before .before .before .if1 .left) {r = bad} (ap readOf (sym (c .enum-told2 .given .1)) ∙ c .before .before .read .ensures))
+returns-3 c =
+    let args = c .before .before .before .before .before .before .args in
+    let at-if1 = c .before .before .before .if1 in
+    let at-read = c .before .before .read in
+    told (line-read (args .line .now) (args .table .now) (at-if1 .left) {r = bad} (ap readOf (sym (c .enum-told2 .given .1)) ∙ at-read .ensures))
 
 same-length : tie.Need-same-length
 same-length c = search needs
 
 returns-4 : tie.Need-returns-4
-returns-4 c = let e = ap readOf (sym (c .before .before .before .before .before .pointer .given .1)) ∙ c .before .before .before .before .before .before .before .read .ensures in let t = told (line-read ((c .before .before .before .before .before .before .before .before .before .before .before .args) .line .now) ((c .before .before .before .before .before .before .before .before .before .before .before .args) .table .now) (c .before .before .before .before .before .before .before .before .if1 .left) {r = entry _ _} e) in (c .before .before .enter .ensures .0 ∙ t .0, c .before .before .enter .ensures .1 ∙ t .1)
+returns-4 c =
+    let args = c .before .before .before .before .before .before .before .before .before .before .before .args in
+    let at-pointer = c .before .before .before .before .before .pointer in
+    let at-read = c .before .before .before .before .before .before .before .read in
+    let at-if1 = c .before .before .before .before .before .before .before .before .if1 in
+    let at-enter = c .before .before .enter in
+    let e = ap readOf (sym (at-pointer .given .1)) ∙ at-read .ensures in
+    let t = told (line-read (args .line .now) (args .table .now) (at-if1 .left) {r = entry _ _} e) in (at-enter .ensures .0 ∙ t .0, at-enter .ensures .1 ∙ t .1)
 
 pub index-line-spec : {M : Type 1} → statement M
 index-line-spec =

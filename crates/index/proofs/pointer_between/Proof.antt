@@ -23,7 +23,10 @@ find-requires : tie.Need-find-requires
 find-requires c κs = (sym (c .before .before .mapped .ensures) ∙ not-false _ (c .before .if1 .left), omega (arith, c .least .ensures))
 
 returns-2 : tie.Need-returns-2
-returns-2 c = c .find .ensures ∙ ap (λ (n : ℕ). pointerFrom ((c .before .before .before .before .before .args) .start) (slice ((c .before .before .before .before .before .args) .start) n ((c .before .before .before .before .before .args) .table .now)) ((c .before .before .before .before .before .args) .c)) (c .before .least .ensures) ∙ ap (λ (l : List ℕ). pointerFrom ((c .before .before .before .before .before .args) .start) l ((c .before .before .before .before .before .args) .c)) (clipped ((c .before .before .before .before .before .args) .start) ((c .before .before .before .before .before .args) .end) ((c .before .before .before .before .before .args) .table .now))
+returns-2 c =
+    let args = c .before .before .before .before .before .args in
+    let at-least = c .before .least in
+    c .find .ensures ∙ ap (λ (n : ℕ). pointerFrom (args .start) (slice (args .start) n (args .table .now)) (args .c)) (at-least .ensures) ∙ ap (λ (l : List ℕ). pointerFrom (args .start) l (args .c)) (clipped (args .start) (args .end) (args .table .now))
 
 pub pointer-between-spec : {M : Type 1} → statement M
 pointer-between-spec =

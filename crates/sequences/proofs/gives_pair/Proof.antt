@@ -9,13 +9,17 @@ waits-requires : tie.Need-waits-requires
 waits-requires c κs = search needs
 
 returns : tie.Need-returns
-returns c = c .waits .ensures ∙ sym (pair-wait ((c .before .before .args) .have) ((c .before .before .args) .trail) ((c .before .before .args) .c) (omega arith))
+returns c =
+    let args = c .before .before .args in
+    c .waits .ensures ∙ sym (pair-wait (args .have) (args .trail) (args .c) (omega arith))
 
 gives-trailed-requires : tie.Need-gives-trailed-requires
 gives-trailed-requires c κs = search needs
 
 returns-2 : tie.Need-returns-2
-returns-2 c = c .gives-trailed .ensures ∙ sym (pair-there ((c .before .before .args) .have) ((c .before .before .args) .trail) ((c .before .before .args) .c) (omega arith))
+returns-2 c =
+    let args = c .before .before .args in
+    c .gives-trailed .ensures ∙ sym (pair-there (args .have) (args .trail) (args .c) (omega arith))
 
 pub gives-pair-spec : {M : Type 1} → statement M
 gives-pair-spec = tie.close (tie.spec waits-requires returns gives-trailed-requires returns-2)

@@ -9,19 +9,25 @@ gives-requires : tie.Need-gives-requires
 gives-requires c κs = search needs
 
 returns : tie.Need-returns
-returns c = c .gives .ensures ∙ sym (trailed-some ((c .before .before .args) .leads) ((c .before .before .args) .width) ((c .before .before .args) .trail) ((c .before .before .args) .c) (omega arith))
+returns c =
+    let args = c .before .before .args in
+    c .gives .ensures ∙ sym (trailed-some (args .leads) (args .width) (args .trail) (args .c) (omega arith))
 
 wrong-requires : tie.Need-wrong-requires
 wrong-requires c κs = search needs
 
 returns-2 : tie.Need-returns-2
-returns-2 c = c .wrong .ensures ∙ sym (trailed-back ((c .before .before .before .args) .leads) ((c .before .before .before .args) .width) ((c .before .before .before .args) .trail) ((c .before .before .before .args) .c) (omega arith) (omega arith))
+returns-2 c =
+    let args = c .before .before .before .args in
+    c .wrong .ensures ∙ sym (trailed-back (args .leads) (args .width) (args .trail) (args .c) (omega arith) (omega arith))
 
 wrong-requires-2 : tie.Need-wrong-requires-2
 wrong-requires-2 c κs = search needs
 
 returns-3 : tie.Need-returns-3
-returns-3 c = c .wrong2 .ensures ∙ sym (trailed-null ((c .before .before .before .args) .leads) ((c .before .before .before .args) .width) ((c .before .before .before .args) .trail) ((c .before .before .before .args) .c) (omega arith) (omega arith))
+returns-3 c =
+    let args = c .before .before .before .args in
+    c .wrong2 .ensures ∙ sym (trailed-null (args .leads) (args .width) (args .trail) (args .c) (omega arith) (omega arith))
 
 pub gives-trailed-spec : {M : Type 1} → statement M
 gives-trailed-spec =

@@ -7,22 +7,36 @@ use Rattle.encoder.proofs.pieces.put.Statement.{statement}
 use Rattle.encoder.proofs.pieces.put.Tie as tie
 
 put-reference-requires : tie.Need-put-reference-requires
-put-reference-requires c κs = omega (arith, ap length (piece-reference ((c .before .before .before .before .args) .b) ((c .before .before .before .before .args) .c) (search needs)), c .before .before .before .before .pre .0)
+put-reference-requires c κs =
+    let args = c .before .before .before .before .args in
+    let at-pre = c .before .before .before .before .pre in
+    omega (arith, ap length (piece-reference (args .b) (args .c) (search needs)), at-pre .0)
 
 same-length : tie.Need-same-length
 same-length c = search needs
 
 returns : tie.Need-returns
-returns c = same-list ((c .before .before .before .before .before .before .before .args) .room .now) ((c .before .before .before .before .before .before .before .args) .at) (sym (piece-reference ((c .before .before .before .before .before .before .before .args) .b) ((c .before .before .before .before .before .before .before .args) .c) (c .before .before .before .before .if1 .taken))) (c .before .before .put-reference .ensures)
+returns c =
+    let args = c .before .before .before .before .before .before .before .args in
+    let at-if1 = c .before .before .before .before .if1 in
+    let at-put-reference = c .before .before .put-reference in
+    same-list (args .room .now) (args .at) (sym (piece-reference (args .b) (args .c) (at-if1 .taken))) (at-put-reference .ensures)
 
 put-bytes-requires : tie.Need-put-bytes-requires
-put-bytes-requires c κs = (omega (arith, ap length (piece-bytes ((c .before .before .before .before .args) .b) ((c .before .before .before .before .args) .c) (search needs)), c .before .before .before .before .pre .0), search needs, search needs)
+put-bytes-requires c κs =
+    let args = c .before .before .before .before .args in
+    let at-pre = c .before .before .before .before .pre in
+    (omega (arith, ap length (piece-bytes (args .b) (args .c) (search needs)), at-pre .0), search needs, search needs)
 
 same-length-2 : tie.Need-same-length-2
 same-length-2 c = search needs
 
 returns-2 : tie.Need-returns-2
-returns-2 c = same-list ((c .before .before .before .before .before .before .before .args) .room .now) ((c .before .before .before .before .before .before .before .args) .at) (sym (piece-bytes ((c .before .before .before .before .before .before .before .args) .b) ((c .before .before .before .before .before .before .before .args) .c) (c .before .before .before .before .if1 .left))) (c .before .before .put-bytes .ensures)
+returns-2 c =
+    let args = c .before .before .before .before .before .before .before .args in
+    let at-if1 = c .before .before .before .before .if1 in
+    let at-put-bytes = c .before .before .put-bytes in
+    same-list (args .room .now) (args .at) (sym (piece-bytes (args .b) (args .c) (at-if1 .left))) (at-put-bytes .ensures)
 
 pub put-spec : {M : Type 1} → statement M
 put-spec =

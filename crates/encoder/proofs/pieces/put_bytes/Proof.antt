@@ -45,7 +45,9 @@ same-length-3 : tie.Need-same-length-3
 same-length-3 c = search needs
 
 returns-3 : tie.Need-returns-3
-returns-3 c = put-three ((c .before .before .before .args) .room .now) ((c .before .before .before .args) .at) ((c .before .before .before .args) .b) (search needs)
+returns-3 c =
+    let args = c .before .before .before .args in
+    put-three (args .room .now) (args .at) (args .b) (search needs)
 
 add-room-3 : tie.Need-add-room-3
 add-room-3 c = record { fits = omega (arith, listed-length ((c .before .before .before .args) .b) (search needs), c .before .before .before .pre .0) }
@@ -60,7 +62,9 @@ same-length-4 : tie.Need-same-length-4
 same-length-4 c = search needs
 
 returns-4 : tie.Need-returns-4
-returns-4 c = put-four ((c .before .before .before .args) .room .now) ((c .before .before .before .args) .at) ((c .before .before .before .args) .b) (search needs)
+returns-4 c =
+    let args = c .before .before .before .args in
+    put-four (args .room .now) (args .at) (args .b) (search needs)
 
 pub put-bytes-spec : {M : Type 1} → statement M
 put-bytes-spec =

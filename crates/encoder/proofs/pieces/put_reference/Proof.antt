@@ -21,16 +21,27 @@ put-digits-requires : tie.Need-put-digits-requires
 put-digits-requires c κs = simp length-set (omega (arith, reference-length ((c .before .before .args) .c), c .before .before .pre))
 
 slice-write-room-3 : tie.Need-slice-write-room-3
-slice-write-room-3 c = omega (arith, reference-length ((c .before .before .before .before .before .args) .c), c .before .before .before .before .before .pre, c .before .before .put-digits .ensures .0, simp length-set at (c .before .before .put-digits .kept .0))
+slice-write-room-3 c =
+    let args = c .before .before .before .before .before .args in
+    let at-pre = c .before .before .before .before .before .pre in
+    let at-put-digits = c .before .before .put-digits in
+    omega (arith, reference-length (args .c), at-pre, at-put-digits .ensures .0, simp length-set at (at-put-digits .kept .0))
 
 add-result : tie.Need-add-result
-add-result c = record { fits = omega (arith, reference-length ((c .before .before .before .before .before .args) .c), c .before .before .before .before .before .pre, c .before .before .put-digits .ensures .0) }
+add-result c =
+    let args = c .before .before .before .before .before .args in
+    let at-pre = c .before .before .before .before .before .pre in
+    let at-put-digits = c .before .before .put-digits in
+    record { fits = omega (arith, reference-length (args .c), at-pre, at-put-digits .ensures .0) }
 
 same-length : tie.Need-same-length
 same-length c = simp length-set (simp length-set at (c .before .before .put-digits .kept .0))
 
 returns : tie.Need-returns
-returns c = put-reference ((c .before .before .before .before .before .args) .room .now) ((c .before .before .before .before .before .args) .at) ((c .before .before .before .before .before .args) .c) (c .before .before .put-digits .result) _ (c .before .before .put-digits .ensures .0) (c .before .before .put-digits .ensures .1)
+returns c =
+    let args = c .before .before .before .before .before .args in
+    let at-put-digits = c .before .before .put-digits in
+    put-reference (args .room .now) (args .at) (args .c) (at-put-digits .result) _ (at-put-digits .ensures .0) (at-put-digits .ensures .1)
 
 pub put-reference-spec : {M : Type 1} → statement M
 put-reference-spec =

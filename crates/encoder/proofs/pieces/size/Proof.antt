@@ -13,10 +13,14 @@ add-result : tie.Need-add-result
 add-result c = search needs
 
 returns : tie.Need-returns
-returns c = (omega (arith, ap length (piece-reference ((c .before .before .args) .b) ((c .before .before .args) .c) (search needs)), reference-length ((c .before .before .args) .c), c .digits .ensures .0), omega (arith, c .digits .ensures .1))
+returns c =
+    let args = c .before .before .args in
+    (omega (arith, ap length (piece-reference (args .b) (args .c) (search needs)), reference-length (args .c), c .digits .ensures .0), omega (arith, c .digits .ensures .1))
 
 returns-2 : tie.Need-returns-2
-returns-2 c = (omega (arith, ap length (piece-bytes ((c .before .args) .b) ((c .before .args) .c) (search needs)), listed-length ((c .before .args) .b) (search needs)), search needs)
+returns-2 c =
+    let args = c .before .args in
+    (omega (arith, ap length (piece-bytes (args .b) (args .c) (search needs)), listed-length (args .b) (search needs)), search needs)
 
 pub size-spec : {M : Type 1} → statement M
 size-spec = tie.close (tie.spec digits-requires add-result returns returns-2)

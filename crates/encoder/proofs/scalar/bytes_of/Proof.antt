@@ -7,25 +7,33 @@ utf8-requires : tie.Need-utf8-requires
 utf8-requires c κs = search needs
 
 returns : tie.Need-returns
-returns c = gives-as (c .utf8 .ensures) (of-utf8 ((c .before .before .before .args) .encoding) ((c .before .before .before .args) .table .now) ((c .before .before .before .args) .c) (search needs))
+returns c =
+    let args = c .before .before .before .args in
+    gives-as (c .utf8 .ensures) (of-utf8 (args .encoding) (args .table .now) (args .c) (search needs))
 
 windows-1252-requires : tie.Need-windows-1252-requires
 windows-1252-requires c κs = search needs
 
 returns-2 : tie.Need-returns-2
-returns-2 c = gives-as (c .windows-1252 .ensures) (of-windows-1252 ((c .before .before .before .before .args) .encoding) ((c .before .before .before .before .args) .table .now) ((c .before .before .before .before .args) .c) (search needs))
+returns-2 c =
+    let args = c .before .before .before .before .args in
+    gives-as (c .windows-1252 .ensures) (of-windows-1252 (args .encoding) (args .table .now) (args .c) (search needs))
 
 single-byte-requires : tie.Need-single-byte-requires
 single-byte-requires c κs = search needs
 
 returns-3 : tie.Need-returns-3
-returns-3 c = gives-as (c .single-byte .ensures) (of-single-byte ((c .before .before .before .before .before .args) .encoding) ((c .before .before .before .before .before .args) .table .now) ((c .before .before .before .before .before .args) .c) (search needs) (search needs) (search needs))
+returns-3 c =
+    let args = c .before .before .before .before .before .args in
+    gives-as (c .single-byte .ensures) (of-single-byte (args .encoding) (args .table .now) (args .c) (search needs) (search needs) (search needs))
 
 user-defined-requires : tie.Need-user-defined-requires
 user-defined-requires c κs = search needs
 
 returns-4 : tie.Need-returns-4
-returns-4 c = gives-as (c .user-defined .ensures) (of-user-defined ((c .before .before .before .before .before .args) .encoding) ((c .before .before .before .before .before .args) .table .now) ((c .before .before .before .before .before .args) .c) (search needs))
+returns-4 c =
+    let args = c .before .before .before .before .before .args in
+    gives-as (c .user-defined .ensures) (of-user-defined (args .encoding) (args .table .now) (args .c) (search needs))
 
 pub bytes-of-spec : {M : Type 1} → statement M
 bytes-of-spec =

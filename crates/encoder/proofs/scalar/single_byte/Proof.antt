@@ -22,10 +22,20 @@ enum-known-p : tie.Need-enum-known-p
 enum-known-p c = search needs
 
 cast-one-2 : tie.Need-cast-one-2
-cast-one-2 c = let e = ap pointerOf (sym (c .before .p .given .1)) ∙ c .before .before .before .pointer .ensures in omega (arith, pointer-below ((c .before .before .before .before .before .before .args) .table .now) ((c .before .before .before .before .before .before .args) .c) e)
+cast-one-2 c =
+    let args = c .before .before .before .before .before .before .args in
+    let at-p = c .before .p in
+    let at-pointer = c .before .before .before .pointer in
+    let e = ap pointerOf (sym (at-p .given .1)) ∙ at-pointer .ensures in
+    omega (arith, pointer-below (args .table .now) (args .c) e)
 
 add-one : tie.Need-add-one
-add-one c = let e = ap pointerOf (sym (c .before .p .given .1)) ∙ c .before .before .before .pointer .ensures in record { fits = omega (arith, pointer-below ((c .before .before .before .before .before .before .args) .table .now) ((c .before .before .before .before .before .before .args) .c) e) }
+add-one c =
+    let args = c .before .before .before .before .before .before .args in
+    let at-p = c .before .p in
+    let at-pointer = c .before .before .before .pointer in
+    let e = ap pointerOf (sym (at-p .given .1)) ∙ at-pointer .ensures in
+    record { fits = omega (arith, pointer-below (args .table .now) (args .c) e) }
 
 one-requires-2 : tie.Need-one-requires-2
 one-requires-2 c κs = search needs
@@ -37,10 +47,20 @@ unwritable-requires : tie.Need-unwritable-requires
 unwritable-requires c κs = search needs
 
 returns-2 : tie.Need-returns-2
-returns-2 c = let e = ap pointerOf (sym (c .before .before .p .given .1)) ∙ c .before .before .before .before .pointer .ensures in gives-as (c .one2 .ensures) (single-by ((c .before .before .before .before .before .before .before .args) .table .now) ((c .before .before .before .before .before .before .before .args) .c) (search needs) e)
+returns-2 c =
+    let args = c .before .before .before .before .before .before .before .args in
+    let at-p = c .before .before .p in
+    let at-pointer = c .before .before .before .before .pointer in
+    let e = ap pointerOf (sym (at-p .given .1)) ∙ at-pointer .ensures in
+    gives-as (c .one2 .ensures) (single-by (args .table .now) (args .c) (search needs) e)
 
 returns-3 : tie.Need-returns-3
-returns-3 c = let e = ap pointerOf (sym (c .before .enum-told .given .1)) ∙ c .before .before .before .pointer .ensures in gives-as (c .unwritable .ensures) (single-by ((c .before .before .before .before .before .before .args) .table .now) ((c .before .before .before .before .before .before .args) .c) (search needs) e)
+returns-3 c =
+    let args = c .before .before .before .before .before .before .args in
+    let at-enum-told = c .before .enum-told in
+    let at-pointer = c .before .before .before .pointer in
+    let e = ap pointerOf (sym (at-enum-told .given .1)) ∙ at-pointer .ensures in
+    gives-as (c .unwritable .ensures) (single-by (args .table .now) (args .c) (search needs) e)
 
 pub single-byte-spec : {M : Type 1} → statement M
 single-byte-spec =

@@ -37,7 +37,10 @@ low-requires-3 : tie.Need-low-requires-3
 low-requires-3 c κs = search needs
 
 returns-3 : tie.Need-returns-3
-returns-3 c = utf8-three ((c .before .before .before .before .before .args) .c) (search needs) (search needs) (c .before .low2 .result) (c .low3 .result) (c .before .low2 .ensures) (c .low3 .ensures)
+returns-3 c =
+    let args = c .before .before .before .before .before .args in
+    let at-low2 = c .before .low2 in
+    utf8-three (args .c) (search needs) (search needs) (at-low2 .result) (c .low3 .result) (at-low2 .ensures) (c .low3 .ensures)
 
 add-t15 : tie.Need-add-t15
 add-t15 c = search needs
@@ -55,7 +58,11 @@ low-requires-6 : tie.Need-low-requires-6
 low-requires-6 c κs = search needs
 
 returns-4 : tie.Need-returns-4
-returns-4 c = utf8-four ((c .before .before .before .before .before .before .args) .c) (search needs) (c .before .before .low4 .result) (c .before .low5 .result) (c .low6 .result) (c .before .before .low4 .ensures) (c .before .low5 .ensures) (c .low6 .ensures)
+returns-4 c =
+    let args = c .before .before .before .before .before .before .args in
+    let at-low4 = c .before .before .low4 in
+    let at-low5 = c .before .low5 in
+    utf8-four (args .c) (search needs) (at-low4 .result) (at-low5 .result) (c .low6 .result) (at-low4 .ensures) (at-low5 .ensures) (c .low6 .ensures)
 
 pub utf8-spec : {M : Type 1} → statement M
 utf8-spec =

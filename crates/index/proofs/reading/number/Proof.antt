@@ -15,7 +15,10 @@ loop-holds : tie.Need-loop-holds Inv-loop μ-loop
 loop-holds c = numbered-start _ _ _ _
 
 mul-n : tie.Need-mul-n Inv-loop μ-loop
-mul-n c = record { fits = omega (arith, next-fits ((c .before .before .before .args) .line .now) ((c .before .before .before .args) .at) ((c .before .before .before .args) .end) ((c .before .before .before .args) .base) (c .before .loop .n) (c .before .loop .i) (c .before .loop .inv) (c .loop-test .taken) (search needs) (search needs) (search needs) 0 (search needs)) }
+mul-n c =
+    let args = c .before .before .before .args in
+    let at-loop = c .before .loop in
+    record { fits = omega (arith, next-fits (args .line .now) (args .at) (args .end) (args .base) (at-loop .n) (at-loop .i) (at-loop .inv) (c .loop-test .taken) (search needs) (search needs) (search needs) 0 (search needs)) }
 
 shared-slice-read-digit : tie.Need-shared-slice-read-digit Inv-loop μ-loop
 shared-slice-read-digit c = search needs
@@ -24,7 +27,11 @@ digit-requires : tie.Need-digit-requires Inv-loop μ-loop
 digit-requires c κs = search needs
 
 add-n : tie.Need-add-n Inv-loop μ-loop
-add-n c = record { fits = omega (arith, next-fits ((c .before .before .before .before .before .args) .line .now) ((c .before .before .before .before .before .args) .at) ((c .before .before .before .before .before .args) .end) ((c .before .before .before .before .before .args) .base) (c .before .before .before .loop .n) (c .before .before .before .loop .i) (c .before .before .before .loop .inv) (c .before .before .loop-test .taken) (search needs) (search needs) (search needs) (c .digit .result) (c .digit .ensures .1)) }
+add-n c =
+    let args = c .before .before .before .before .before .args in
+    let at-loop = c .before .before .before .loop in
+    let at-loop-test = c .before .before .loop-test in
+    record { fits = omega (arith, next-fits (args .line .now) (args .at) (args .end) (args .base) (at-loop .n) (at-loop .i) (at-loop .inv) (at-loop-test .taken) (search needs) (search needs) (search needs) (c .digit .result) (c .digit .ensures .1)) }
 
 add-i : tie.Need-add-i Inv-loop μ-loop
 add-i c = search needs
@@ -33,7 +40,11 @@ loop-less : tie.Need-loop-less Inv-loop μ-loop
 loop-less c = search needs
 
 loop-again : tie.Need-loop-again Inv-loop μ-loop
-loop-again c = numbered-on ((c .before .before .before .before .before .args) .line .now) ((c .before .before .before .before .before .args) .at) ((c .before .before .before .before .before .args) .end) ((c .before .before .before .before .before .args) .base) (c .before .before .before .loop .n) (c .before .before .before .loop .i) (c .before .before .before .loop .inv) (c .before .before .loop-test .taken) (search needs) (search needs) (search needs) (c .digit .result) (c .digit .ensures .1) (c .digit .ensures .0)
+loop-again c =
+    let args = c .before .before .before .before .before .args in
+    let at-loop = c .before .before .before .loop in
+    let at-loop-test = c .before .before .loop-test in
+    numbered-on (args .line .now) (args .at) (args .end) (args .base) (at-loop .n) (at-loop .i) (at-loop .inv) (at-loop-test .taken) (search needs) (search needs) (search needs) (c .digit .result) (c .digit .ensures .1) (c .digit .ensures .0)
 
 returns : tie.Need-returns Inv-loop μ-loop
 returns c = numbered-end _ _ _ _ _ _ (c .before .loop .inv) (c .loop-test .left)

@@ -24,7 +24,12 @@ is-requires : tie.Need-is-requires Inv-loop μ-loop
 is-requires c κs = search needs
 
 returns : tie.Need-returns Inv-loop μ-loop
-returns c = c .before .before .before .before .loop .inv _ (past-stop (passes ((c .before .before .before .before .before .before .args) .kind)) ((c .before .before .before .before .before .before .args) .line .now) (c .before .before .before .before .loop .i) (c .before .before .before .loop-test .taken) (sym (c .before .is .ensures) ∙ not-true _ (c .if1 .taken)))
+returns c =
+    let args = c .before .before .before .before .before .before .args in
+    let at-loop = c .before .before .before .before .loop in
+    let at-loop-test = c .before .before .before .loop-test in
+    let at-is = c .before .is in
+    at-loop .inv _ (past-stop (passes (args .kind)) (args .line .now) (at-loop .i) (at-loop-test .taken) (sym (at-is .ensures) ∙ not-true _ (c .if1 .taken)))
 
 add-i : tie.Need-add-i Inv-loop μ-loop
 add-i c = search needs
@@ -33,10 +38,18 @@ loop-less : tie.Need-loop-less Inv-loop μ-loop
 loop-less c = search needs
 
 loop-again : tie.Need-loop-again Inv-loop μ-loop
-loop-again c = λ r s. c .before .before .before .before .loop .inv r (past-on (passes ((c .before .before .before .before .before .before .args) .kind)) ((c .before .before .before .before .before .before .args) .line .now) (c .before .before .before .before .loop .i) r (c .before .before .before .loop-test .taken) (sym (c .before .is .ensures) ∙ not-false _ (c .if1 .left)) s)
+loop-again c =
+    let args = c .before .before .before .before .before .before .args in
+    let at-loop = c .before .before .before .before .loop in
+    let at-loop-test = c .before .before .before .loop-test in
+    let at-is = c .before .is in
+    λ r s. at-loop .inv r (past-on (passes (args .kind)) (args .line .now) (at-loop .i) r (at-loop-test .taken) (sym (at-is .ensures) ∙ not-false _ (c .if1 .left)) s)
 
 returns-2 : tie.Need-returns-2 Inv-loop μ-loop
-returns-2 c = c .before .loop .inv _ (past-end (passes ((c .before .before .before .args) .kind)) ((c .before .before .before .args) .line .now) (c .before .loop .i) (c .loop-test .left))
+returns-2 c =
+    let args = c .before .before .before .args in
+    let at-loop = c .before .loop in
+    at-loop .inv _ (past-end (passes (args .kind)) (args .line .now) (at-loop .i) (c .loop-test .left))
 
 pub past-spec : {M : Type 1} → statement M
 past-spec =

@@ -25,7 +25,12 @@ entry-requires : tie.Need-entry-requires
 entry-requires c κs = (c .past2 .ensures .forward, omega (arith, c .past2 .ensures .inside, c .before .past .ensures .inside), search needs)
 
 returns-3 : tie.Need-returns-3
-returns-3 c = c .entry .ensures ∙ read-entry ((c .before .before .before .before .before .before .before .args) .line .now) _ _ (search needs) (ne-eqb _ _ (c .before .before .before .if2 .left)) (c .before .before .past .ensures) (c .before .past2 .ensures)
+returns-3 c =
+    let args = c .before .before .before .before .before .before .before .args in
+    let at-if2 = c .before .before .before .if2 in
+    let at-past = c .before .before .past in
+    let at-past2 = c .before .past2 in
+    c .entry .ensures ∙ read-entry (args .line .now) _ _ (search needs) (ne-eqb _ _ (at-if2 .left)) (at-past .ensures) (at-past2 .ensures)
 
 pub read-spec : {M : Type 1} → statement M
 read-spec =

@@ -15,7 +15,11 @@ gives-row-requires : tie.Need-gives-row-requires
 gives-row-requires c κs = search needs
 
 returns : tie.Need-returns
-returns c = let a = (c .before .before .before .before .before .args) in c .gives-row .ensures ∙ sym (pair-row (a .lead) (a .trail) (c .before .before .row .result) (c .before .before .before .pointer .result) _ (c .before .before .before .pointer .ensures) (c .before .before .row .ensures) (omega arith))
+returns c =
+    let args = c .before .before .before .before .before .args in
+    let at-row = c .before .before .row in
+    let at-pointer = c .before .before .before .pointer in
+    c .gives-row .ensures ∙ sym (pair-row (args .lead) (args .trail) (at-row .result) (at-pointer .result) _ (at-pointer .ensures) (at-row .ensures) (omega arith))
 
 cast-cell : tie.Need-cast-cell
 cast-cell c = search needs
@@ -27,7 +31,12 @@ gives-trailed-requires : tie.Need-gives-trailed-requires
 gives-trailed-requires c κs = search needs
 
 returns-2 : tie.Need-returns-2
-returns-2 c = let a = (c .before .before .before .before .before .before .args) in c .gives-trailed .ensures ∙ rw (c .before .cell .ensures, c .before .before .before .before .pointer .ensures) (sym (pair-none (a .lead) (a .trail) (c .before .before .before .row .result) (c .before .before .before .before .pointer .result) _ (c .before .before .before .before .pointer .ensures) (c .before .before .before .row .ensures) (omega arith)))
+returns-2 c =
+    let args = c .before .before .before .before .before .before .args in
+    let at-cell = c .before .cell in
+    let at-pointer = c .before .before .before .before .pointer in
+    let at-row = c .before .before .before .row in
+    c .gives-trailed .ensures ∙ rw (at-cell .ensures, at-pointer .ensures) (sym (pair-none (args .lead) (args .trail) (at-row .result) (at-pointer .result) _ (at-pointer .ensures) (at-row .ensures) (omega arith)))
 
 pub in-range-spec : {M : Type 1} → statement M
 in-range-spec =

@@ -30,7 +30,9 @@ returns-4 : tie.Need-returns-4
 returns-4 c = sym (row-3 ((c .before .before .before .before .before .before .before .before .args) .p) (c .if4 .taken ∙ c .before .entry4 .ensures))
 
 returns-5 : tie.Need-returns-5
-returns-5 c = sym (row-4 ((c .before .before .before .before .before .before .before .before .args) .p) (omega arith) (omega arith) (omega arith) (omega arith))
+returns-5 c =
+    let args = c .before .before .before .before .before .before .before .before .args in
+    sym (row-4 (args .p) (omega arith) (omega arith) (omega arith) (omega arith))
 
 pub row-spec : {M : Type 1} → statement M
 row-spec =

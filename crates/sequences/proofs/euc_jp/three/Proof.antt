@@ -15,22 +15,39 @@ waits-requires : tie.Need-waits-requires
 waits-requires c κs = search needs
 
 returns : tie.Need-returns
-returns c = let a = c .before .before .before .before .before .args in c .waits .ensures ∙ sym (three-wait (a .jis0212 .now) (a .have) (a .c) (a .d) (sym (c .before .before .before .within .ensures) ∙ c .before .before .if1 .taken) (omega arith))
+returns c =
+    let args = c .before .before .before .before .before .args in
+    let at-within = c .before .before .before .within in
+    let at-if1 = c .before .before .if1 in
+    c .waits .ensures ∙ sym (three-wait (args .jis0212 .now) (args .have) (args .c) (args .d) (sym (at-within .ensures) ∙ at-if1 .taken) (omega arith))
 
 code-point-requires : tie.Need-code-point-requires
-code-point-requires c κs = within-low 0xA1 ((c .before .before .before .before .args) .c) 0xFE (sym (c .before .before .within .ensures) ∙ c .before .if1 .taken)
+code-point-requires c κs =
+    let args = c .before .before .before .before .args in
+    let at-within = c .before .before .within in
+    let at-if1 = c .before .if1 in
+    within-low 0xA1 (args .c) 0xFE (sym (at-within .ensures) ∙ at-if1 .taken)
 
 gives-trailed-requires : tie.Need-gives-trailed-requires
 gives-trailed-requires c κs = search needs
 
 returns-2 : tie.Need-returns-2
-returns-2 c = let a = c .before .before .before .before .before .before .args in c .gives-trailed .ensures ∙ ap (trailed 2 3 (a .d)) (c .before .code-point .ensures) ∙ sym (three-trail (a .jis0212 .now) (a .have) (a .c) (a .d) (sym (c .before .before .before .before .within .ensures) ∙ c .before .before .before .if1 .taken) (omega arith))
+returns-2 c =
+    let args = c .before .before .before .before .before .before .args in
+    let at-code-point = c .before .code-point in
+    let at-within = c .before .before .before .before .within in
+    let at-if1 = c .before .before .before .if1 in
+    c .gives-trailed .ensures ∙ ap (trailed 2 3 (args .d)) (at-code-point .ensures) ∙ sym (three-trail (args .jis0212 .now) (args .have) (args .c) (args .d) (sym (at-within .ensures) ∙ at-if1 .taken) (omega arith))
 
 gives-pair-requires : tie.Need-gives-pair-requires
 gives-pair-requires c κs = search needs
 
 returns-3 : tie.Need-returns-3
-returns-3 c = let a = c .before .before .before .before .args in c .gives-pair .ensures ∙ pair-there (a .have) (a .c) 0 (omega arith) ∙ sym (three-other (a .jis0212 .now) (a .have) (a .c) (a .d) (sym (c .before .before .within .ensures) ∙ c .before .if1 .left))
+returns-3 c =
+    let args = c .before .before .before .before .args in
+    let at-within = c .before .before .within in
+    let at-if1 = c .before .if1 in
+    c .gives-pair .ensures ∙ pair-there (args .have) (args .c) 0 (omega arith) ∙ sym (three-other (args .jis0212 .now) (args .have) (args .c) (args .d) (sym (at-within .ensures) ∙ at-if1 .left))
 
 pub three-spec : {M : Type 1} → statement M
 three-spec =

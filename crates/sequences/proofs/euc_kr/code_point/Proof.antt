@@ -31,7 +31,9 @@ cell-requires : tie.Need-cell-requires
 cell-requires c κs = search needs
 
 returns-3 : tie.Need-returns-3
-returns-3 c = let a = (c .before .before .before .before .args) in c .cell .ensures ∙ sym (code-in (a .table .now) (a .lead) (a .trail) (omega arith) (omega arith))
+returns-3 c =
+    let args = c .before .before .before .before .args in
+    c .cell .ensures ∙ sym (code-in (args .table .now) (args .lead) (args .trail) (omega arith) (omega arith))
 
 pub code-point-spec : {M : Type 1} → statement M
 code-point-spec =

@@ -13,13 +13,17 @@ waits-requires : tie.Need-waits-requires
 waits-requires c κs = search needs
 
 returns : tie.Need-returns
-returns c = let a = (c .before .before .before .args) in c .waits .ensures ∙ sym (kr-none (lent (a .table .now) []) (a .have) (a .b0) (a .b1) (a .b2) (a .b3) (omega arith))
+returns c =
+    let args = c .before .before .before .args in
+    c .waits .ensures ∙ sym (kr-none (lent (args .table .now) []) (args .have) (args .b0) (args .b1) (args .b2) (args .b3) (omega arith))
 
 gives-requires : tie.Need-gives-requires
 gives-requires c κs = search needs
 
 returns-2 : tie.Need-returns-2
-returns-2 c = let a = (c .before .before .before .before .args) in c .gives .ensures ∙ sym (kr-ascii (lent (a .table .now) []) (a .have) (a .b0) (a .b1) (a .b2) (a .b3) (omega arith) (omega arith))
+returns-2 c =
+    let args = c .before .before .before .before .args in
+    c .gives .ensures ∙ sym (kr-ascii (lent (args .table .now) []) (args .have) (args .b0) (args .b1) (args .b2) (args .b3) (omega arith) (omega arith))
 
 within-requires : tie.Need-within-requires
 within-requires c κs = search needs
@@ -28,16 +32,28 @@ wrong-requires : tie.Need-wrong-requires
 wrong-requires c κs = search needs
 
 returns-3 : tie.Need-returns-3
-returns-3 c = let a = (c .before .before .before .before .before .before .args) in c .wrong .ensures ∙ sym (kr-bad (lent (a .table .now) []) (a .have) (a .b0) (a .b1) (a .b2) (a .b3) (omega arith) (omega arith) (fails (c .before .before .within .ensures) (c .before .if3 .taken)))
+returns-3 c =
+    let args = c .before .before .before .before .before .before .args in
+    let at-within = c .before .before .within in
+    let at-if3 = c .before .if3 in
+    c .wrong .ensures ∙ sym (kr-bad (lent (args .table .now) []) (args .have) (args .b0) (args .b1) (args .b2) (args .b3) (omega arith) (omega arith) (fails (at-within .ensures) (at-if3 .taken)))
 
 code-point-requires : tie.Need-code-point-requires
-code-point-requires c κs = omega (arith, within-low 0x81 ((c .before .before .before .before .before .args) .b0) 0xFE (holds (c .before .within .ensures) (c .if3 .left)))
+code-point-requires c κs =
+    let args = c .before .before .before .before .before .args in
+    let at-within = c .before .within in
+    omega (arith, within-low 0x81 (args .b0) 0xFE (holds (at-within .ensures) (c .if3 .left)))
 
 gives-pair-requires : tie.Need-gives-pair-requires
 gives-pair-requires c κs = search needs
 
 returns-4 : tie.Need-returns-4
-returns-4 c = let a = (c .before .before .before .before .before .before .before .args) in c .gives-pair .ensures ∙ rw (c .before .code-point .ensures) (sym (kr-pair (lent (a .table .now) []) (a .have) (a .b0) (a .b1) (a .b2) (a .b3) (omega arith) (omega arith) (holds (c .before .before .before .within .ensures) (c .before .before .if3 .left))))
+returns-4 c =
+    let args = c .before .before .before .before .before .before .before .args in
+    let at-code-point = c .before .code-point in
+    let at-within = c .before .before .before .within in
+    let at-if3 = c .before .before .if3 in
+    c .gives-pair .ensures ∙ rw (at-code-point .ensures) (sym (kr-pair (lent (args .table .now) []) (args .have) (args .b0) (args .b1) (args .b2) (args .b3) (omega arith) (omega arith) (holds (at-within .ensures) (at-if3 .left))))
 
 pub euc-kr-spec : {M : Type 1} → statement M
 euc-kr-spec =

@@ -16,7 +16,9 @@ mul-row : tie.Need-mul-row
 mul-row c = search needs
 
 returns : tie.Need-returns
-returns c = let a = c .before .before .args in sym (code-out (a .table .now) (a .lead) (a .trail) (under 0x40 (a .trail) 0x7E (omega arith)) (under 0x80 (a .trail) 0xFE (omega arith)))
+returns c =
+    let args = c .before .before .args in
+    sym (code-out (args .table .now) (args .lead) (args .trail) (under 0x40 (args .trail) 0x7E (omega arith)) (under 0x80 (args .trail) 0xFE (omega arith)))
 
 cast-cell : tie.Need-cast-cell
 cast-cell c = search needs
@@ -28,13 +30,19 @@ cell-requires : tie.Need-cell-requires
 cell-requires c κs = search needs
 
 returns-2 : tie.Need-returns-2
-returns-2 c = let a = c .before .before .before .before .args in c .cell .ensures ∙ sym (code-low (a .table .now) (a .lead) (a .trail) (omega arith) (omega arith))
+returns-2 c =
+    let args = c .before .before .before .before .args in
+    c .cell .ensures ∙ sym (code-low (args .table .now) (args .lead) (args .trail) (omega arith) (omega arith))
 
 returns-3 : tie.Need-returns-3
-returns-3 c = let a = c .before .before .before .before .args in sym (code-out (a .table .now) (a .lead) (a .trail) (above 0x40 (a .trail) 0x7E (omega arith)) (under 0x80 (a .trail) 0xFE (omega arith)))
+returns-3 c =
+    let args = c .before .before .before .before .args in
+    sym (code-out (args .table .now) (args .lead) (args .trail) (above 0x40 (args .trail) 0x7E (omega arith)) (under 0x80 (args .trail) 0xFE (omega arith)))
 
 returns-4 : tie.Need-returns-4
-returns-4 c = let a = c .before .before .before .before .before .args in sym (code-out (a .table .now) (a .lead) (a .trail) (above 0x40 (a .trail) 0x7E (omega arith)) (above 0x80 (a .trail) 0xFE (omega arith)))
+returns-4 c =
+    let args = c .before .before .before .before .before .args in
+    sym (code-out (args .table .now) (args .lead) (args .trail) (above 0x40 (args .trail) 0x7E (omega arith)) (above 0x80 (args .trail) 0xFE (omega arith)))
 
 sub-cell : tie.Need-sub-cell
 sub-cell c = search needs
@@ -49,7 +57,9 @@ cell-requires-2 : tie.Need-cell-requires-2
 cell-requires-2 c κs = search needs
 
 returns-5 : tie.Need-returns-5
-returns-5 c = let a = c .before .before .before .before .before .before .args in c .cell2 .ensures ∙ sym (code-high (a .table .now) (a .lead) (a .trail) (omega arith) (omega arith))
+returns-5 c =
+    let args = c .before .before .before .before .before .before .args in
+    c .cell2 .ensures ∙ sym (code-high (args .table .now) (args .lead) (args .trail) (omega arith) (omega arith))
 
 pub code-point-spec : {M : Type 1} → statement M
 code-point-spec =

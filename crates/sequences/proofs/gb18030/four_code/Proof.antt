@@ -18,7 +18,12 @@ range-code-requires : tie.Need-range-code-requires
 range-code-requires c κs = search needs
 
 returns-3 : tie.Need-returns-3
-returns-3 c = let a = c .before .before .before .before .before .before .args in sym (four-past (a .ranges .now) (a .p) (sym (c .before .before .before .before .gap .ensures) ∙ c .before .before .before .if1 .left) (omega arith) (c .before .range-code .result) (c .before .range-code .ensures) (omega arith))
+returns-3 c =
+    let args = c .before .before .before .before .before .before .args in
+    let at-gap = c .before .before .before .before .gap in
+    let at-if1 = c .before .before .before .if1 in
+    let at-range-code = c .before .range-code in
+    sym (four-past (args .ranges .now) (args .p) (sym (at-gap .ensures) ∙ at-if1 .left) (omega arith) (at-range-code .result) (at-range-code .ensures) (omega arith))
 
 cast-u : tie.Need-cast-u
 cast-u c = search needs
@@ -27,10 +32,22 @@ mapped-requires : tie.Need-mapped-requires
 mapped-requires c κs = search needs
 
 returns-4 : tie.Need-returns-4
-returns-4 c = let a = c .before .before .before .before .before .before .before .before .args in sym (four-mapped (a .ranges .now) (a .p) (sym (c .before .before .before .before .before .before .gap .ensures) ∙ c .before .before .before .before .before .if1 .left) (omega arith) (c .before .before .before .range-code .result) (c .before .before .before .range-code .ensures) (sym (c .before .mapped .ensures) ∙ c .if4 .taken))
+returns-4 c =
+    let args = c .before .before .before .before .before .before .before .before .args in
+    let at-gap = c .before .before .before .before .before .before .gap in
+    let at-if1 = c .before .before .before .before .before .if1 in
+    let at-range-code = c .before .before .before .range-code in
+    let at-mapped = c .before .mapped in
+    sym (four-mapped (args .ranges .now) (args .p) (sym (at-gap .ensures) ∙ at-if1 .left) (omega arith) (at-range-code .result) (at-range-code .ensures) (sym (at-mapped .ensures) ∙ c .if4 .taken))
 
 returns-5 : tie.Need-returns-5
-returns-5 c = let a = c .before .before .before .before .before .before .before .before .args in sym (four-unmapped (a .ranges .now) (a .p) (sym (c .before .before .before .before .before .before .gap .ensures) ∙ c .before .before .before .before .before .if1 .left) (omega arith) (c .before .before .before .range-code .result) (c .before .before .before .range-code .ensures) (sym (c .before .mapped .ensures) ∙ c .if4 .left))
+returns-5 c =
+    let args = c .before .before .before .before .before .before .before .before .args in
+    let at-gap = c .before .before .before .before .before .before .gap in
+    let at-if1 = c .before .before .before .before .before .if1 in
+    let at-range-code = c .before .before .before .range-code in
+    let at-mapped = c .before .mapped in
+    sym (four-unmapped (args .ranges .now) (args .p) (sym (at-gap .ensures) ∙ at-if1 .left) (omega arith) (at-range-code .result) (at-range-code .ensures) (sym (at-mapped .ensures) ∙ c .if4 .left))
 
 pub four-code-spec : {M : Type 1} → statement M
 four-code-spec =

@@ -11,25 +11,33 @@ waits-requires : tie.Need-waits-requires
 waits-requires c κs = search needs
 
 returns : tie.Need-returns
-returns c = let a = c .before .before .before .before .args in c .waits .ensures ∙ sym (gb-nothing (lent (a .t1 .now) (a .t2 .now)) (a .have) (a .b0) (a .b1) (a .b2) (a .b3) (omega arith))
+returns c =
+    let args = c .before .before .before .before .args in
+    c .waits .ensures ∙ sym (gb-nothing (lent (args .t1 .now) (args .t2 .now)) (args .have) (args .b0) (args .b1) (args .b2) (args .b3) (omega arith))
 
 gives-requires : tie.Need-gives-requires
 gives-requires c κs = search needs
 
 returns-2 : tie.Need-returns-2
-returns-2 c = let a = c .before .before .before .before .before .args in c .gives .ensures ∙ sym (gb-self (lent (a .t1 .now) (a .t2 .now)) (a .have) (a .b0) (a .b1) (a .b2) (a .b3) (omega arith) (omega arith))
+returns-2 c =
+    let args = c .before .before .before .before .before .args in
+    c .gives .ensures ∙ sym (gb-self (lent (args .t1 .now) (args .t2 .now)) (args .have) (args .b0) (args .b1) (args .b2) (args .b3) (omega arith) (omega arith))
 
 gives-requires-2 : tie.Need-gives-requires-2
 gives-requires-2 c κs = search needs
 
 returns-3 : tie.Need-returns-3
-returns-3 c = let a = c .before .before .before .before .before .before .args in c .gives2 .ensures ∙ sym (gb-80 (lent (a .t1 .now) (a .t2 .now)) (a .have) (a .b0) (a .b1) (a .b2) (a .b3) (omega arith) (omega arith))
+returns-3 c =
+    let args = c .before .before .before .before .before .before .args in
+    c .gives2 .ensures ∙ sym (gb-80 (lent (args .t1 .now) (args .t2 .now)) (args .have) (args .b0) (args .b1) (args .b2) (args .b3) (omega arith) (omega arith))
 
 wrong-requires : tie.Need-wrong-requires
 wrong-requires c κs = search needs
 
 returns-4 : tie.Need-returns-4
-returns-4 c = let a = c .before .before .before .before .before .before .before .args in c .wrong .ensures ∙ sym (gb-FF (lent (a .t1 .now) (a .t2 .now)) (a .have) (a .b0) (a .b1) (a .b2) (a .b3) (omega arith) (omega arith))
+returns-4 c =
+    let args = c .before .before .before .before .before .before .before .args in
+    c .wrong .ensures ∙ sym (gb-FF (lent (args .t1 .now) (args .t2 .now)) (args .have) (args .b0) (args .b1) (args .b2) (args .b3) (omega arith) (omega arith))
 
 within-requires : tie.Need-within-requires
 within-requires c κs = search needs
@@ -38,13 +46,25 @@ waits-requires-2 : tie.Need-waits-requires-2
 waits-requires-2 c κs = search needs
 
 returns-5 : tie.Need-returns-5
-returns-5 c = let a = c .before .before .before .before .before .before .before .before .before .before .args in c .waits2 .ensures ∙ sym (gb-four-wait (lent (a .t1 .now) (a .t2 .now)) (a .have) (a .b0) (a .b1) (a .b2) (a .b3) (omega arith) (omega arith) (omega arith) (sym (c .before .before .before .within .ensures) ∙ c .before .before .if5 .taken) (omega arith))
+returns-5 c =
+    let args = c .before .before .before .before .before .before .before .before .before .before .args in
+    let at-within = c .before .before .before .within in
+    let at-if5 = c .before .before .if5 in
+    c .waits2 .ensures ∙ sym (gb-four-wait (lent (args .t1 .now) (args .t2 .now)) (args .have) (args .b0) (args .b1) (args .b2) (args .b3) (omega arith) (omega arith) (omega arith) (sym (at-within .ensures) ∙ at-if5 .taken) (omega arith))
 
 third-requires : tie.Need-third-requires
-third-requires c κs = (omega arith, within-low 0x30 ((c .before .before .before .before .before .before .before .before .before .args) .b1) 0x39 (sym (c .before .before .within .ensures) ∙ c .before .if5 .taken))
+third-requires c κs =
+    let args = c .before .before .before .before .before .before .before .before .before .args in
+    let at-within = c .before .before .within in
+    let at-if5 = c .before .if5 in
+    (omega arith, within-low 0x30 (args .b1) 0x39 (sym (at-within .ensures) ∙ at-if5 .taken))
 
 returns-6 : tie.Need-returns-6
-returns-6 c = let a = c .before .before .before .before .before .before .before .before .before .before .args in c .third .ensures ∙ sym (gb-four (lent (a .t1 .now) (a .t2 .now)) (a .have) (a .b0) (a .b1) (a .b2) (a .b3) (omega arith) (omega arith) (omega arith) (sym (c .before .before .before .within .ensures) ∙ c .before .before .if5 .taken) (omega arith))
+returns-6 c =
+    let args = c .before .before .before .before .before .before .before .before .before .before .args in
+    let at-within = c .before .before .before .within in
+    let at-if5 = c .before .before .if5 in
+    c .third .ensures ∙ sym (gb-four (lent (args .t1 .now) (args .t2 .now)) (args .have) (args .b0) (args .b1) (args .b2) (args .b3) (omega arith) (omega arith) (omega arith) (sym (at-within .ensures) ∙ at-if5 .taken) (omega arith))
 
 code-point-requires : tie.Need-code-point-requires
 code-point-requires c κs = search needs
@@ -53,7 +73,12 @@ gives-pair-requires : tie.Need-gives-pair-requires
 gives-pair-requires c κs = search needs
 
 returns-7 : tie.Need-returns-7
-returns-7 c = let a = c .before .before .before .before .before .before .before .before .before .before .args in c .gives-pair .ensures ∙ rw (c .before .code-point .ensures) (sym (gb-pair (lent (a .t1 .now) (a .t2 .now)) (a .have) (a .b0) (a .b1) (a .b2) (a .b3) (omega arith) (omega arith) (omega arith) (sym (c .before .before .before .within .ensures) ∙ c .before .before .if5 .left)))
+returns-7 c =
+    let args = c .before .before .before .before .before .before .before .before .before .before .args in
+    let at-code-point = c .before .code-point in
+    let at-within = c .before .before .before .within in
+    let at-if5 = c .before .before .if5 in
+    c .gives-pair .ensures ∙ rw (at-code-point .ensures) (sym (gb-pair (lent (args .t1 .now) (args .t2 .now)) (args .have) (args .b0) (args .b1) (args .b2) (args .b3) (omega arith) (omega arith) (omega arith) (sym (at-within .ensures) ∙ at-if5 .left)))
 
 pub gb18030-spec : {M : Type 1} → statement M
 gb18030-spec =

@@ -48,10 +48,16 @@ loop-less : tie.Need-loop-less Inv-loop μ-loop
 loop-less c = omega arith
 
 loop-again : tie.Need-loop-again Inv-loop μ-loop
-loop-again c = let a = c .before .before .before .before .before .before .args in (omega arith, c .before .before .before .before .loop .inv .1 ∙ range-step (a .ranges .now) (a .p) (c .before .before .before .before .loop .i) (c .before .before .before .before .loop .found) (omega arith) ∙ ap (gbRange (drop ((c .before .before .before .before .loop .i + 1) * 2) (a .ranges .now)) (a .p)) (sym (c .range-next .ensures)))
+loop-again c =
+    let args = c .before .before .before .before .before .before .args in
+    let at-loop = c .before .before .before .before .loop in
+    (omega arith, at-loop .inv .1 ∙ range-step (args .ranges .now) (args .p) (at-loop .i) (at-loop .found) (omega arith) ∙ ap (gbRange (drop ((at-loop .i + 1) * 2) (args .ranges .now)) (args .p)) (sym (c .range-next .ensures)))
 
 returns : tie.Need-returns Inv-loop μ-loop
-returns c = let a = c .before .before .before .args in sym (c .before .loop .inv .1 ∙ range-end (a .ranges .now) (a .p) (c .before .loop .i) (c .before .loop .found) (omega arith))
+returns c =
+    let args = c .before .before .before .args in
+    let at-loop = c .before .loop in
+    sym (at-loop .inv .1 ∙ range-end (args .ranges .now) (args .p) (at-loop .i) (at-loop .found) (omega arith))
 
 pub range-code-spec : {M : Type 1} → statement M
 range-code-spec =

@@ -18,7 +18,11 @@ fails-requires : tie.Need-fails-requires
 fails-requires c κs = search needs
 
 returns-2 : tie.Need-returns-2
-returns-2 c = let a = c .before .before .before .before .args in c .fails .ensures ∙ sym (byte-none (a .state) (a .b) (omega arith) (sym (c .before .before .no-character .ensures) ∙ c .before .if2 .taken))
+returns-2 c =
+    let args = c .before .before .before .before .args in
+    let at-no-character = c .before .before .no-character in
+    let at-if2 = c .before .if2 in
+    c .fails .ensures ∙ sym (byte-none (args .state) (args .b) (omega arith) (sym (at-no-character .ensures) ∙ at-if2 .taken))
 
 roman-requires : tie.Need-roman-requires
 roman-requires c κs = search needs
@@ -27,13 +31,22 @@ says-requires : tie.Need-says-requires
 says-requires c κs = search needs
 
 returns-3 : tie.Need-returns-3
-returns-3 c = let a = c .before .before .before .before .before .before .args in c .says .ensures ∙ sym (byte-roman (a .state) (a .b) (sym (c .before .before .before .before .no-character .ensures) ∙ c .before .before .before .if2 .left) (c .before .roman .result) (c .before .roman .ensures) (omega arith))
+returns-3 c =
+    let args = c .before .before .before .before .before .before .args in
+    let at-no-character = c .before .before .before .before .no-character in
+    let at-if2 = c .before .before .before .if2 in
+    let at-roman = c .before .roman in
+    c .says .ensures ∙ sym (byte-roman (args .state) (args .b) (sym (at-no-character .ensures) ∙ at-if2 .left) (at-roman .result) (at-roman .ensures) (omega arith))
 
 says-requires-2 : tie.Need-says-requires-2
 says-requires-2 c κs = search needs
 
 returns-4 : tie.Need-returns-4
-returns-4 c = let a = c .before .before .before .before .before .args in c .says2 .ensures ∙ sym (byte-self (a .state) (a .b) (sym (c .before .before .before .no-character .ensures) ∙ c .before .before .if2 .left) (omega arith) (omega arith))
+returns-4 c =
+    let args = c .before .before .before .before .before .args in
+    let at-no-character = c .before .before .before .no-character in
+    let at-if2 = c .before .before .if2 in
+    c .says2 .ensures ∙ sym (byte-self (args .state) (args .b) (sym (at-no-character .ensures) ∙ at-if2 .left) (omega arith) (omega arith))
 
 pub byte-spec : {M : Type 1} → statement M
 byte-spec =

@@ -14,19 +14,31 @@ waits-requires : tie.Need-waits-requires
 waits-requires c κs = search needs
 
 returns : tie.Need-returns
-returns c = let a = c .before .before .before .before .args in c .waits .ensures ∙ sym (escape-wait (shift (a .state) (eqb (a .flag) 1)) (a .have) (a .c) (a .d) (sym (c .before .before .before .escapes .ensures) ∙ c .before .before .if1 .taken) (omega arith))
+returns c =
+    let args = c .before .before .before .before .args in
+    let at-escapes = c .before .before .before .escapes in
+    let at-if1 = c .before .before .if1 in
+    c .waits .ensures ∙ sym (escape-wait (shift (args .state) (eqb (args .flag) 1)) (args .have) (args .c) (args .d) (sym (at-escapes .ensures) ∙ at-if1 .taken) (omega arith))
 
 escape-end-requires : tie.Need-escape-end-requires
 escape-end-requires c κs = search needs
 
 returns-2 : tie.Need-returns-2
-returns-2 c = let a = c .before .before .before .before .args in c .escape-end .ensures ∙ sym (escape-whole (shift (a .state) (eqb (a .flag) 1)) (a .have) (a .c) (a .d) (sym (c .before .before .before .escapes .ensures) ∙ c .before .before .if1 .taken) (omega arith))
+returns-2 c =
+    let args = c .before .before .before .before .args in
+    let at-escapes = c .before .before .before .escapes in
+    let at-if1 = c .before .before .if1 in
+    c .escape-end .ensures ∙ sym (escape-whole (shift (args .state) (eqb (args .flag) 1)) (args .have) (args .c) (args .d) (sym (at-escapes .ensures) ∙ at-if1 .taken) (omega arith))
 
 fails-requires : tie.Need-fails-requires
 fails-requires c κs = search needs
 
 returns-3 : tie.Need-returns-3
-returns-3 c = let a = c .before .before .before .args in c .fails .ensures ∙ sym (escape-none (shift (a .state) (eqb (a .flag) 1)) (a .have) (a .c) (a .d) (sym (c .before .before .escapes .ensures) ∙ c .before .if1 .left))
+returns-3 c =
+    let args = c .before .before .before .args in
+    let at-escapes = c .before .before .escapes in
+    let at-if1 = c .before .if1 in
+    c .fails .ensures ∙ sym (escape-none (shift (args .state) (eqb (args .flag) 1)) (args .have) (args .c) (args .d) (sym (at-escapes .ensures) ∙ at-if1 .left))
 
 pub escape-spec : {M : Type 1} → statement M
 escape-spec =

@@ -15,19 +15,28 @@ fails-requires : tie.Need-fails-requires
 fails-requires c κs = search needs
 
 returns : tie.Need-returns
-returns c = let a = c .before .before .before .args in c .fails .ensures ∙ sym (end-none (shift (a .state) (eqb (a .flag) 1)) (a .c) (a .d) (c .before .before .escaped .result) (c .before .before .escaped .ensures) (omega arith))
+returns c =
+    let args = c .before .before .before .args in
+    let at-escaped = c .before .before .escaped in
+    c .fails .ensures ∙ sym (end-none (shift (args .state) (eqb (args .flag) 1)) (args .c) (args .d) (at-escaped .result) (at-escaped .ensures) (omega arith))
 
 fails-requires-2 : tie.Need-fails-requires-2
 fails-requires-2 c κs = search needs
 
 returns-2 : tie.Need-returns-2
-returns-2 c = let a = c .before .before .before .before .args in c .fails2 .ensures ∙ sym (end-again (shift (a .state) (eqb (a .flag) 1)) (a .c) (a .d) (c .before .before .before .escaped .result) (c .before .before .before .escaped .ensures) (omega arith) (eq-eqb (a .flag) 1 (omega arith)))
+returns-2 c =
+    let args = c .before .before .before .before .args in
+    let at-escaped = c .before .before .before .escaped in
+    c .fails2 .ensures ∙ sym (end-again (shift (args .state) (eqb (args .flag) 1)) (args .c) (args .d) (at-escaped .result) (at-escaped .ensures) (omega arith) (eq-eqb (args .flag) 1 (omega arith)))
 
 says-nothing-requires : tie.Need-says-nothing-requires
 says-nothing-requires c κs = search needs
 
 returns-3 : tie.Need-returns-3
-returns-3 c = let a = c .before .before .before .before .args in c .says-nothing .ensures ∙ sym (end-first (shift (a .state) (eqb (a .flag) 1)) (a .c) (a .d) (c .before .before .before .escaped .result) (c .before .before .before .escaped .ensures) (omega arith) (ne-eqb (a .flag) 1 (omega arith)))
+returns-3 c =
+    let args = c .before .before .before .before .args in
+    let at-escaped = c .before .before .before .escaped in
+    c .says-nothing .ensures ∙ sym (end-first (shift (args .state) (eqb (args .flag) 1)) (args .c) (args .d) (at-escaped .result) (at-escaped .ensures) (omega arith) (ne-eqb (args .flag) 1 (omega arith)))
 
 pub escape-end-spec : {M : Type 1} → statement M
 escape-end-spec =

@@ -19,13 +19,21 @@ says-requires : tie.Need-says-requires
 says-requires c κs = search needs
 
 returns : tie.Need-returns
-returns c = c .says .ensures ∙ ap (item 1 (shift 2 false)) (sym (kana-some ((c .before .before .before .args) .b) (sym (c .before .before .within .ensures) ∙ c .before .if1 .taken)))
+returns c =
+    let args = c .before .before .before .args in
+    let at-within = c .before .before .within in
+    let at-if1 = c .before .if1 in
+    c .says .ensures ∙ ap (item 1 (shift 2 false)) (sym (kana-some (args .b) (sym (at-within .ensures) ∙ at-if1 .taken)))
 
 fails-requires : tie.Need-fails-requires
 fails-requires c κs = search needs
 
 returns-2 : tie.Need-returns-2
-returns-2 c = c .fails .ensures ∙ ap (item 1 (shift 2 false)) (sym (kana-none ((c .before .before .before .args) .b) (sym (c .before .before .within .ensures) ∙ c .before .if1 .left)))
+returns-2 c =
+    let args = c .before .before .before .args in
+    let at-within = c .before .before .within in
+    let at-if1 = c .before .if1 in
+    c .fails .ensures ∙ ap (item 1 (shift 2 false)) (sym (kana-none (args .b) (sym (at-within .ensures) ∙ at-if1 .left)))
 
 pub katakana-spec : {M : Type 1} → statement M
 katakana-spec =

@@ -32,13 +32,19 @@ fails-requires : tie.Need-fails-requires
 fails-requires c κs = search needs
 
 returns : tie.Need-returns
-returns c = let a = c .before .before .before .before .args in c .fails .ensures ∙ ap (item 2 (shift 3 false)) (sym (pair-null (a .jis0208 .now) (a .b) (a .c) (c .before .before .cell .result) (c .before .before .cell .ensures) (omega arith)))
+returns c =
+    let args = c .before .before .before .before .args in
+    let at-cell = c .before .before .cell in
+    c .fails .ensures ∙ ap (item 2 (shift 3 false)) (sym (pair-null (args .jis0208 .now) (args .b) (args .c) (at-cell .result) (at-cell .ensures) (omega arith)))
 
 says-requires : tie.Need-says-requires
 says-requires c κs = search needs
 
 returns-2 : tie.Need-returns-2
-returns-2 c = let a = c .before .before .before .before .args in c .says .ensures ∙ ap (item 2 (shift 3 false)) (sym (pair-some (a .jis0208 .now) (a .b) (a .c) (c .before .before .cell .result) (c .before .before .cell .ensures) (omega arith)))
+returns-2 c =
+    let args = c .before .before .before .before .args in
+    let at-cell = c .before .before .cell in
+    c .says .ensures ∙ ap (item 2 (shift 3 false)) (sym (pair-some (args .jis0208 .now) (args .b) (args .c) (at-cell .result) (at-cell .ensures) (omega arith)))
 
 pub pair-spec : {M : Type 1} → statement M
 pair-spec =

@@ -12,19 +12,25 @@ waits-requires : tie.Need-waits-requires
 waits-requires c κs = search needs
 
 returns : tie.Need-returns
-returns c = let a = c .before .before .args in c .waits .ensures ∙ sym (replacement-nothing (shift (a .state) (eqb (a .flag) 1)) (a .have) (a .b0) (a .b1) (a .b2) (a .b3) (omega arith))
+returns c =
+    let args = c .before .before .args in
+    c .waits .ensures ∙ sym (replacement-nothing (shift (args .state) (eqb (args .flag) 1)) (args .have) (args .b0) (args .b1) (args .b2) (args .b3) (omega arith))
 
 says-nothing-requires : tie.Need-says-nothing-requires
 says-nothing-requires c κs = search needs
 
 returns-2 : tie.Need-returns-2
-returns-2 c = let a = c .before .before .before .args in c .says-nothing .ensures ∙ sym (replacement-given (shift (a .state) (eqb (a .flag) 1)) (a .have) (a .b0) (a .b1) (a .b2) (a .b3) (omega arith) (eq-eqb (a .flag) 1 (omega arith)))
+returns-2 c =
+    let args = c .before .before .before .args in
+    c .says-nothing .ensures ∙ sym (replacement-given (shift (args .state) (eqb (args .flag) 1)) (args .have) (args .b0) (args .b1) (args .b2) (args .b3) (omega arith) (eq-eqb (args .flag) 1 (omega arith)))
 
 fails-requires : tie.Need-fails-requires
 fails-requires c κs = search needs
 
 returns-3 : tie.Need-returns-3
-returns-3 c = let a = c .before .before .before .args in c .fails .ensures ∙ sym (replacement-first (shift (a .state) (eqb (a .flag) 1)) (a .have) (a .b0) (a .b1) (a .b2) (a .b3) (omega arith) (ne-eqb (a .flag) 1 (omega arith)))
+returns-3 c =
+    let args = c .before .before .before .args in
+    c .fails .ensures ∙ sym (replacement-first (shift (args .state) (eqb (args .flag) 1)) (args .have) (args .b0) (args .b1) (args .b2) (args .b3) (omega arith) (ne-eqb (args .flag) 1 (omega arith)))
 
 pub replacement-spec : {M : Type 1} → statement M
 replacement-spec =

@@ -12,13 +12,17 @@ waits-requires : tie.Need-waits-requires
 waits-requires c κs = search needs
 
 returns : tie.Need-returns
-returns c = let a = (c .before .before .before .args) in c .waits .ensures ∙ sym (sjis-none (lent (a .table .now) []) (a .have) (a .b0) (a .b1) (a .b2) (a .b3) (omega arith))
+returns c =
+    let args = c .before .before .before .args in
+    c .waits .ensures ∙ sym (sjis-none (lent (args .table .now) []) (args .have) (args .b0) (args .b1) (args .b2) (args .b3) (omega arith))
 
 gives-requires : tie.Need-gives-requires
 gives-requires c κs = search needs
 
 returns-2 : tie.Need-returns-2
-returns-2 c = let a = (c .before .before .before .before .args) in c .gives .ensures ∙ sym (sjis-ascii (lent (a .table .now) []) (a .have) (a .b0) (a .b1) (a .b2) (a .b3) (omega arith) (omega arith))
+returns-2 c =
+    let args = c .before .before .before .before .args in
+    c .gives .ensures ∙ sym (sjis-ascii (lent (args .table .now) []) (args .have) (args .b0) (args .b1) (args .b2) (args .b3) (omega arith) (omega arith))
 
 within-requires : tie.Need-within-requires
 within-requires c κs = search needs
@@ -30,28 +34,49 @@ gives-requires-2 : tie.Need-gives-requires-2
 gives-requires-2 c κs = search needs
 
 returns-3 : tie.Need-returns-3
-returns-3 c = let a = (c .before .before .before .before .before .before .args) in c .gives2 .ensures ∙ sym (sjis-kana (lent (a .table .now) []) (a .have) (a .b0) (a .b1) (a .b2) (a .b3) (omega arith) (sym (c .before .before .within .ensures) ∙ c .before .if3 .taken) (omega arith))
+returns-3 c =
+    let args = c .before .before .before .before .before .before .args in
+    let at-within = c .before .before .within in
+    let at-if3 = c .before .if3 in
+    c .gives2 .ensures ∙ sym (sjis-kana (lent (args .table .now) []) (args .have) (args .b0) (args .b1) (args .b2) (args .b3) (omega arith) (sym (at-within .ensures) ∙ at-if3 .taken) (omega arith))
 
 wrong-requires : tie.Need-wrong-requires
 wrong-requires c κs = search needs
 
 returns-4 : tie.Need-returns-4
-returns-4 c = let a = (c .before .before .before .before .before .before .before .args) in c .wrong .ensures ∙ sym (sjis-bad (lent (a .table .now) []) (a .have) (a .b0) (a .b1) (a .b2) (a .b3) (omega arith) (sym (c .before .before .before .within .ensures) ∙ c .before .before .if3 .left) (omega arith) (above 0x81 (a .b0) 0x9F (omega arith)) (under 0xE0 (a .b0) 0xFC (omega arith)))
+returns-4 c =
+    let args = c .before .before .before .before .before .before .before .args in
+    let at-within = c .before .before .before .within in
+    let at-if3 = c .before .before .if3 in
+    c .wrong .ensures ∙ sym (sjis-bad (lent (args .table .now) []) (args .have) (args .b0) (args .b1) (args .b2) (args .b3) (omega arith) (sym (at-within .ensures) ∙ at-if3 .left) (omega arith) (above 0x81 (args .b0) 0x9F (omega arith)) (under 0xE0 (args .b0) 0xFC (omega arith)))
 
 wrong-requires-2 : tie.Need-wrong-requires-2
 wrong-requires-2 c κs = search needs
 
 returns-5 : tie.Need-returns-5
-returns-5 c = let a = (c .before .before .before .before .before .before .before .before .args) in c .wrong2 .ensures ∙ sym (sjis-bad (lent (a .table .now) []) (a .have) (a .b0) (a .b1) (a .b2) (a .b3) (omega arith) (sym (c .before .before .before .before .within .ensures) ∙ c .before .before .before .if3 .left) (omega arith) (above 0x81 (a .b0) 0x9F (omega arith)) (above 0xE0 (a .b0) 0xFC (omega arith)))
+returns-5 c =
+    let args = c .before .before .before .before .before .before .before .before .args in
+    let at-within = c .before .before .before .before .within in
+    let at-if3 = c .before .before .before .if3 in
+    c .wrong2 .ensures ∙ sym (sjis-bad (lent (args .table .now) []) (args .have) (args .b0) (args .b1) (args .b2) (args .b3) (omega arith) (sym (at-within .ensures) ∙ at-if3 .left) (omega arith) (above 0x81 (args .b0) 0x9F (omega arith)) (above 0xE0 (args .b0) 0xFC (omega arith)))
 
 code-point-requires : tie.Need-code-point-requires
-code-point-requires c κs = let a = (c .before .before .before .before .before .before .before .args) in (omega arith, lead-high (a .b0) (omega arith) (sym (c .before .before .before .within .ensures) ∙ c .before .before .if3 .left))
+code-point-requires c κs =
+    let args = c .before .before .before .before .before .before .before .args in
+    let at-within = c .before .before .before .within in
+    let at-if3 = c .before .before .if3 in
+    (omega arith, lead-high (args .b0) (omega arith) (sym (at-within .ensures) ∙ at-if3 .left))
 
 gives-pair-requires : tie.Need-gives-pair-requires
 gives-pair-requires c κs = search needs
 
 returns-6 : tie.Need-returns-6
-returns-6 c = let a = (c .before .before .before .before .before .before .before .before .before .args) in c .gives-pair .ensures ∙ rw (c .before .code-point .ensures) (sym (sjis-pair (lent (a .table .now) []) (a .have) (a .b0) (a .b1) (a .b2) (a .b3) (omega arith) (sym (c .before .before .before .before .before .within .ensures) ∙ c .before .before .before .before .if3 .left) (omega arith) (lead (a .b0) (omega arith) (omega arith) (omega arith) (sym (c .before .before .before .before .before .within .ensures) ∙ c .before .before .before .before .if3 .left))))
+returns-6 c =
+    let args = c .before .before .before .before .before .before .before .before .before .args in
+    let at-code-point = c .before .code-point in
+    let at-within = c .before .before .before .before .before .within in
+    let at-if3 = c .before .before .before .before .if3 in
+    c .gives-pair .ensures ∙ rw (at-code-point .ensures) (sym (sjis-pair (lent (args .table .now) []) (args .have) (args .b0) (args .b1) (args .b2) (args .b3) (omega arith) (sym (at-within .ensures) ∙ at-if3 .left) (omega arith) (lead (args .b0) (omega arith) (omega arith) (omega arith) (sym (at-within .ensures) ∙ at-if3 .left))))
 
 pub shift-jis-spec : {M : Type 1} → statement M
 shift-jis-spec =

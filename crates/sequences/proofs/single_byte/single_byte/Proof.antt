@@ -9,13 +9,17 @@ waits-requires : tie.Need-waits-requires
 waits-requires c κs = search needs
 
 returns : tie.Need-returns
-returns c = let a = (c .before .before .before .args) in c .waits .ensures ∙ sym (single-none (a .table .now) (a .have) (a .b0) (a .b1) (a .b2) (a .b3) (omega arith))
+returns c =
+    let args = c .before .before .before .args in
+    c .waits .ensures ∙ sym (single-none (args .table .now) (args .have) (args .b0) (args .b1) (args .b2) (args .b3) (omega arith))
 
 gives-requires : tie.Need-gives-requires
 gives-requires c κs = search needs
 
 returns-2 : tie.Need-returns-2
-returns-2 c = let a = (c .before .before .before .before .args) in c .gives .ensures ∙ sym (single-ascii (a .table .now) (a .have) (a .b0) (a .b1) (a .b2) (a .b3) (omega arith) (omega arith))
+returns-2 c =
+    let args = c .before .before .before .before .args in
+    c .gives .ensures ∙ sym (single-ascii (args .table .now) (args .have) (args .b0) (args .b1) (args .b2) (args .b3) (omega arith) (omega arith))
 
 cast-cell : tie.Need-cast-cell
 cast-cell c = search needs
@@ -27,7 +31,10 @@ gives-code-requires : tie.Need-gives-code-requires
 gives-code-requires c κs = search needs
 
 returns-3 : tie.Need-returns-3
-returns-3 c = let a = (c .before .before .before .before .before .args) in c .gives-code .ensures ∙ rw (c .before .cell .ensures) (sym (single-cell (a .table .now) (a .have) (a .b0) (a .b1) (a .b2) (a .b3) (omega arith) (omega arith)))
+returns-3 c =
+    let args = c .before .before .before .before .before .args in
+    let at-cell = c .before .cell in
+    c .gives-code .ensures ∙ rw (at-cell .ensures) (sym (single-cell (args .table .now) (args .have) (args .b0) (args .b1) (args .b2) (args .b3) (omega arith) (omega arith)))
 
 pub single-byte-spec : {M : Type 1} → statement M
 single-byte-spec =

@@ -15,7 +15,9 @@ gives-requires : tie.Need-gives-requires
 gives-requires c κs = search needs
 
 returns-2 : tie.Need-returns-2
-returns-2 c = let a = (c .before .before .before .args) in c .gives .ensures ∙ sym (user-ascii (a .have) (a .b0) (a .b1) (a .b2) (a .b3) (omega arith) (omega arith))
+returns-2 c =
+    let args = c .before .before .before .args in
+    c .gives .ensures ∙ sym (user-ascii (args .have) (args .b0) (args .b1) (args .b2) (args .b3) (omega arith) (omega arith))
 
 cast-gives : tie.Need-cast-gives
 cast-gives c = search needs
@@ -27,7 +29,9 @@ gives-requires-2 : tie.Need-gives-requires-2
 gives-requires-2 c κs = search needs
 
 returns-3 : tie.Need-returns-3
-returns-3 c = let a = (c .before .before .before .args) in c .gives2 .ensures ∙ sym (user-high (a .have) (a .b0) (a .b1) (a .b2) (a .b3) (omega arith) (omega arith))
+returns-3 c =
+    let args = c .before .before .before .args in
+    c .gives2 .ensures ∙ sym (user-high (args .have) (args .b0) (args .b1) (args .b2) (args .b3) (omega arith) (omega arith))
 
 pub user-defined-spec : {M : Type 1} → statement M
 user-defined-spec =

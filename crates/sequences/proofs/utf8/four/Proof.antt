@@ -26,13 +26,25 @@ wrong-requires : tie.Need-wrong-requires
 wrong-requires c κs = search needs
 
 returns-2 : tie.Need-returns-2
-returns-2 c = let a = (c .before .before .before .before .before .before .args) in c .wrong .ensures ∙ sym (four-second (a .have) (a .b0) (a .b1) (a .b2) (a .b3) (omega arith) (fails (second-range (c .before .before .before .before .low .result) (c .before .before .before .high .result) (a .b0) (a .b1) (c .before .before .before .before .low .ensures) (c .before .before .before .high .ensures) (c .before .before .within .ensures)) (c .before .if2 .taken)))
+returns-2 c =
+    let args = c .before .before .before .before .before .before .args in
+    let at-low = c .before .before .before .before .low in
+    let at-high = c .before .before .before .high in
+    let at-within = c .before .before .within in
+    let at-if2 = c .before .if2 in
+    c .wrong .ensures ∙ sym (four-second (args .have) (args .b0) (args .b1) (args .b2) (args .b3) (omega arith) (fails (second-range (at-low .result) (at-high .result) (args .b0) (args .b1) (at-low .ensures) (at-high .ensures) (at-within .ensures)) (at-if2 .taken)))
 
 waits-requires-2 : tie.Need-waits-requires-2
 waits-requires-2 c κs = search needs
 
 returns-3 : tie.Need-returns-3
-returns-3 c = let a = (c .before .before .before .before .before .before .before .args) in c .waits2 .ensures ∙ sym (four-wait-third (a .have) (a .b0) (a .b1) (a .b2) (a .b3) (omega arith) (holds (second-range (c .before .before .before .before .before .low .result) (c .before .before .before .before .high .result) (a .b0) (a .b1) (c .before .before .before .before .before .low .ensures) (c .before .before .before .before .high .ensures) (c .before .before .before .within .ensures)) (c .before .before .if2 .left)) (omega arith))
+returns-3 c =
+    let args = c .before .before .before .before .before .before .before .args in
+    let at-low = c .before .before .before .before .before .low in
+    let at-high = c .before .before .before .before .high in
+    let at-within = c .before .before .before .within in
+    let at-if2 = c .before .before .if2 in
+    c .waits2 .ensures ∙ sym (four-wait-third (args .have) (args .b0) (args .b1) (args .b2) (args .b3) (omega arith) (holds (second-range (at-low .result) (at-high .result) (args .b0) (args .b1) (at-low .ensures) (at-high .ensures) (at-within .ensures)) (at-if2 .left)) (omega arith))
 
 within-requires-2 : tie.Need-within-requires-2
 within-requires-2 c κs = search needs
@@ -41,13 +53,29 @@ wrong-requires-2 : tie.Need-wrong-requires-2
 wrong-requires-2 c κs = search needs
 
 returns-4 : tie.Need-returns-4
-returns-4 c = let a = (c .before .before .before .before .before .before .before .before .before .args) in c .wrong2 .ensures ∙ sym (four-third (a .have) (a .b0) (a .b1) (a .b2) (a .b3) (omega arith) (holds (second-range (c .before .before .before .before .before .before .before .low .result) (c .before .before .before .before .before .before .high .result) (a .b0) (a .b1) (c .before .before .before .before .before .before .before .low .ensures) (c .before .before .before .before .before .before .high .ensures) (c .before .before .before .before .before .within .ensures)) (c .before .before .before .before .if2 .left)) (omega arith) (fails (c .before .before .within2 .ensures) (c .before .if4 .taken)))
+returns-4 c =
+    let args = c .before .before .before .before .before .before .before .before .before .args in
+    let at-low = c .before .before .before .before .before .before .before .low in
+    let at-high = c .before .before .before .before .before .before .high in
+    let at-within = c .before .before .before .before .before .within in
+    let at-if2 = c .before .before .before .before .if2 in
+    let at-within2 = c .before .before .within2 in
+    let at-if4 = c .before .if4 in
+    c .wrong2 .ensures ∙ sym (four-third (args .have) (args .b0) (args .b1) (args .b2) (args .b3) (omega arith) (holds (second-range (at-low .result) (at-high .result) (args .b0) (args .b1) (at-low .ensures) (at-high .ensures) (at-within .ensures)) (at-if2 .left)) (omega arith) (fails (at-within2 .ensures) (at-if4 .taken)))
 
 waits-requires-3 : tie.Need-waits-requires-3
 waits-requires-3 c κs = search needs
 
 returns-5 : tie.Need-returns-5
-returns-5 c = let a = (c .before .before .before .before .before .before .before .before .before .before .args) in c .waits3 .ensures ∙ sym (four-wait-fourth (a .have) (a .b0) (a .b1) (a .b2) (a .b3) (omega arith) (holds (second-range (c .before .before .before .before .before .before .before .before .low .result) (c .before .before .before .before .before .before .before .high .result) (a .b0) (a .b1) (c .before .before .before .before .before .before .before .before .low .ensures) (c .before .before .before .before .before .before .before .high .ensures) (c .before .before .before .before .before .before .within .ensures)) (c .before .before .before .before .before .if2 .left)) (omega arith) (holds (c .before .before .before .within2 .ensures) (c .before .before .if4 .left)) (omega arith))
+returns-5 c =
+    let args = c .before .before .before .before .before .before .before .before .before .before .args in
+    let at-low = c .before .before .before .before .before .before .before .before .low in
+    let at-high = c .before .before .before .before .before .before .before .high in
+    let at-within = c .before .before .before .before .before .before .within in
+    let at-if2 = c .before .before .before .before .before .if2 in
+    let at-within2 = c .before .before .before .within2 in
+    let at-if4 = c .before .before .if4 in
+    c .waits3 .ensures ∙ sym (four-wait-fourth (args .have) (args .b0) (args .b1) (args .b2) (args .b3) (omega arith) (holds (second-range (at-low .result) (at-high .result) (args .b0) (args .b1) (at-low .ensures) (at-high .ensures) (at-within .ensures)) (at-if2 .left)) (omega arith) (holds (at-within2 .ensures) (at-if4 .left)) (omega arith))
 
 within-requires-3 : tie.Need-within-requires-3
 within-requires-3 c κs = search needs
@@ -56,7 +84,17 @@ wrong-requires-3 : tie.Need-wrong-requires-3
 wrong-requires-3 c κs = search needs
 
 returns-6 : tie.Need-returns-6
-returns-6 c = let a = (c .before .before .before .before .before .before .before .before .before .before .before .before .args) in c .wrong3 .ensures ∙ sym (four-fourth (a .have) (a .b0) (a .b1) (a .b2) (a .b3) (omega arith) (holds (second-range (c .before .before .before .before .before .before .before .before .before .before .low .result) (c .before .before .before .before .before .before .before .before .before .high .result) (a .b0) (a .b1) (c .before .before .before .before .before .before .before .before .before .before .low .ensures) (c .before .before .before .before .before .before .before .before .before .high .ensures) (c .before .before .before .before .before .before .before .before .within .ensures)) (c .before .before .before .before .before .before .before .if2 .left)) (omega arith) (holds (c .before .before .before .before .before .within2 .ensures) (c .before .before .before .before .if4 .left)) (omega arith) (fails (c .before .before .within3 .ensures) (c .before .if6 .taken)))
+returns-6 c =
+    let args = c .before .before .before .before .before .before .before .before .before .before .before .before .args in
+    let at-low = c .before .before .before .before .before .before .before .before .before .before .low in
+    let at-high = c .before .before .before .before .before .before .before .before .before .high in
+    let at-within = c .before .before .before .before .before .before .before .before .within in
+    let at-if2 = c .before .before .before .before .before .before .before .if2 in
+    let at-within2 = c .before .before .before .before .before .within2 in
+    let at-if4 = c .before .before .before .before .if4 in
+    let at-within3 = c .before .before .within3 in
+    let at-if6 = c .before .if6 in
+    c .wrong3 .ensures ∙ sym (four-fourth (args .have) (args .b0) (args .b1) (args .b2) (args .b3) (omega arith) (holds (second-range (at-low .result) (at-high .result) (args .b0) (args .b1) (at-low .ensures) (at-high .ensures) (at-within .ensures)) (at-if2 .left)) (omega arith) (holds (at-within2 .ensures) (at-if4 .left)) (omega arith) (fails (at-within3 .ensures) (at-if6 .taken)))
 
 sub-gives : tie.Need-sub-gives
 sub-gives c = search needs
@@ -68,7 +106,13 @@ mul-gives : tie.Need-mul-gives
 mul-gives c = search needs
 
 sub-gives-2 : tie.Need-sub-gives-2
-sub-gives-2 c = let a = (c .before .before .before .before .before .before .before .before .before .before .before .args) in omega (arith, second-least (a .b0) (a .b1) (holds (second-range (c .before .before .before .before .before .before .before .before .before .low .result) (c .before .before .before .before .before .before .before .before .high .result) (a .b0) (a .b1) (c .before .before .before .before .before .before .before .before .before .low .ensures) (c .before .before .before .before .before .before .before .before .high .ensures) (c .before .before .before .before .before .before .before .within .ensures)) (c .before .before .before .before .before .before .if2 .left)))
+sub-gives-2 c =
+    let args = c .before .before .before .before .before .before .before .before .before .before .before .args in
+    let at-low = c .before .before .before .before .before .before .before .before .before .low in
+    let at-high = c .before .before .before .before .before .before .before .before .high in
+    let at-within = c .before .before .before .before .before .before .before .within in
+    let at-if2 = c .before .before .before .before .before .before .if2 in
+    omega (arith, second-least (args .b0) (args .b1) (holds (second-range (at-low .result) (at-high .result) (args .b0) (args .b1) (at-low .ensures) (at-high .ensures) (at-within .ensures)) (at-if2 .left)))
 
 cast-gives-2 : tie.Need-cast-gives-2
 cast-gives-2 c = search needs
@@ -80,7 +124,11 @@ add-gives : tie.Need-add-gives
 add-gives c = search needs
 
 sub-gives-3 : tie.Need-sub-gives-3
-sub-gives-3 c = let a = (c .before .before .before .before .before .before .before .before .before .before .before .args) in omega (arith, within-low 0x80 (a .b2) 0xBF (holds (c .before .before .before .before .within2 .ensures) (c .before .before .before .if4 .left)))
+sub-gives-3 c =
+    let args = c .before .before .before .before .before .before .before .before .before .before .before .args in
+    let at-within2 = c .before .before .before .before .within2 in
+    let at-if4 = c .before .before .before .if4 in
+    omega (arith, within-low 0x80 (args .b2) 0xBF (holds (at-within2 .ensures) (at-if4 .left)))
 
 cast-gives-3 : tie.Need-cast-gives-3
 cast-gives-3 c = search needs
@@ -92,7 +140,10 @@ add-gives-2 : tie.Need-add-gives-2
 add-gives-2 c = search needs
 
 sub-gives-4 : tie.Need-sub-gives-4
-sub-gives-4 c = let a = (c .before .before .before .before .before .before .before .before .before .before .before .args) in omega (arith, within-low 0x80 (a .b3) 0xBF (holds (c .before .within3 .ensures) (c .if6 .left)))
+sub-gives-4 c =
+    let args = c .before .before .before .before .before .before .before .before .before .before .before .args in
+    let at-within3 = c .before .within3 in
+    omega (arith, within-low 0x80 (args .b3) 0xBF (holds (at-within3 .ensures) (c .if6 .left)))
 
 cast-gives-4 : tie.Need-cast-gives-4
 cast-gives-4 c = search needs
@@ -104,7 +155,17 @@ gives-requires : tie.Need-gives-requires
 gives-requires c κs = search needs
 
 returns-7 : tie.Need-returns-7
-returns-7 c = let a = (c .before .before .before .before .before .before .before .before .before .before .before .before .args) in c .gives .ensures ∙ sym (four-good (a .have) (a .b0) (a .b1) (a .b2) (a .b3) (omega arith) (holds (second-range (c .before .before .before .before .before .before .before .before .before .before .low .result) (c .before .before .before .before .before .before .before .before .before .high .result) (a .b0) (a .b1) (c .before .before .before .before .before .before .before .before .before .before .low .ensures) (c .before .before .before .before .before .before .before .before .before .high .ensures) (c .before .before .before .before .before .before .before .before .within .ensures)) (c .before .before .before .before .before .before .before .if2 .left)) (omega arith) (holds (c .before .before .before .before .before .within2 .ensures) (c .before .before .before .before .if4 .left)) (omega arith) (holds (c .before .before .within3 .ensures) (c .before .if6 .left)))
+returns-7 c =
+    let args = c .before .before .before .before .before .before .before .before .before .before .before .before .args in
+    let at-low = c .before .before .before .before .before .before .before .before .before .before .low in
+    let at-high = c .before .before .before .before .before .before .before .before .before .high in
+    let at-within = c .before .before .before .before .before .before .before .before .within in
+    let at-if2 = c .before .before .before .before .before .before .before .if2 in
+    let at-within2 = c .before .before .before .before .before .within2 in
+    let at-if4 = c .before .before .before .before .if4 in
+    let at-within3 = c .before .before .within3 in
+    let at-if6 = c .before .if6 in
+    c .gives .ensures ∙ sym (four-good (args .have) (args .b0) (args .b1) (args .b2) (args .b3) (omega arith) (holds (second-range (at-low .result) (at-high .result) (args .b0) (args .b1) (at-low .ensures) (at-high .ensures) (at-within .ensures)) (at-if2 .left)) (omega arith) (holds (at-within2 .ensures) (at-if4 .left)) (omega arith) (holds (at-within3 .ensures) (at-if6 .left)))
 
 pub four-spec : {M : Type 1} → statement M
 four-spec =

@@ -26,13 +26,25 @@ wrong-requires : tie.Need-wrong-requires
 wrong-requires c κs = search needs
 
 returns-2 : tie.Need-returns-2
-returns-2 c = let a = (c .before .before .before .before .before .before .args) in c .wrong .ensures ∙ sym (three-second (a .have) (a .b0) (a .b1) (a .b2) (omega arith) (fails (second-range (c .before .before .before .before .low .result) (c .before .before .before .high .result) (a .b0) (a .b1) (c .before .before .before .before .low .ensures) (c .before .before .before .high .ensures) (c .before .before .within .ensures)) (c .before .if2 .taken)))
+returns-2 c =
+    let args = c .before .before .before .before .before .before .args in
+    let at-low = c .before .before .before .before .low in
+    let at-high = c .before .before .before .high in
+    let at-within = c .before .before .within in
+    let at-if2 = c .before .if2 in
+    c .wrong .ensures ∙ sym (three-second (args .have) (args .b0) (args .b1) (args .b2) (omega arith) (fails (second-range (at-low .result) (at-high .result) (args .b0) (args .b1) (at-low .ensures) (at-high .ensures) (at-within .ensures)) (at-if2 .taken)))
 
 waits-requires-2 : tie.Need-waits-requires-2
 waits-requires-2 c κs = search needs
 
 returns-3 : tie.Need-returns-3
-returns-3 c = let a = (c .before .before .before .before .before .before .before .args) in c .waits2 .ensures ∙ sym (three-wait-third (a .have) (a .b0) (a .b1) (a .b2) (omega arith) (holds (second-range (c .before .before .before .before .before .low .result) (c .before .before .before .before .high .result) (a .b0) (a .b1) (c .before .before .before .before .before .low .ensures) (c .before .before .before .before .high .ensures) (c .before .before .before .within .ensures)) (c .before .before .if2 .left)) (omega arith))
+returns-3 c =
+    let args = c .before .before .before .before .before .before .before .args in
+    let at-low = c .before .before .before .before .before .low in
+    let at-high = c .before .before .before .before .high in
+    let at-within = c .before .before .before .within in
+    let at-if2 = c .before .before .if2 in
+    c .waits2 .ensures ∙ sym (three-wait-third (args .have) (args .b0) (args .b1) (args .b2) (omega arith) (holds (second-range (at-low .result) (at-high .result) (args .b0) (args .b1) (at-low .ensures) (at-high .ensures) (at-within .ensures)) (at-if2 .left)) (omega arith))
 
 within-requires-2 : tie.Need-within-requires-2
 within-requires-2 c κs = search needs
@@ -41,7 +53,15 @@ wrong-requires-2 : tie.Need-wrong-requires-2
 wrong-requires-2 c κs = search needs
 
 returns-4 : tie.Need-returns-4
-returns-4 c = let a = (c .before .before .before .before .before .before .before .before .before .args) in c .wrong2 .ensures ∙ sym (three-third (a .have) (a .b0) (a .b1) (a .b2) (omega arith) (holds (second-range (c .before .before .before .before .before .before .before .low .result) (c .before .before .before .before .before .before .high .result) (a .b0) (a .b1) (c .before .before .before .before .before .before .before .low .ensures) (c .before .before .before .before .before .before .high .ensures) (c .before .before .before .before .before .within .ensures)) (c .before .before .before .before .if2 .left)) (omega arith) (fails (c .before .before .within2 .ensures) (c .before .if4 .taken)))
+returns-4 c =
+    let args = c .before .before .before .before .before .before .before .before .before .args in
+    let at-low = c .before .before .before .before .before .before .before .low in
+    let at-high = c .before .before .before .before .before .before .high in
+    let at-within = c .before .before .before .before .before .within in
+    let at-if2 = c .before .before .before .before .if2 in
+    let at-within2 = c .before .before .within2 in
+    let at-if4 = c .before .if4 in
+    c .wrong2 .ensures ∙ sym (three-third (args .have) (args .b0) (args .b1) (args .b2) (omega arith) (holds (second-range (at-low .result) (at-high .result) (args .b0) (args .b1) (at-low .ensures) (at-high .ensures) (at-within .ensures)) (at-if2 .left)) (omega arith) (fails (at-within2 .ensures) (at-if4 .taken)))
 
 sub-gives : tie.Need-sub-gives
 sub-gives c = search needs
@@ -53,7 +73,13 @@ mul-gives : tie.Need-mul-gives
 mul-gives c = search needs
 
 sub-gives-2 : tie.Need-sub-gives-2
-sub-gives-2 c = let a = (c .before .before .before .before .before .before .before .before .args) in omega (arith, second-least (a .b0) (a .b1) (holds (second-range (c .before .before .before .before .before .before .low .result) (c .before .before .before .before .before .high .result) (a .b0) (a .b1) (c .before .before .before .before .before .before .low .ensures) (c .before .before .before .before .before .high .ensures) (c .before .before .before .before .within .ensures)) (c .before .before .before .if2 .left)))
+sub-gives-2 c =
+    let args = c .before .before .before .before .before .before .before .before .args in
+    let at-low = c .before .before .before .before .before .before .low in
+    let at-high = c .before .before .before .before .before .high in
+    let at-within = c .before .before .before .before .within in
+    let at-if2 = c .before .before .before .if2 in
+    omega (arith, second-least (args .b0) (args .b1) (holds (second-range (at-low .result) (at-high .result) (args .b0) (args .b1) (at-low .ensures) (at-high .ensures) (at-within .ensures)) (at-if2 .left)))
 
 cast-gives-2 : tie.Need-cast-gives-2
 cast-gives-2 c = search needs
@@ -65,7 +91,10 @@ add-gives : tie.Need-add-gives
 add-gives c = search needs
 
 sub-gives-3 : tie.Need-sub-gives-3
-sub-gives-3 c = let a = (c .before .before .before .before .before .before .before .before .args) in omega (arith, within-low 0x80 (a .b2) 0xBF (holds (c .before .within2 .ensures) (c .if4 .left)))
+sub-gives-3 c =
+    let args = c .before .before .before .before .before .before .before .before .args in
+    let at-within2 = c .before .within2 in
+    omega (arith, within-low 0x80 (args .b2) 0xBF (holds (at-within2 .ensures) (c .if4 .left)))
 
 cast-gives-3 : tie.Need-cast-gives-3
 cast-gives-3 c = search needs
@@ -77,7 +106,15 @@ gives-requires : tie.Need-gives-requires
 gives-requires c κs = search needs
 
 returns-5 : tie.Need-returns-5
-returns-5 c = let a = (c .before .before .before .before .before .before .before .before .before .args) in c .gives .ensures ∙ sym (three-good (a .have) (a .b0) (a .b1) (a .b2) (omega arith) (holds (second-range (c .before .before .before .before .before .before .before .low .result) (c .before .before .before .before .before .before .high .result) (a .b0) (a .b1) (c .before .before .before .before .before .before .before .low .ensures) (c .before .before .before .before .before .before .high .ensures) (c .before .before .before .before .before .within .ensures)) (c .before .before .before .before .if2 .left)) (omega arith) (holds (c .before .before .within2 .ensures) (c .before .if4 .left)))
+returns-5 c =
+    let args = c .before .before .before .before .before .before .before .before .before .args in
+    let at-low = c .before .before .before .before .before .before .before .low in
+    let at-high = c .before .before .before .before .before .before .high in
+    let at-within = c .before .before .before .before .before .within in
+    let at-if2 = c .before .before .before .before .if2 in
+    let at-within2 = c .before .before .within2 in
+    let at-if4 = c .before .if4 in
+    c .gives .ensures ∙ sym (three-good (args .have) (args .b0) (args .b1) (args .b2) (omega arith) (holds (second-range (at-low .result) (at-high .result) (args .b0) (args .b1) (at-low .ensures) (at-high .ensures) (at-within .ensures)) (at-if2 .left)) (omega arith) (holds (at-within2 .ensures) (at-if4 .left)))
 
 pub three-spec : {M : Type 1} → statement M
 three-spec =

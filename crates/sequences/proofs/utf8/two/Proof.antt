@@ -20,7 +20,11 @@ wrong-requires : tie.Need-wrong-requires
 wrong-requires c κs = search needs
 
 returns-2 : tie.Need-returns-2
-returns-2 c = let a = (c .before .before .before .before .args) in c .wrong .ensures ∙ sym (two-bad (a .have) (a .b0) (a .b1) (omega arith) (fails (c .before .before .within .ensures) (c .before .if2 .taken)))
+returns-2 c =
+    let args = c .before .before .before .before .args in
+    let at-within = c .before .before .within in
+    let at-if2 = c .before .if2 in
+    c .wrong .ensures ∙ sym (two-bad (args .have) (args .b0) (args .b1) (omega arith) (fails (at-within .ensures) (at-if2 .taken)))
 
 sub-gives : tie.Need-sub-gives
 sub-gives c = search needs
@@ -44,7 +48,11 @@ gives-requires : tie.Need-gives-requires
 gives-requires c κs = search needs
 
 returns-3 : tie.Need-returns-3
-returns-3 c = let a = (c .before .before .before .before .args) in c .gives .ensures ∙ sym (two-good (a .have) (a .b0) (a .b1) (omega arith) (holds (c .before .before .within .ensures) (c .before .if2 .left)))
+returns-3 c =
+    let args = c .before .before .before .before .args in
+    let at-within = c .before .before .within in
+    let at-if2 = c .before .if2 in
+    c .gives .ensures ∙ sym (two-good (args .have) (args .b0) (args .b1) (omega arith) (holds (at-within .ensures) (at-if2 .left)))
 
 pub two-spec : {M : Type 1} → statement M
 two-spec =

@@ -19,25 +19,37 @@ gives-requires : tie.Need-gives-requires
 gives-requires c κs = search needs
 
 returns-2 : tie.Need-returns-2
-returns-2 c = let a = c .before .before .before .before .args in c .gives .ensures ∙ sym (utf-low (a .be) (a .have) (a .b0) (a .b1) (a .b2) (a .b3) (c .before .before .unit .result) (c .before .before .unit .ensures) (omega arith) (omega arith))
+returns-2 c =
+    let args = c .before .before .before .before .args in
+    let at-unit = c .before .before .unit in
+    c .gives .ensures ∙ sym (utf-low (args .be) (args .have) (args .b0) (args .b1) (args .b2) (args .b3) (at-unit .result) (at-unit .ensures) (omega arith) (omega arith))
 
 gives-requires-2 : tie.Need-gives-requires-2
 gives-requires-2 c κs = search needs
 
 returns-3 : tie.Need-returns-3
-returns-3 c = let a = c .before .before .before .before .before .args in c .gives2 .ensures ∙ sym (utf-high (a .be) (a .have) (a .b0) (a .b1) (a .b2) (a .b3) (c .before .before .before .unit .result) (c .before .before .before .unit .ensures) (omega arith) (omega arith))
+returns-3 c =
+    let args = c .before .before .before .before .before .args in
+    let at-unit = c .before .before .before .unit in
+    c .gives2 .ensures ∙ sym (utf-high (args .be) (args .have) (args .b0) (args .b1) (args .b2) (args .b3) (at-unit .result) (at-unit .ensures) (omega arith) (omega arith))
 
 wrong-requires : tie.Need-wrong-requires
 wrong-requires c κs = search needs
 
 returns-4 : tie.Need-returns-4
-returns-4 c = let a = c .before .before .before .before .before .before .args in c .wrong .ensures ∙ sym (utf-trail (a .be) (a .have) (a .b0) (a .b1) (a .b2) (a .b3) (c .before .before .before .before .unit .result) (c .before .before .before .before .unit .ensures) (omega arith) (omega arith) (omega arith))
+returns-4 c =
+    let args = c .before .before .before .before .before .before .args in
+    let at-unit = c .before .before .before .before .unit in
+    c .wrong .ensures ∙ sym (utf-trail (args .be) (args .have) (args .b0) (args .b1) (args .b2) (args .b3) (at-unit .result) (at-unit .ensures) (omega arith) (omega arith) (omega arith))
 
 waits-requires-2 : tie.Need-waits-requires-2
 waits-requires-2 c κs = search needs
 
 returns-5 : tie.Need-returns-5
-returns-5 c = let a = c .before .before .before .before .before .before .before .args in c .waits2 .ensures ∙ sym (utf-lead-wait (a .be) (a .have) (a .b0) (a .b1) (a .b2) (a .b3) (c .before .before .before .before .before .unit .result) (c .before .before .before .before .before .unit .ensures) (omega arith) (omega arith) (omega arith) (omega arith))
+returns-5 c =
+    let args = c .before .before .before .before .before .before .before .args in
+    let at-unit = c .before .before .before .before .before .unit in
+    c .waits2 .ensures ∙ sym (utf-lead-wait (args .be) (args .have) (args .b0) (args .b1) (args .b2) (args .b3) (at-unit .result) (at-unit .ensures) (omega arith) (omega arith) (omega arith) (omega arith))
 
 unit-requires-2 : tie.Need-unit-requires-2
 unit-requires-2 c κs = search needs
@@ -46,7 +58,11 @@ pair-requires : tie.Need-pair-requires
 pair-requires c κs = search needs
 
 returns-6 : tie.Need-returns-6
-returns-6 c = let a = c .before .before .before .before .before .before .before .before .args in c .pair .ensures ∙ ap (utf16Pair (c .before .before .before .before .before .before .unit .result)) (c .before .unit2 .ensures) ∙ sym (utf-lead (a .be) (a .have) (a .b0) (a .b1) (a .b2) (a .b3) (c .before .before .before .before .before .before .unit .result) (c .before .before .before .before .before .before .unit .ensures) (omega arith) (omega arith) (omega arith) (omega arith))
+returns-6 c =
+    let args = c .before .before .before .before .before .before .before .before .args in
+    let at-unit = c .before .before .before .before .before .before .unit in
+    let at-unit2 = c .before .unit2 in
+    c .pair .ensures ∙ ap (utf16Pair (at-unit .result)) (at-unit2 .ensures) ∙ sym (utf-lead (args .be) (args .have) (args .b0) (args .b1) (args .b2) (args .b3) (at-unit .result) (at-unit .ensures) (omega arith) (omega arith) (omega arith) (omega arith))
 
 pub utf-16-spec : {M : Type 1} → statement M
 utf-16-spec =

@@ -17,7 +17,9 @@ gives-requires : tie.Need-gives-requires
 gives-requires c κs = search needs
 
 returns-2 : tie.Need-returns-2
-returns-2 c = let a = (c .before .before .before .args) in c .gives .ensures ∙ sym (single-ascii windows1252 (a .have) (a .b0) (a .b1) (a .b2) (a .b3) (omega arith) (omega arith))
+returns-2 c =
+    let args = c .before .before .before .args in
+    c .gives .ensures ∙ sym (single-ascii windows1252 (args .have) (args .b0) (args .b1) (args .b2) (args .b3) (omega arith) (omega arith))
 
 cast-gives : tie.Need-cast-gives
 cast-gives c = search needs
@@ -33,13 +35,17 @@ gives-requires-2 c κs = search needs
 
 returns-3 : tie.Need-returns-3
 unfolding irregular
-returns-3 c = let a = (c .before .before .before .before .args) in c .gives2 .ensures ∙ sym (windows-irregular (a .have) (a .b0) (a .b1) (a .b2) (a .b3) (omega arith) (omega arith) (omega arith))
+returns-3 c =
+    let args = c .before .before .before .before .args in
+    c .gives2 .ensures ∙ sym (windows-irregular (args .have) (args .b0) (args .b1) (args .b2) (args .b3) (omega arith) (omega arith) (omega arith))
 
 gives-requires-3 : tie.Need-gives-requires-3
 gives-requires-3 c κs = search needs
 
 returns-4 : tie.Need-returns-4
-returns-4 c = let a = (c .before .before .before .before .args) in c .gives3 .ensures ∙ sym (windows-itself (a .have) (a .b0) (a .b1) (a .b2) (a .b3) (omega arith) (omega arith) (omega arith))
+returns-4 c =
+    let args = c .before .before .before .before .args in
+    c .gives3 .ensures ∙ sym (windows-itself (args .have) (args .b0) (args .b1) (args .b2) (args .b3) (omega arith) (omega arith) (omega arith))
 
 pub windows-1252-spec : {M : Type 1} → statement M
 windows-1252-spec =
