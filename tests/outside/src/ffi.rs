@@ -1,0 +1,86 @@
+//! The calls and records of `include/hamvukile.h`.
+
+#[repr(C)]
+pub struct Found {
+    pub start: usize,
+    pub length: usize,
+    pub refusal: u8,
+    pub encoding: u8,
+}
+
+#[repr(C)]
+pub struct Named {
+    pub length: usize,
+    pub refusal: u8,
+}
+
+#[repr(C)]
+pub struct Line {
+    pub pointer: u32,
+    pub refusal: u8,
+    pub entry: u8,
+}
+
+#[repr(C)]
+#[derive(Clone, Copy, Debug, Default, PartialEq, Eq)]
+pub struct Decoder {
+    pub encoding: u8,
+    pub mode: u8,
+    pub state: u8,
+    pub flag: u8,
+    pub held: u8,
+    pub first: u8,
+    pub second: u8,
+    pub third: u8,
+    pub ended: u8,
+}
+
+#[repr(C)]
+pub struct Answer {
+    pub written: usize,
+    pub refusal: u8,
+    pub decoder: Decoder,
+}
+
+#[repr(C)]
+pub struct Written {
+    pub written: usize,
+    pub index: usize,
+    pub refusal: u8,
+}
+
+extern "C" {
+    pub fn hamvukile_label(bytes: *const u8, length: usize) -> Found;
+    pub fn hamvukile_name(encoding: u8, room: *mut u8, room_length: usize) -> Named;
+    pub fn hamvukile_index_line(
+        line: *const u8,
+        length: usize,
+        table: *mut u32,
+        table_length: usize,
+    ) -> Line;
+    pub fn hamvukile_open(encoding: u8, mode: u8, rule: u8) -> Answer;
+    pub fn hamvukile_feed(
+        decoder: Decoder,
+        chunk: *const u8,
+        chunk_length: usize,
+        first: *const u32,
+        first_length: usize,
+        second: *const u32,
+        second_length: usize,
+        room: *mut u32,
+        room_length: usize,
+    ) -> Answer;
+    pub fn hamvukile_finish(decoder: Decoder, room: *mut u32, room_length: usize) -> Answer;
+    pub fn hamvukile_encode(
+        encoding: u8,
+        mode: u8,
+        scalars: *const u32,
+        scalars_length: usize,
+        first: *const u32,
+        first_length: usize,
+        second: *const u32,
+        second_length: usize,
+        room: *mut u8,
+        room_length: usize,
+    ) -> Written;
+}

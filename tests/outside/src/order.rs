@@ -1,0 +1,227 @@
+//! The order of refusals: calls with every combination of causes.
+
+use crate::compare;
+use crate::data::Published;
+use crate::ffi::Decoder as Record;
+use crate::reference::Tables;
+
+/// The causes that a number stands for, in the order of the call.
+fn causes(order: &[u8], set: usize) -> Vec<u8> {
+    (0..order.len())
+        .filter(|place| set >> place & 1 == 1)
+        .map(|place| order[place])
+        .collect()
+}
+
+fn expect(what: &str, encoding: u8, causes: &[u8], refusal: u8) -> Result<(), String> {
+    let wanted = causes.first().copied().unwrap_or(0);
+    if refusal == wanted {
+        return Ok(());
+    }
+    Err(format!(
+        "{what}, encoding {encoding}, causes {causes:?}: refusal {refusal}, not {wanted}"
+    ))
+}
+
+/// Bytes that are an error in every encoding that has errors, with tables of zeros.
+const ERROR: &[u8] = b"\xDC\xDC\xFF\xFF";
+
+fn has_errors(encoding: u8) -> bool {
+    !matches!(encoding, 21 | 39)
+}
+
+/// A byte that the decoder holds.
+fn lead(encoding: u8) -> Option<u8> {
+    match encoding {
+        0 => Some(0xC2),
+        29..=32 | 34 | 35 | 37 | 38 => Some(0xA1 - 0x20 * u8::from(encoding != 32)),
+        33 => Some(0x1B),
+        _ => None,
+    }
+}
+
+fn opened(encoding: u8, causes: &[u8]) -> Result<Record, String> {
+    let mut record = compare::open(encoding, 1, 0)?.record;
+    if causes.contains(&6) {
+        record = compare::finish(record, 0)?.record;
+    }
+    if causes.contains(&5) {
+        record.third = 1;
+    }
+    Ok(record)
+}
+
+/// Tables of zeros; with cause 4 one of them is too long.
+fn zeros(published: &Published, encoding: u8, causes: &[u8], which: usize) -> (Vec<u32>, Vec<u32>) {
+    let tables = published.tables(encoding.min(39));
+    let mut first = vec![0; tables.first.len()];
+    let mut second = vec![0; tables.second.len()];
+    if causes.contains(&4) {
+        match which {
+            0 => first.push(0),
+            _ => second.push(0),
+        }
+    }
+    (first, second)
+}
+
+fn feeds(published: &Published) -> Result<usize, String> {
+    let order = [5, 6, 4, 8, 7, 11];
+    let mut calls = 0;
+    for encoding in 0..40 {
+        for set in 0..1 << order.len() {
+            let causes = causes(&order, set);
+            if causes.contains(&11) && !has_errors(encoding) {
+                continue;
+            }
+            for which in 0..2 {
+                let record = opened(encoding, &causes)?;
+                let (first, second) = zeros(published, encoding, &causes, which);
+                let mut chunk = if causes.contains(&11) {
+                    ERROR.to_vec()
+                } else {
+                    b"\0A".to_vec()
+                };
+                if encoding == 36 && !causes.contains(&11) {
+                    chunk.clear();
+                }
+                if causes.contains(&8) {
+                    chunk.resize(65537, b'A');
+                }
+                let small = causes.contains(&7);
+                if small && chunk.is_empty() {
+                    continue;
+                }
+                let room = chunk.len() - usize::from(small);
+                let tables = Tables {
+                    first: &first,
+                    second: &second,
+                };
+                let answer = compare::feed(record, &chunk, tables, room)
+                    .map_err(|error| format!("feed, {encoding}, {causes:?}: {error}"))?;
+                expect("feed", encoding, &causes, answer.refusal)?;
+                calls += 1;
+            }
+        }
+    }
+    Ok(calls)
+}
+
+fn finishes(published: &Published) -> Result<usize, String> {
+    let order = [5, 6, 7, 11];
+    let mut calls = 0;
+    for encoding in 0..40 {
+        for set in 0..1 << order.len() {
+            let causes = causes(&order, set);
+            let holds = causes.contains(&7) || causes.contains(&11);
+            let Some(lead) = lead(encoding)
+                .filter(|_| holds)
+                .or(Some(0))
+                .filter(|&lead| lead != 0 || !holds)
+            else {
+                continue;
+            };
+            let refusing = causes.contains(&11);
+            let mut record = compare::open(encoding, u8::from(refusing), 0)?.record;
+            if holds {
+                let tables = published.tables(encoding);
+                record = compare::feed(record, &[lead], tables, 1)?.record;
+            }
+            let held = usize::from(record.held);
+            if causes.contains(&6) {
+                record = compare::finish(record, held)?.record;
+            }
+            if causes.contains(&5) {
+                record.third = 1;
+            }
+            let room = held - usize::from(causes.contains(&7));
+            let answer = compare::finish(record, room)
+                .map_err(|error| format!("finish, {encoding}, {causes:?}: {error}"))?;
+            expect("finish", encoding, &causes, answer.refusal)?;
+            calls += 1;
+        }
+    }
+    Ok(calls)
+}
+
+fn opens() -> Result<usize, String> {
+    let mut calls = 0;
+    for encoding in 0..=255 {
+        for mode in [0, 1, 2, 255] {
+            for rule in [0, 1, 2, 255] {
+                let answer = compare::open(encoding, mode, rule)?;
+                let mut causes = Vec::new();
+                if encoding > 39 {
+                    causes.push(2);
+                }
+                if mode > 1 || rule > 1 {
+                    causes.push(3);
+                }
+                expect("open", encoding, &causes, answer.refusal)?;
+                calls += 1;
+            }
+        }
+    }
+    Ok(calls)
+}
+
+fn encodes(published: &Published) -> Result<usize, String> {
+    let order = [2, 3, 9, 4, 8, 10, 7, 11];
+    let mut calls = 0;
+    for encoding in (0..=40).chain([255]) {
+        for set in 0..1 << order.len() {
+            let causes = causes(&order, set);
+            let no_writer = (29..39).contains(&encoding);
+            if causes.contains(&2) != (encoding > 39)
+                || causes.contains(&9) != no_writer
+                || (causes.contains(&11) && encoding == 0)
+            {
+                continue;
+            }
+            for which in 0..2 {
+                let (first, second) = zeros(published, encoding, &causes, which);
+                let mut scalars = vec![0x41];
+                if causes.contains(&11) {
+                    scalars.push(0x4E00);
+                }
+                if causes.contains(&8) {
+                    scalars.resize(16385, 0x41);
+                }
+                if causes.contains(&10) {
+                    *scalars.last_mut().expect("a scalar is there") = 0xD800;
+                    if scalars.len() < 3 {
+                        scalars.insert(0, 0x41);
+                    }
+                }
+                let mode = if causes.contains(&3) { 2 } else { 1 };
+                let room = if causes.contains(&7) {
+                    0
+                } else {
+                    scalars.len()
+                };
+                let tables = Tables {
+                    first: &first,
+                    second: &second,
+                };
+                let answer = compare::encode(encoding, mode, &scalars, tables, room)
+                    .map_err(|error| format!("encode, {encoding}, {causes:?}: {error}"))?;
+                expect("encode", encoding, &causes, answer.refusal)?;
+                calls += 1;
+            }
+        }
+    }
+    Ok(calls)
+}
+
+pub fn refusals(published: &Published) -> Result<String, String> {
+    let calls = [
+        opens()?,
+        feeds(published)?,
+        finishes(published)?,
+        encodes(published)?,
+    ];
+    Ok(format!(
+        "{} openings, {} feeds, {} finishes, {} encodings with combined causes",
+        calls[0], calls[1], calls[2], calls[3]
+    ))
+}

@@ -1,0 +1,617 @@
+//! Random lists of calls beside the reference, and demand 3 over each list.
+
+use crate::compare;
+use crate::data::Published;
+use crate::ffi::Decoder as Record;
+use crate::reference::{self, Tables};
+use std::fmt;
+
+/// Random numbers from a seed (splitmix64).
+pub struct Random(pub u64);
+
+impl Random {
+    pub fn next(&mut self) -> u64 {
+        self.0 = self.0.wrapping_add(0x9E37_79B9_7F4A_7C15);
+        let mut number = self.0;
+        number = (number ^ (number >> 30)).wrapping_mul(0xBF58_476D_1CE4_E5B9);
+        number = (number ^ (number >> 27)).wrapping_mul(0x94D0_49BB_1331_11EB);
+        number ^ (number >> 31)
+    }
+
+    pub fn below(&mut self, bound: usize) -> usize {
+        (self.next() % bound as u64) as usize
+    }
+
+    pub fn one_in(&mut self, bound: usize) -> bool {
+        self.below(bound) == 0
+    }
+
+    pub fn pick<T: Copy>(&mut self, list: &[T]) -> T {
+        list[self.below(list.len())]
+    }
+}
+
+/// Bytes at the edges of the ranges.
+const EDGES: &[u8] = &[
+    0x00, 0x09, 0x0A, 0x0D, 0x0E, 0x0F, 0x1B, 0x20, 0x21, 0x22, 0x24, 0x28, 0x2F, 0x30, 0x31, 0x35,
+    0x39, 0x3A, 0x40, 0x41, 0x42, 0x49, 0x4A, 0x5C, 0x5F, 0x60, 0x7E, 0x7F, 0x80, 0x81, 0x84, 0x88,
+    0x8D, 0x8E, 0x8F, 0x90, 0x9F, 0xA0, 0xA1, 0xBB, 0xBF, 0xC0, 0xC1, 0xC2, 0xD7, 0xD8, 0xDB, 0xDC,
+    0xDF, 0xE0, 0xE3, 0xED, 0xEE, 0xEF, 0xF0, 0xF4, 0xF5, 0xF9, 0xFA, 0xFC, 0xFD, 0xFE, 0xFF,
+];
+
+/// Sequences with a rule of their own.
+const SEQUENCES: &[&[u8]] = &[
+    b"\xEF\xBB\xBF",
+    b"\xFE\xFF",
+    b"\xFF\xFE",
+    b"\x1B(B",
+    b"\x1B(J",
+    b"\x1B(I",
+    b"\x1B$B",
+    b"\x1B$@",
+    b"\x81\x30\x81\x30",
+    b"\x81\x35\xF4\x37",
+    b"\x84\x31\xA4\x37",
+    b"\x84\x31\xA4\x39",
+    b"\x8F\x39\xFE\x39",
+    b"\x90\x30\x81\x30",
+    b"\xE3\x32\x9A\x35",
+    b"\xE3\x32\x9A\x36",
+    b"\x88\x62",
+    b"\x88\x64",
+    b"\x88\xA3",
+    b"\x88\xA5",
+    b"\x8F\xA1",
+    b"\x8E\xDF",
+    b"\xD8\x00\xDC\x00",
+    b"\x00\xD8\x00\xDC",
+    b"\xF0\x9F\x92\xA9",
+    b"\xED\xA0\x80",
+    b"\xF4\x8F\xBF\xBF",
+    b"\xE0\xA0\x80",
+];
+
+/// Cells at the edges of what counts as mapped.
+const CELLS: &[u32] = &[
+    0, 1, 0x0A, 0x20, 0x2F, 0x41, 0x7F, 0x80, 0xFF, 0x100, 0xD7FF, 0xD800, 0xDFFF, 0xE000, 0xF77F,
+    0xF780, 0xF7FF, 0xF800, 0xFEFF, 0xFFFD, 0xFFFF, 0x10000, 0x10FFFF, 0x110000, 0x7FFFFFFF,
+    0x80000000, 0xFFFFFFFF,
+];
+
+/// Pointers at the edges of the ranges.
+const POINTERS: &[u32] = &[
+    0, 1, 2, 36, 7456, 7457, 7458, 39394, 39419, 39420, 188999, 189000, 189001, 1237575, 1237576,
+    0xFFFFFFFF,
+];
+
+/// A call; the room is given as the number of cells above what the call needs.
+#[derive(Clone)]
+enum Call {
+    Open {
+        encoding: u8,
+        mode: u8,
+        rule: u8,
+    },
+    Feed {
+        chunk: Vec<u8>,
+        tables: usize,
+        flaw: usize,
+        room: isize,
+        forge: Option<(u8, u8)>,
+    },
+    Finish {
+        room: isize,
+        forge: Option<(u8, u8)>,
+    },
+    Encode {
+        encoding: u8,
+        mode: u8,
+        scalars: Vec<u32>,
+        tables: usize,
+        flaw: usize,
+        room: isize,
+    },
+}
+
+impl fmt::Display for Call {
+    fn fmt(&self, to: &mut fmt::Formatter) -> fmt::Result {
+        match self {
+            Call::Open {
+                encoding,
+                mode,
+                rule,
+            } => write!(to, "open {encoding} mode {mode} rule {rule}"),
+            Call::Feed {
+                chunk,
+                tables,
+                flaw,
+                room,
+                forge,
+            } => {
+                let shown = &chunk[..chunk.len().min(40)];
+                let length = chunk.len();
+                write!(
+                    to,
+                    "feed {shown:02X?} ({length} bytes) tables {tables} flaw {flaw} room {room:+} forged {forge:?}"
+                )
+            }
+            Call::Finish { room, forge } => write!(to, "finish room {room:+} forged {forge:?}"),
+            Call::Encode {
+                encoding,
+                mode,
+                scalars,
+                tables,
+                flaw,
+                room,
+            } => {
+                let shown = &scalars[..scalars.len().min(40)];
+                let length = scalars.len();
+                write!(
+                    to,
+                    "encode {encoding} mode {mode} {shown:X?} ({length}) tables {tables} flaw {flaw} room {room:+}"
+                )
+            }
+        }
+    }
+}
+
+/// The lent tables of one encoding, with a cell more than the encoding asks for.
+struct Lent {
+    first: Vec<u32>,
+    first_length: usize,
+    second: Vec<u32>,
+    second_length: usize,
+}
+
+impl Lent {
+    /// The tables with a length that is wrong for some encodings.
+    fn with(&self, flaw: usize) -> Tables<'_> {
+        let (mut first, mut second) = (self.first_length, self.second_length);
+        match flaw {
+            1 => first = first.saturating_sub(1),
+            2 => first += 1,
+            3 => second += 1,
+            4 => second = second.saturating_sub(1),
+            5 => first = 0,
+            6 => second = 0,
+            7 => second = self.second.len(),
+            _ => {}
+        }
+        Tables {
+            first: &self.first[..first],
+            second: &self.second[..second],
+        }
+    }
+}
+
+const VARIANTS: usize = 6;
+
+pub struct Lists {
+    /// By encoding and variant: published, empty, with holes, with cells at the edges, and two more of these.
+    lent: Vec<Vec<Lent>>,
+}
+
+impl Lists {
+    pub fn new(published: &Published, random: &mut Random) -> Lists {
+        let lent = (0..40)
+            .map(|encoding| {
+                (0..VARIANTS)
+                    .map(|variant| Self::variant(published, encoding, variant, random))
+                    .collect()
+            })
+            .collect();
+        Lists { lent }
+    }
+
+    fn variant(published: &Published, encoding: u8, variant: usize, random: &mut Random) -> Lent {
+        let tables = published.tables(encoding);
+        let mut cells = |cells: &[u32]| -> Vec<u32> {
+            let mut cells = cells.to_vec();
+            for cell in &mut cells {
+                match variant {
+                    0 => {}
+                    1 => *cell = 0,
+                    2 | 4 if random.one_in(3) => *cell = 0,
+                    3 | 5 if random.one_in(2) => *cell = random.pick(CELLS),
+                    _ => {}
+                }
+            }
+            cells.push(0x3000);
+            cells
+        };
+        let first = cells(tables.first);
+        let mut second = cells(tables.second);
+        let mut second_length = tables.second.len();
+        if matches!(encoding, 29 | 30) {
+            if variant > 1 {
+                second_length = 2 * random.below(208);
+                for place in 0..second_length {
+                    second[place] = match (place % 2, random.below(3)) {
+                        (0, 0) => random.below(40000) as u32,
+                        (0, 1) => random.pick(POINTERS),
+                        (0, _) => random.below(1_240_000) as u32,
+                        (_, 0) => random.pick(CELLS),
+                        (_, 1) => 0x7E,
+                        _ => random.below(0x11_0000) as u32,
+                    };
+                }
+            }
+            second_length = if variant == 1 { 0 } else { second_length };
+            second.resize(416, 0x3000);
+        }
+        Lent {
+            first_length: first.len() - 1,
+            first,
+            second,
+            second_length,
+        }
+    }
+
+    fn tables(&self, encoding: u8, variant: usize, flaw: usize) -> Tables<'_> {
+        self.lent[usize::from(encoding.min(39))][variant].with(flaw)
+    }
+
+    fn text(&self, random: &mut Random) -> Vec<u8> {
+        let length = match random.below(12) {
+            0 => 0,
+            1 => random.below(60),
+            _ => 1 + random.below(8),
+        };
+        let mut bytes = Vec::new();
+        while bytes.len() < length {
+            match random.below(8) {
+                0 => bytes.extend(random.pick(SEQUENCES)),
+                1 | 2 => bytes.push(random.next() as u8),
+                _ => bytes.push(random.pick(EDGES)),
+            }
+        }
+        bytes
+    }
+
+    fn number(&self, encoding: u8, variant: usize, random: &mut Random) -> u32 {
+        let table = self.tables(encoding, variant, 0).first;
+        match random.below(8) {
+            0 => random.below(0x80) as u32,
+            1 => random.below(0x11_0000) as u32,
+            2 => random.pick(CELLS),
+            3 => random.pick(&[
+                9, 10, 99, 100, 999, 1000, 9999, 10000, 99999, 100000, 999999, 1000000, 0x7FF,
+                0x800, 0x20AC, 0x81, 0x178,
+            ]),
+            _ if !table.is_empty() => random.pick(table),
+            _ => 0xF780 + random.below(0x80) as u32,
+        }
+    }
+
+    fn list(&self, random: &mut Random) -> Vec<Call> {
+        let mut list = vec![self.open(random)];
+        for _ in 0..1 + random.below(14) {
+            let call = self.call(random);
+            list.push(call);
+        }
+        list
+    }
+
+    fn open(&self, random: &mut Random) -> Call {
+        let encoding = match random.below(4) {
+            _ if random.one_in(100) => random.pick(&[40, 41, 127, 128, 255]),
+            0 => random.below(40) as u8,
+            _ => random.pick(&[0, 29, 30, 31, 32, 33, 33, 34, 35, 36, 37, 38]),
+        };
+        let mode = if random.one_in(3) { 1 } else { 0 };
+        let rule = random.below(2) as u8;
+        match random.below(100) {
+            0 => Call::Open {
+                encoding,
+                mode: 2,
+                rule,
+            },
+            1 => Call::Open {
+                encoding,
+                mode,
+                rule: 255,
+            },
+            _ => Call::Open {
+                encoding,
+                mode,
+                rule,
+            },
+        }
+    }
+
+    fn call(&self, random: &mut Random) -> Call {
+        let room = match random.below(8) {
+            0 => -1,
+            1 => 1,
+            2 => random.below(20) as isize,
+            _ => 0,
+        };
+        let forge = random.one_in(8).then(|| {
+            let value = match random.below(3) {
+                0 => random.below(4) as u8,
+                1 => random.pick(EDGES),
+                _ => random.next() as u8,
+            };
+            (random.below(9) as u8, value)
+        });
+        let tables = random.below(VARIANTS);
+        let flaw = if random.one_in(12) {
+            1 + random.below(7)
+        } else {
+            0
+        };
+        match random.below(20) {
+            0 => Call::Finish { room, forge },
+            1 => self.open(random),
+            2 | 3 => {
+                let encoding = match random.below(12) {
+                    0 => random.pick(&[29, 31, 33, 38, 40, 255]),
+                    1 | 2 => 0,
+                    3 => 39,
+                    _ => 1 + random.below(28) as u8,
+                };
+                let length = match random.below(400) {
+                    0 => 16384 + random.below(2),
+                    _ => random.below(14),
+                };
+                let mut scalars: Vec<u32> = (0..length)
+                    .map(|_| self.number(encoding, tables, random))
+                    .collect();
+                if !random.one_in(6) {
+                    scalars.retain(|&number| reference::is_scalar(number));
+                }
+                Call::Encode {
+                    encoding,
+                    mode: random.pick(&[0, 0, 0, 0, 1, 1, 1, 2]),
+                    scalars,
+                    tables,
+                    flaw,
+                    room,
+                }
+            }
+            _ => {
+                let mut chunk = self.text(random);
+                if random.one_in(3000) {
+                    let text = chunk.clone();
+                    let length = 65535 + random.below(3);
+                    chunk = text
+                        .into_iter()
+                        .chain([0x81, 0x41])
+                        .cycle()
+                        .take(length)
+                        .collect();
+                }
+                Call::Feed {
+                    chunk,
+                    tables,
+                    flaw,
+                    room,
+                    forge,
+                }
+            }
+        }
+    }
+}
+
+/// The bytes taken and the scalars handed out since the last opening.
+#[derive(Default)]
+struct Taken {
+    encoding: u8,
+    mode: u8,
+    bytes: usize,
+    scalars: usize,
+    bytes_below_30: Vec<u32>,
+    scalars_below_30: Vec<u32>,
+}
+
+impl Taken {
+    fn after(&mut self, chunk: &[u8], output: &[u32], record: Record) -> Result<(), String> {
+        let below = |number: &u32| *number < 0x30;
+        self.bytes += chunk.len();
+        self.scalars += output.len();
+        self.bytes_below_30
+            .extend(chunk.iter().map(|&byte| u32::from(byte)).filter(below));
+        self.scalars_below_30
+            .extend(output.iter().copied().filter(below));
+        let all = self.mode == 0 && !matches!(self.encoding, 33 | 36 | 37 | 38);
+        if all && self.bytes_below_30 != self.scalars_below_30 {
+            return Err("demand 3: a byte below 30 is lost or invented".to_string());
+        }
+        if self.scalars + usize::from(record.held) > self.bytes {
+            return Err("demand 3: more handed out and held than taken".to_string());
+        }
+        if record.held > 3 {
+            return Err("demand 3: more than 3 bytes held".to_string());
+        }
+        Ok(())
+    }
+}
+
+#[derive(Default)]
+pub struct Counts {
+    calls: usize,
+    bytes: usize,
+    refusals: [usize; 16],
+    forged: usize,
+}
+
+fn forged(record: Record, forge: Option<(u8, u8)>) -> Record {
+    let mut record = record;
+    if let Some((field, value)) = forge {
+        let place = match field {
+            0 => &mut record.encoding,
+            1 => &mut record.mode,
+            2 => &mut record.state,
+            3 => &mut record.flag,
+            4 => &mut record.held,
+            5 => &mut record.first,
+            6 => &mut record.second,
+            7 => &mut record.third,
+            _ => &mut record.ended,
+        };
+        *place = value;
+    }
+    record
+}
+
+fn room_of(need: usize, above: isize) -> usize {
+    need.saturating_add_signed(above)
+}
+
+impl Lists {
+    /// Runs a list. After a call on a forged record the list goes on with the record that was not forged.
+    fn run(&self, list: &[Call], counts: &mut Counts) -> Result<(), String> {
+        let mut record = compare::open(0, 0, 1)?.record;
+        let mut taken = Taken::default();
+        for call in list {
+            let refusal = match call {
+                Call::Open {
+                    encoding,
+                    mode,
+                    rule,
+                } => {
+                    let answer = compare::open(*encoding, *mode, *rule)?;
+                    record = answer.record;
+                    taken = Taken {
+                        encoding: record.encoding,
+                        mode: record.mode,
+                        ..Taken::default()
+                    };
+                    answer.refusal
+                }
+                Call::Feed {
+                    chunk,
+                    tables,
+                    flaw,
+                    room,
+                    forge,
+                } => {
+                    let given = forged(record, *forge);
+                    let tables = self.tables(given.encoding, *tables, *flaw);
+                    let room = room_of(chunk.len() + usize::from(given.held), *room);
+                    let copy = chunk.clone();
+                    let answer = compare::feed(given, chunk, tables, room)?;
+                    if copy != *chunk {
+                        return Err("the chunk is altered".to_string());
+                    }
+                    counts.bytes += chunk.len();
+                    if forge.is_some() {
+                        counts.forged += 1;
+                    } else {
+                        record = answer.record;
+                        if matches!(answer.refusal, 0 | 11) {
+                            taken.after(chunk, &answer.output, record)?;
+                        }
+                    }
+                    answer.refusal
+                }
+                Call::Finish { room, forge } => {
+                    let given = forged(record, *forge);
+                    let answer = compare::finish(given, room_of(given.held.into(), *room))?;
+                    if forge.is_some() {
+                        counts.forged += 1;
+                    } else {
+                        record = answer.record;
+                        if matches!(answer.refusal, 0 | 11) {
+                            taken.after(&[], &answer.output, record)?;
+                        }
+                    }
+                    answer.refusal
+                }
+                Call::Encode {
+                    encoding,
+                    mode,
+                    scalars,
+                    tables,
+                    flaw,
+                    room,
+                } => {
+                    let tables = self.tables(*encoding, *tables, *flaw);
+                    let whole = reference::encode(*encoding, *mode, scalars, tables, usize::MAX);
+                    let room = room_of(whole.output.len(), *room);
+                    compare::encode(*encoding, *mode, scalars, tables, room)?.refusal
+                }
+            };
+            counts.calls += 1;
+            counts.refusals[usize::from(refusal)] += 1;
+        }
+        Ok(())
+    }
+
+    /// Cuts a failing list down while it still fails.
+    fn smallest(&self, list: &[Call]) -> Vec<Call> {
+        let fails = |list: &[Call]| self.run(list, &mut Counts::default()).is_err();
+        let mut list = list.to_vec();
+        loop {
+            let mut smaller = Vec::new();
+            for place in 0..list.len() {
+                let mut without = list.clone();
+                without.remove(place);
+                smaller.push(without);
+                match &list[place] {
+                    Call::Feed { chunk, .. } => {
+                        for cut in 0..chunk.len().min(80) {
+                            let mut shorter = list.clone();
+                            if let Call::Feed { chunk, .. } = &mut shorter[place] {
+                                chunk.remove(cut);
+                            }
+                            smaller.push(shorter);
+                        }
+                    }
+                    Call::Encode { scalars, .. } => {
+                        for cut in 0..scalars.len().min(80) {
+                            let mut shorter = list.clone();
+                            if let Call::Encode { scalars, .. } = &mut shorter[place] {
+                                scalars.remove(cut);
+                            }
+                            smaller.push(shorter);
+                        }
+                    }
+                    _ => {}
+                }
+            }
+            match smaller.into_iter().find(|smaller| fails(smaller)) {
+                Some(smaller) => list = smaller,
+                None => return list,
+            }
+        }
+    }
+}
+
+pub fn calls(published: &Published, number: usize, seed: u64) -> Result<String, String> {
+    let mut random = Random(seed);
+    let lists = Lists::new(published, &mut random);
+    let mut counts = Counts::default();
+    while counts.calls < number {
+        let list = lists.list(&mut random);
+        if lists.run(&list, &mut counts).is_ok() {
+            continue;
+        }
+        let list = lists.smallest(&list);
+        let error = lists.run(&list, &mut Counts::default());
+        let shown: Vec<String> = list.iter().map(|call| format!("  {call}\n")).collect();
+        return Err(format!(
+            "seed {seed}, after {} calls:\n{}{}",
+            counts.calls,
+            shown.concat(),
+            error.err().unwrap_or_default()
+        ));
+    }
+    let again = Lists::new(published, &mut Random(seed));
+    for (one, two) in lists.lent.iter().flatten().zip(again.lent.iter().flatten()) {
+        if one.first != two.first || one.second != two.second {
+            return Err(format!("seed {seed}: a lent table is altered"));
+        }
+    }
+    let refusals: Vec<String> = (0..16)
+        .filter(|&refusal| counts.refusals[refusal] > 0)
+        .map(|refusal| format!("{refusal}: {}", counts.refusals[refusal]))
+        .collect();
+    Ok(format!(
+        "{} calls with {} bytes, {} on forged records, seed {seed}; answers {}",
+        counts.calls,
+        counts.bytes,
+        counts.forged,
+        refusals.join(", ")
+    ))
+}

@@ -1,0 +1,1063 @@
+//! A second implementation, written from the numbered steps of the standard's handlers: a queue of bytes, bytes
+//! prepended to it, and the variables of each decoder. Around the handlers stand the calls with their refusals.
+
+use crate::ffi::Decoder as Record;
+use std::collections::VecDeque;
+use std::sync::OnceLock;
+
+/// The index of windows-1252, from its published file.
+pub static WINDOWS_1252: OnceLock<Vec<u32>> = OnceLock::new();
+
+/// The tables that a call is lent.
+#[derive(Clone, Copy)]
+pub struct Tables<'a> {
+    pub first: &'a [u32],
+    pub second: &'a [u32],
+}
+
+pub const NO_TABLES: Tables = Tables {
+    first: &[],
+    second: &[],
+};
+
+/// Bytes to read; `None` is end-of-stream.
+type Queue = VecDeque<Option<u8>>;
+
+/// What a handler returns.
+enum Outcome {
+    Finished,
+    Continue,
+    Error,
+    One(u32),
+    Two(u32, u32),
+}
+
+use Outcome::{Continue, Error, Finished, One, Two};
+
+fn prepend(queue: &mut Queue, bytes: &[u8]) {
+    for &byte in bytes.iter().rev() {
+        queue.push_front(Some(byte));
+    }
+}
+
+pub fn is_scalar(number: u32) -> bool {
+    number <= 0x10FFFF && !(0xD800..=0xDFFF).contains(&number)
+}
+
+/// The code point at a pointer of an index; null where the cell counts as unmapped.
+fn index_code_point(index: &[u32], pointer: usize) -> Option<u32> {
+    let cell = *index.get(pointer)?;
+    (is_scalar(cell) && cell >= 0x80).then_some(cell)
+}
+
+/// The code point of a four-byte sequence of gb18030.
+fn ranges_code_point(ranges: &[u32], pointer: u32) -> Option<u32> {
+    if (pointer > 39419 && pointer < 189000) || pointer > 1237575 {
+        return None;
+    }
+    if pointer == 7457 {
+        return Some(0xE7C7);
+    }
+    let mut found = None;
+    for pair in ranges.chunks_exact(2) {
+        if pair[0] <= pointer {
+            found = Some((pair[0], pair[1]));
+        }
+    }
+    let (offset, code_point_offset) = found?;
+    let sum = u64::from(code_point_offset) + u64::from(pointer - offset);
+    let sum = u32::try_from(sum).ok()?;
+    (is_scalar(sum) && sum >= 0x80).then_some(sum)
+}
+
+#[derive(Clone, Copy)]
+struct Utf8 {
+    code_point: u32,
+    seen: u32,
+    needed: u32,
+    lower: u8,
+    upper: u8,
+}
+
+impl Utf8 {
+    const NEW: Utf8 = Utf8 {
+        code_point: 0,
+        seen: 0,
+        needed: 0,
+        lower: 0x80,
+        upper: 0xBF,
+    };
+
+    fn handler(&mut self, queue: &mut Queue, byte: Option<u8>) -> Outcome {
+        let Some(byte) = byte else {
+            if self.needed != 0 {
+                self.needed = 0;
+                return Error;
+            }
+            return Finished;
+        };
+        if self.needed == 0 {
+            match byte {
+                0x00..=0x7F => return One(byte.into()),
+                0xC2..=0xDF => {
+                    self.needed = 1;
+                    self.code_point = u32::from(byte & 0x1F);
+                }
+                0xE0..=0xEF => {
+                    if byte == 0xE0 {
+                        self.lower = 0xA0;
+                    }
+                    if byte == 0xED {
+                        self.upper = 0x9F;
+                    }
+                    self.needed = 2;
+                    self.code_point = u32::from(byte & 0xF);
+                }
+                0xF0..=0xF4 => {
+                    if byte == 0xF0 {
+                        self.lower = 0x90;
+                    }
+                    if byte == 0xF4 {
+                        self.upper = 0x8F;
+                    }
+                    self.needed = 3;
+                    self.code_point = u32::from(byte & 0x7);
+                }
+                _ => return Error,
+            }
+            return Continue;
+        }
+        if !(self.lower..=self.upper).contains(&byte) {
+            *self = Utf8::NEW;
+            prepend(queue, &[byte]);
+            return Error;
+        }
+        self.lower = 0x80;
+        self.upper = 0xBF;
+        self.code_point = (self.code_point << 6) | u32::from(byte & 0x3F);
+        self.seen += 1;
+        if self.seen != self.needed {
+            return Continue;
+        }
+        let code_point = self.code_point;
+        self.code_point = 0;
+        self.needed = 0;
+        self.seen = 0;
+        One(code_point)
+    }
+
+    /// The started sequence, from its number of bytes and its bits so far.
+    fn held(&self) -> Vec<u8> {
+        if self.needed == 0 {
+            return Vec::new();
+        }
+        let mark = [0xC0, 0xE0, 0xF0][self.needed as usize - 1];
+        let mut bytes = vec![mark | (self.code_point >> (6 * self.seen)) as u8];
+        for place in (0..self.seen).rev() {
+            bytes.push(0x80 | ((self.code_point >> (6 * place)) & 0x3F) as u8);
+        }
+        bytes
+    }
+}
+
+#[derive(Clone, Copy)]
+struct Gb18030 {
+    first: u8,
+    second: u8,
+    third: u8,
+}
+
+impl Gb18030 {
+    const NEW: Gb18030 = Gb18030 {
+        first: 0,
+        second: 0,
+        third: 0,
+    };
+
+    fn handler(&mut self, queue: &mut Queue, byte: Option<u8>, tables: Tables) -> Outcome {
+        let Some(byte) = byte else {
+            if self.first == 0 && self.second == 0 && self.third == 0 {
+                return Finished;
+            }
+            *self = Gb18030::NEW;
+            return Error;
+        };
+        if self.third != 0 {
+            if !(0x30..=0x39).contains(&byte) {
+                prepend(queue, &[self.second, self.third, byte]);
+                *self = Gb18030::NEW;
+                return Error;
+            }
+            let pointer = (u32::from(self.first) - 0x81) * (10 * 126 * 10)
+                + (u32::from(self.second) - 0x30) * (10 * 126)
+                + (u32::from(self.third) - 0x81) * 10
+                + u32::from(byte)
+                - 0x30;
+            *self = Gb18030::NEW;
+            return match ranges_code_point(tables.second, pointer) {
+                None => Error,
+                Some(code_point) => One(code_point),
+            };
+        }
+        if self.second != 0 {
+            if (0x81..=0xFE).contains(&byte) {
+                self.third = byte;
+                return Continue;
+            }
+            prepend(queue, &[self.second, byte]);
+            *self = Gb18030::NEW;
+            return Error;
+        }
+        if self.first != 0 {
+            if (0x30..=0x39).contains(&byte) {
+                self.second = byte;
+                return Continue;
+            }
+            let lead = usize::from(self.first);
+            self.first = 0;
+            let offset = if byte < 0x7F { 0x40 } else { 0x41 };
+            let pointer = match byte {
+                0x40..=0x7E | 0x80..=0xFE => {
+                    Some((lead - 0x81) * 190 + (usize::from(byte) - offset))
+                }
+                _ => None,
+            };
+            return two_byte(queue, byte, pointer, tables.first);
+        }
+        match byte {
+            0x00..=0x7F => One(byte.into()),
+            0x80 => One(0x20AC),
+            0x81..=0xFE => {
+                self.first = byte;
+                Continue
+            }
+            _ => Error,
+        }
+    }
+}
+
+/// The last steps that the two-byte sequences share.
+fn two_byte(queue: &mut Queue, byte: u8, pointer: Option<usize>, index: &[u32]) -> Outcome {
+    if let Some(code_point) = pointer.and_then(|pointer| index_code_point(index, pointer)) {
+        return One(code_point);
+    }
+    if byte.is_ascii() {
+        prepend(queue, &[byte]);
+    }
+    Error
+}
+
+fn end_of_lead(lead: &mut u8) -> Outcome {
+    if *lead != 0 {
+        *lead = 0;
+        return Error;
+    }
+    Finished
+}
+
+fn big5(lead: &mut u8, queue: &mut Queue, byte: Option<u8>, index: &[u32]) -> Outcome {
+    let Some(byte) = byte else {
+        return end_of_lead(lead);
+    };
+    if *lead != 0 {
+        let row = usize::from(*lead) - 0x81;
+        *lead = 0;
+        let offset = if byte < 0x7F { 0x40 } else { 0x62 };
+        let pointer = match byte {
+            0x40..=0x7E | 0xA1..=0xFE => Some(row * 157 + (usize::from(byte) - offset)),
+            _ => None,
+        };
+        match pointer {
+            Some(1133) => return Two(0x00CA, 0x0304),
+            Some(1135) => return Two(0x00CA, 0x030C),
+            Some(1164) => return Two(0x00EA, 0x0304),
+            Some(1166) => return Two(0x00EA, 0x030C),
+            _ => return two_byte(queue, byte, pointer, index),
+        }
+    }
+    match byte {
+        0x00..=0x7F => One(byte.into()),
+        0x81..=0xFE => {
+            *lead = byte;
+            Continue
+        }
+        _ => Error,
+    }
+}
+
+#[derive(Clone, Copy)]
+struct EucJp {
+    jis0212: bool,
+    lead: u8,
+}
+
+impl EucJp {
+    fn handler(&mut self, queue: &mut Queue, byte: Option<u8>, tables: Tables) -> Outcome {
+        let Some(byte) = byte else {
+            self.jis0212 = false;
+            return end_of_lead(&mut self.lead);
+        };
+        if self.lead == 0x8E && (0xA1..=0xDF).contains(&byte) {
+            self.lead = 0;
+            return One(0xFF61 - 0xA1 + u32::from(byte));
+        }
+        if self.lead == 0x8F && (0xA1..=0xFE).contains(&byte) {
+            self.jis0212 = true;
+            self.lead = byte;
+            return Continue;
+        }
+        if self.lead != 0 {
+            let lead = self.lead;
+            self.lead = 0;
+            let range = 0xA1..=0xFE;
+            let pointer = (range.contains(&lead) && range.contains(&byte))
+                .then(|| (usize::from(lead) - 0xA1) * 94 + usize::from(byte) - 0xA1);
+            let index = if self.jis0212 {
+                tables.second
+            } else {
+                tables.first
+            };
+            self.jis0212 = false;
+            return two_byte(queue, byte, pointer, index);
+        }
+        match byte {
+            0x00..=0x7F => One(byte.into()),
+            0x8E | 0x8F | 0xA1..=0xFE => {
+                self.lead = byte;
+                Continue
+            }
+            _ => Error,
+        }
+    }
+}
+
+#[derive(Clone, Copy, PartialEq, Eq)]
+enum State {
+    Ascii,
+    Roman,
+    Katakana,
+    LeadByte,
+    TrailByte,
+    EscapeStart,
+    Escape,
+}
+
+#[derive(Clone, Copy)]
+struct Iso2022Jp {
+    state: State,
+    output_state: State,
+    lead: u8,
+    output: bool,
+    /// The output flag as it was before the bytes held: what the record shows.
+    output_before_held: bool,
+}
+
+impl Iso2022Jp {
+    const NEW: Iso2022Jp = Iso2022Jp {
+        state: State::Ascii,
+        output_state: State::Ascii,
+        lead: 0,
+        output: false,
+        output_before_held: false,
+    };
+
+    fn handler(&mut self, queue: &mut Queue, byte: Option<u8>, index: &[u32]) -> Outcome {
+        let outcome = self.steps(queue, byte, index);
+        if self.state != State::TrailByte {
+            self.output_before_held = self.output;
+        }
+        outcome
+    }
+
+    fn steps(&mut self, queue: &mut Queue, byte: Option<u8>, index: &[u32]) -> Outcome {
+        match self.state {
+            State::Ascii | State::Roman | State::Katakana | State::LeadByte => self.character(byte),
+            State::TrailByte => match byte {
+                Some(0x1B) => {
+                    self.state = State::EscapeStart;
+                    Error
+                }
+                Some(byte @ 0x21..=0x7E) => {
+                    self.state = State::LeadByte;
+                    let pointer = (usize::from(self.lead) - 0x21) * 94 + usize::from(byte) - 0x21;
+                    match index_code_point(index, pointer) {
+                        None => Error,
+                        Some(code_point) => One(code_point),
+                    }
+                }
+                None => {
+                    self.state = State::LeadByte;
+                    queue.push_front(None);
+                    Error
+                }
+                Some(_) => {
+                    self.state = State::LeadByte;
+                    Error
+                }
+            },
+            State::EscapeStart => {
+                if let Some(byte @ (0x24 | 0x28)) = byte {
+                    self.lead = byte;
+                    self.state = State::Escape;
+                    return Continue;
+                }
+                queue.push_front(byte);
+                self.output = false;
+                self.state = self.output_state;
+                Error
+            }
+            State::Escape => self.escape(queue, byte),
+        }
+    }
+
+    /// The states ASCII, Roman, katakana and lead byte.
+    fn character(&mut self, byte: Option<u8>) -> Outcome {
+        let Some(byte) = byte else { return Finished };
+        if byte == 0x1B {
+            self.state = State::EscapeStart;
+            return Continue;
+        }
+        self.output = false;
+        match (self.state, byte) {
+            (State::Roman, 0x5C) => One(0x00A5),
+            (State::Roman, 0x7E) => One(0x203E),
+            (State::Ascii | State::Roman, 0x0E | 0x0F) => Error,
+            (State::Ascii | State::Roman, 0x00..=0x7F) => One(byte.into()),
+            (State::Katakana, 0x21..=0x5F) => One(0xFF61 - 0x21 + u32::from(byte)),
+            (State::LeadByte, 0x21..=0x7E) => {
+                self.lead = byte;
+                self.state = State::TrailByte;
+                Continue
+            }
+            _ => Error,
+        }
+    }
+
+    fn escape(&mut self, queue: &mut Queue, byte: Option<u8>) -> Outcome {
+        let lead = self.lead;
+        self.lead = 0;
+        let state = match (lead, byte) {
+            (0x28, Some(0x42)) => Some(State::Ascii),
+            (0x28, Some(0x4A)) => Some(State::Roman),
+            (0x28, Some(0x49)) => Some(State::Katakana),
+            (0x24, Some(0x40 | 0x42)) => Some(State::LeadByte),
+            _ => None,
+        };
+        if let Some(state) = state {
+            self.state = state;
+            self.output_state = state;
+            let output = self.output;
+            self.output = true;
+            return if output { Error } else { Continue };
+        }
+        queue.push_front(byte);
+        prepend(queue, &[lead]);
+        self.output = false;
+        self.state = self.output_state;
+        Error
+    }
+}
+
+/// Pointers 8836 to 10715 go by the index as all others.
+fn shift_jis(lead: &mut u8, queue: &mut Queue, byte: Option<u8>, index: &[u32]) -> Outcome {
+    let Some(byte) = byte else {
+        return end_of_lead(lead);
+    };
+    if *lead != 0 {
+        let offset = if byte < 0x7F { 0x40 } else { 0x41 };
+        let lead_offset = if *lead < 0xA0 { 0x81 } else { 0xC1 };
+        let row = usize::from(*lead - lead_offset);
+        *lead = 0;
+        let pointer = match byte {
+            0x40..=0x7E | 0x80..=0xFC => Some(row * 188 + usize::from(byte) - offset),
+            _ => None,
+        };
+        return two_byte(queue, byte, pointer, index);
+    }
+    match byte {
+        0x00..=0x80 => One(byte.into()),
+        0xA1..=0xDF => One(0xFF61 - 0xA1 + u32::from(byte)),
+        0x81..=0x9F | 0xE0..=0xFC => {
+            *lead = byte;
+            Continue
+        }
+        _ => Error,
+    }
+}
+
+fn euc_kr(lead: &mut u8, queue: &mut Queue, byte: Option<u8>, index: &[u32]) -> Outcome {
+    let Some(byte) = byte else {
+        return end_of_lead(lead);
+    };
+    if *lead != 0 {
+        let row = usize::from(*lead) - 0x81;
+        *lead = 0;
+        let pointer = match byte {
+            0x41..=0xFE => Some(row * 190 + (usize::from(byte) - 0x41)),
+            _ => None,
+        };
+        return two_byte(queue, byte, pointer, index);
+    }
+    match byte {
+        0x00..=0x7F => One(byte.into()),
+        0x81..=0xFE => {
+            *lead = byte;
+            Continue
+        }
+        _ => Error,
+    }
+}
+
+#[derive(Clone, Copy)]
+struct Utf16 {
+    is_be: bool,
+    lead_byte: Option<u8>,
+    lead_surrogate: Option<u16>,
+}
+
+impl Utf16 {
+    fn bytes(&self, unit: u16) -> [u8; 2] {
+        if self.is_be {
+            unit.to_be_bytes()
+        } else {
+            unit.to_le_bytes()
+        }
+    }
+
+    fn handler(&mut self, queue: &mut Queue, byte: Option<u8>) -> Outcome {
+        let Some(byte) = byte else {
+            if self.lead_byte.is_some() || self.lead_surrogate.is_some() {
+                self.lead_byte = None;
+                self.lead_surrogate = None;
+                return Error;
+            }
+            return Finished;
+        };
+        let Some(lead_byte) = self.lead_byte.take() else {
+            self.lead_byte = Some(byte);
+            return Continue;
+        };
+        let (high, low) = if self.is_be {
+            (lead_byte, byte)
+        } else {
+            (byte, lead_byte)
+        };
+        let unit = (u16::from(high) << 8) + u16::from(low);
+        if let Some(lead) = self.lead_surrogate.take() {
+            if (0xDC00..=0xDFFF).contains(&unit) {
+                return One(0x10000
+                    + ((u32::from(lead) - 0xD800) << 10)
+                    + (u32::from(unit) - 0xDC00));
+            }
+            prepend(queue, &self.bytes(unit));
+            return Error;
+        }
+        match unit {
+            0xD800..=0xDBFF => {
+                self.lead_surrogate = Some(unit);
+                Continue
+            }
+            0xDC00..=0xDFFF => Error,
+            _ => One(unit.into()),
+        }
+    }
+}
+
+#[derive(Clone, Copy)]
+enum Variables {
+    Utf8(Utf8),
+    SingleByte,
+    Gb18030(Gb18030),
+    Big5 { lead: u8 },
+    EucJp(EucJp),
+    Iso2022Jp(Iso2022Jp),
+    ShiftJis { lead: u8 },
+    EucKr { lead: u8 },
+    Replacement { error_returned: bool },
+    Utf16(Utf16),
+    UserDefined,
+}
+
+impl Variables {
+    fn new(encoding: u8) -> Variables {
+        match encoding {
+            0 => Variables::Utf8(Utf8::NEW),
+            1..=28 => Variables::SingleByte,
+            29 | 30 => Variables::Gb18030(Gb18030::NEW),
+            31 => Variables::Big5 { lead: 0 },
+            32 => Variables::EucJp(EucJp {
+                jis0212: false,
+                lead: 0,
+            }),
+            33 => Variables::Iso2022Jp(Iso2022Jp::NEW),
+            34 => Variables::ShiftJis { lead: 0 },
+            35 => Variables::EucKr { lead: 0 },
+            36 => Variables::Replacement {
+                error_returned: false,
+            },
+            37 | 38 => Variables::Utf16(Utf16 {
+                is_be: encoding == 37,
+                lead_byte: None,
+                lead_surrogate: None,
+            }),
+            _ => Variables::UserDefined,
+        }
+    }
+
+    fn handler(&mut self, queue: &mut Queue, byte: Option<u8>, tables: Tables) -> Outcome {
+        match self {
+            Variables::Utf8(variables) => variables.handler(queue, byte),
+            Variables::SingleByte => match byte {
+                None => Finished,
+                Some(byte @ 0x00..=0x7F) => One(byte.into()),
+                Some(byte) => match index_code_point(tables.first, usize::from(byte) - 0x80) {
+                    None => Error,
+                    Some(code_point) => One(code_point),
+                },
+            },
+            Variables::Gb18030(variables) => variables.handler(queue, byte, tables),
+            Variables::Big5 { lead } => big5(lead, queue, byte, tables.first),
+            Variables::EucJp(variables) => variables.handler(queue, byte, tables),
+            Variables::Iso2022Jp(variables) => variables.handler(queue, byte, tables.first),
+            Variables::ShiftJis { lead } => shift_jis(lead, queue, byte, tables.first),
+            Variables::EucKr { lead } => euc_kr(lead, queue, byte, tables.first),
+            Variables::Replacement { error_returned } => {
+                if byte.is_none() || *error_returned {
+                    return Finished;
+                }
+                *error_returned = true;
+                Error
+            }
+            Variables::Utf16(variables) => variables.handler(queue, byte),
+            Variables::UserDefined => match byte {
+                None => Finished,
+                Some(byte @ 0x00..=0x7F) => One(byte.into()),
+                Some(byte) => One(0xF780 + u32::from(byte) - 0x80),
+            },
+        }
+    }
+
+    /// The bytes held.
+    fn held(&self) -> Vec<u8> {
+        let bytes: Vec<u8> = match *self {
+            Variables::Utf8(variables) => return variables.held(),
+            Variables::Gb18030(Gb18030 {
+                first,
+                second,
+                third,
+            }) => vec![first, second, third],
+            Variables::Big5 { lead } | Variables::ShiftJis { lead } | Variables::EucKr { lead } => {
+                vec![lead]
+            }
+            Variables::EucJp(EucJp { jis0212, lead }) => {
+                vec![if jis0212 { 0x8F } else { 0 }, lead]
+            }
+            Variables::Iso2022Jp(variables) => match variables.state {
+                State::TrailByte => vec![variables.lead],
+                State::EscapeStart => vec![0x1B],
+                State::Escape => vec![0x1B, variables.lead],
+                _ => Vec::new(),
+            },
+            Variables::Utf16(variables) => {
+                let mut bytes = Vec::new();
+                if let Some(unit) = variables.lead_surrogate {
+                    bytes.extend(variables.bytes(unit));
+                }
+                bytes.extend(variables.lead_byte);
+                return bytes;
+            }
+            Variables::SingleByte | Variables::Replacement { .. } | Variables::UserDefined => {
+                Vec::new()
+            }
+        };
+        bytes.into_iter().filter(|&byte| byte != 0).collect()
+    }
+}
+
+/// A decoder that has not ended.
+#[derive(Clone, Copy)]
+struct Decoder {
+    encoding: u8,
+    mode: u8,
+    /// A byte order mark that comes now is dropped.
+    drop_mark: bool,
+    variables: Variables,
+}
+
+fn has_mark(encoding: u8) -> bool {
+    matches!(encoding, 0 | 37 | 38)
+}
+
+impl Decoder {
+    fn new(encoding: u8, mode: u8, rule: u8) -> Decoder {
+        Decoder {
+            encoding,
+            mode,
+            drop_mark: rule == 0 && has_mark(encoding),
+            variables: Variables::new(encoding),
+        }
+    }
+
+    /// Runs the handler until the queue is empty or it has finished. The second part tells that refusing mode met an
+    /// error.
+    fn run(&mut self, mut queue: Queue, tables: Tables) -> (Vec<u32>, bool) {
+        let tables = match self.encoding {
+            21 => Tables {
+                first: WINDOWS_1252.get().expect("the index is read first"),
+                second: &[],
+            },
+            _ => tables,
+        };
+        let mut output = Vec::new();
+        while let Some(byte) = queue.pop_front() {
+            match self.variables.handler(&mut queue, byte, tables) {
+                Finished => break,
+                Continue => {}
+                Error if self.mode == 1 => return (output, true),
+                Error => self.push(&mut output, 0xFFFD),
+                One(code_point) => self.push(&mut output, code_point),
+                Two(one, two) => {
+                    self.push(&mut output, one);
+                    self.push(&mut output, two);
+                }
+            }
+        }
+        (output, false)
+    }
+
+    fn push(&mut self, output: &mut Vec<u32>, code_point: u32) {
+        let drop = self.drop_mark && code_point == 0xFEFF;
+        self.drop_mark = false;
+        if !drop {
+            output.push(code_point);
+        }
+    }
+
+    fn record(&self) -> Record {
+        let mut record = Record {
+            encoding: self.encoding,
+            mode: self.mode,
+            flag: u8::from(self.drop_mark),
+            ..Record::default()
+        };
+        match self.variables {
+            Variables::Iso2022Jp(variables) => {
+                record.state = match variables.output_state {
+                    State::Ascii => 0,
+                    State::Roman => 1,
+                    State::Katakana => 2,
+                    _ => 3,
+                };
+                record.flag = u8::from(variables.output_before_held);
+            }
+            Variables::Replacement { error_returned } => record.flag = u8::from(error_returned),
+            _ => {}
+        }
+        let held = self.variables.held();
+        record.held = held.len() as u8;
+        for (field, byte) in [&mut record.first, &mut record.second, &mut record.third]
+            .into_iter()
+            .zip(held)
+        {
+            *field = byte;
+        }
+        record
+    }
+}
+
+fn ended(encoding: u8, mode: u8) -> Record {
+    Record {
+        encoding,
+        mode,
+        ended: 1,
+        ..Record::default()
+    }
+}
+
+/// Texts that leave a decoder holding nothing, in each of its states and with each of its flags.
+fn starts(encoding: u8) -> &'static [&'static [u8]] {
+    match encoding {
+        0 | 37 | 38 => &[b"", b"AA"],
+        33 => &[
+            b"",
+            b"\x1B(B",
+            b"\x1B(J",
+            b"\x1B(JA",
+            b"\x1B(I",
+            b"\x1B(I!",
+            b"\x1B$B",
+            b"\x1B$B!!",
+        ],
+        36 => &[b"", b"A"],
+        _ => &[b""],
+    }
+}
+
+enum Known {
+    Open(Decoder),
+    Ended,
+}
+
+/// The decoder of a record, where some calls leave it: those that feed one of the starts and then the bytes held.
+fn decoder_of(record: Record) -> Option<Known> {
+    if record.encoding > 39 || record.mode > 1 || record.held > 3 {
+        return None;
+    }
+    if record.ended != 0 {
+        return (record == ended(record.encoding, record.mode)).then_some(Known::Ended);
+    }
+    let held = [record.first, record.second, record.third];
+    let held = &held[..usize::from(record.held)];
+    for start in starts(record.encoding) {
+        let mut decoder = Decoder::new(record.encoding, record.mode, 0);
+        let queue = start.iter().chain(held).map(|&byte| Some(byte)).collect();
+        let tables = Tables {
+            first: &[0x3000],
+            second: &[],
+        };
+        let (_, error) = decoder.run(queue, tables);
+        if !error && decoder.record() == record {
+            return Some(Known::Open(decoder));
+        }
+    }
+    None
+}
+
+/// What opening, feed and finish answer; `output` is what stands at the front of the room.
+pub struct Answer {
+    pub refusal: u8,
+    pub output: Vec<u32>,
+    pub record: Record,
+}
+
+/// Whether the lent tables have the lengths that an encoding asks for.
+fn fits(encoding: u8, tables: Tables) -> bool {
+    let second = tables.second.len();
+    let lengths = match encoding {
+        21 => (0, 0),
+        1..=28 => (128, 0),
+        29 | 30 => return tables.first.len() == 23940 && second.is_multiple_of(2) && second <= 414,
+        31 => (19782, 0),
+        32 => (11280, 8836),
+        33 | 34 => (11280, 0),
+        35 => (23940, 0),
+        _ => (0, 0),
+    };
+    (tables.first.len(), second) == lengths
+}
+
+pub fn open(encoding: u8, mode: u8, rule: u8) -> Answer {
+    let refusal = match (encoding, mode, rule) {
+        (40.., _, _) => 2,
+        (_, 2.., _) | (_, _, 2..) => 3,
+        _ => 0,
+    };
+    Answer {
+        refusal,
+        output: Vec::new(),
+        record: match refusal {
+            0 => Decoder::new(encoding, mode, rule).record(),
+            _ => ended(0, 0),
+        },
+    }
+}
+
+pub fn feed(record: Record, chunk: &[u8], tables: Tables, room: usize) -> Answer {
+    let refused = |refusal| Answer {
+        refusal,
+        output: Vec::new(),
+        record,
+    };
+    let mut decoder = match decoder_of(record) {
+        None => return refused(5),
+        Some(Known::Ended) => return refused(6),
+        Some(Known::Open(decoder)) => decoder,
+    };
+    if !fits(decoder.encoding, tables) {
+        return refused(4);
+    }
+    if chunk.len() > 65536 {
+        return refused(8);
+    }
+    if room < chunk.len() + decoder.variables.held().len() {
+        return refused(7);
+    }
+    let queue = chunk.iter().map(|&byte| Some(byte)).collect();
+    let (output, error) = decoder.run(queue, tables);
+    Answer {
+        refusal: if error { 11 } else { 0 },
+        output,
+        record: if error {
+            ended(decoder.encoding, decoder.mode)
+        } else {
+            decoder.record()
+        },
+    }
+}
+
+pub fn finish(record: Record, room: usize) -> Answer {
+    let refused = |refusal| Answer {
+        refusal,
+        output: Vec::new(),
+        record,
+    };
+    let mut decoder = match decoder_of(record) {
+        None => return refused(5),
+        Some(Known::Ended) => return refused(6),
+        Some(Known::Open(decoder)) => decoder,
+    };
+    if room < decoder.variables.held().len() {
+        return refused(7);
+    }
+    // End-of-stream is read until the handler has finished, at most twice. No step then reads a table.
+    let (output, error) = decoder.run(Queue::from([None, None]), NO_TABLES);
+    Answer {
+        refusal: if error { 11 } else { 0 },
+        output,
+        record: ended(decoder.encoding, decoder.mode),
+    }
+}
+
+/// What the writer answers; `output` is what stands at the front of the room.
+pub struct Encoded {
+    pub refusal: u8,
+    pub output: Vec<u8>,
+    pub index: usize,
+}
+
+/// The bytes of one scalar; null where the encoding has none.
+fn encode_scalar(encoding: u8, scalar: u32, tables: Tables, output: &mut Vec<u8>) -> bool {
+    if scalar < 0x80 {
+        output.push(scalar as u8);
+        return true;
+    }
+    match encoding {
+        0 => {
+            let (mut count, offset) = match scalar {
+                0x80..=0x7FF => (1, 0xC0),
+                0x800..=0xFFFF => (2, 0xE0),
+                _ => (3, 0xF0),
+            };
+            output.push(((scalar >> (6 * count)) + offset) as u8);
+            while count > 0 {
+                output.push((0x80 | ((scalar >> (6 * (count - 1))) & 0x3F)) as u8);
+                count -= 1;
+            }
+            true
+        }
+        39 => {
+            let own = (0xF780..=0xF7FF).contains(&scalar);
+            if own {
+                output.push((scalar - 0xF780 + 0x80) as u8);
+            }
+            own
+        }
+        _ => {
+            let index = match encoding {
+                21 => WINDOWS_1252.get().expect("the index is read first"),
+                _ => tables.first,
+            };
+            let pointer = index.iter().position(|&cell| cell == scalar);
+            output.extend(pointer.map(|pointer| pointer as u8 + 0x80));
+            pointer.is_some()
+        }
+    }
+}
+
+pub fn encode(encoding: u8, mode: u8, scalars: &[u32], tables: Tables, room: usize) -> Encoded {
+    let refused = |refusal| Encoded {
+        refusal,
+        output: Vec::new(),
+        index: 0,
+    };
+    if encoding > 39 {
+        return refused(2);
+    }
+    if mode > 1 {
+        return refused(3);
+    }
+    if (29..39).contains(&encoding) {
+        return refused(9);
+    }
+    if !fits(encoding, tables) {
+        return refused(4);
+    }
+    if scalars.len() > 16384 {
+        return refused(8);
+    }
+    if !scalars.iter().all(|&scalar| is_scalar(scalar)) {
+        return refused(10);
+    }
+    let mut output = Vec::new();
+    let mut error = None;
+    for (index, &scalar) in scalars.iter().enumerate() {
+        if encode_scalar(encoding, scalar, tables, &mut output) {
+            continue;
+        }
+        if mode == 1 {
+            error = Some(index);
+            break;
+        }
+        output.extend(format!("&#{scalar};").bytes());
+    }
+    if room < output.len() {
+        return refused(7);
+    }
+    Encoded {
+        refusal: if error.is_some() { 11 } else { 0 },
+        output,
+        index: error.unwrap_or(0),
+    }
+}
+
+/// What an index line answers; the table is filled.
+#[derive(Debug, PartialEq, Eq)]
+pub struct Entered {
+    pub refusal: u8,
+    pub entry: u8,
+    pub pointer: u32,
+}
+
+pub fn index_line(line: &[u8], table: &mut [u32]) -> Entered {
+    let answer = |refusal, entry, pointer| Entered {
+        refusal,
+        entry,
+        pointer,
+    };
+    if line.len() > 1024 {
+        return answer(8, 0, 0);
+    }
+    if line.is_empty() || line[0] == b'#' {
+        return answer(0, 0, 0);
+    }
+    let Some((pointer, code_point)) = line_parts(line) else {
+        return answer(12, 0, 0);
+    };
+    match table.get_mut(pointer as usize) {
+        Some(cell) if *cell == 0 => *cell = code_point,
+        _ => return answer(13, 0, 0),
+    }
+    answer(0, 1, pointer)
+}
+
+fn line_parts(line: &[u8]) -> Option<(u32, u32)> {
+    let blanks = line.iter().take_while(|&&byte| byte == b' ').count();
+    let mut fields = line[blanks..].splitn(3, |&byte| byte == b'\t');
+    let pointer = fields.next()?;
+    let code_point = fields.next()?.strip_prefix(b"0x")?;
+    let decimal = pointer.iter().all(u8::is_ascii_digit);
+    if !decimal || !(1..=7).contains(&pointer.len()) {
+        return None;
+    }
+    let capital = |byte: &u8| byte.is_ascii_digit() || (b'A'..=b'F').contains(byte);
+    if !code_point.iter().all(capital) || !(4..=6).contains(&code_point.len()) {
+        return None;
+    }
+    let number =
+        |digits: &[u8], radix| u32::from_str_radix(std::str::from_utf8(digits).ok()?, radix).ok();
+    let code_point = number(code_point, 16)?;
+    if !is_scalar(code_point) || code_point < 0x80 {
+        return None;
+    }
+    Some((number(pointer, 10)?, code_point))
+}
