@@ -95,6 +95,154 @@ pub fn pairs(published: &Published) -> Result<String, String> {
     ))
 }
 
+/// A few bytes for each decoder: the edges of its ranges and what its rules name.
+pub fn alphabet(encoding: u8) -> &'static [u8] {
+    match encoding {
+        0 => b"\x0A\x7F\x80\x8F\x90\x9F\xA0\xBB\xBF\xC2\xE0\xED\xEF\xF0\xF1\xF4\xF5",
+        1..=28 => b"\x0A\x7F\x80\xA0\xFF",
+        29 | 30 => b"\x0A\x30\x39\x40\x7F\x80\x81\xFE\xFF",
+        31 => b"\x0A\x40\x62\x64\x7F\x80\x88\xA3\xA5\xFE\xFF",
+        32 => b"\x0A\x7F\x80\x8E\x8F\xA1\xDF\xFE\xFF",
+        33 => b"\x0A\x0E\x1B\x21\x24\x28\x42\x49\x4A\x5C\x7E\x80",
+        34 => b"\x0A\x40\x7E\x7F\x80\x81\xA0\xA1\xE0\xF0\xFC\xFD",
+        35 => b"\x0A\x40\x41\x7F\x80\x81\xA1\xFE\xFF",
+        36 => b"\x0A\xFF",
+        37 | 38 => b"\x00\x0A\xD8\xDB\xDC\xDF\xFE\xFF",
+        _ => b"\x0A\x7F\x80\xFF",
+    }
+}
+
+/// The longest texts over an alphabet.
+fn longest(encoding: u8) -> usize {
+    match encoding {
+        0 => 4,
+        29 | 30 | 37 | 38 => 6,
+        32 | 33 => 5,
+        _ => 3,
+    }
+}
+
+struct Texts<'a> {
+    encoding: u8,
+    start: Record,
+    tables: Tables<'a>,
+    text: Vec<u8>,
+    compared: usize,
+}
+
+impl Texts<'_> {
+    /// All texts that go on from here: byte by byte, in one chunk, and with a finish.
+    fn walk(&mut self, record: Record) -> Result<(), String> {
+        if self.text.len() == longest(self.encoding) {
+            return Ok(());
+        }
+        for &byte in alphabet(self.encoding) {
+            let after = fed(record, &[byte], self.tables)?;
+            self.text.push(byte);
+            compare::finish(after, after.held.into())?;
+            if fed(self.start, &self.text, self.tables)? != after {
+                return Err("cut, another record".to_string());
+            }
+            self.compared += 1;
+            if after.ended == 0 {
+                self.walk(after)?;
+            }
+            self.text.pop();
+        }
+        Ok(())
+    }
+}
+
+pub fn texts(published: &Published) -> Result<String, String> {
+    let mut compared = 0;
+    for encoding in 0..40u8 {
+        for mode in 0..2 {
+            let start = compare::open(encoding, mode, 0)?.record;
+            let mut texts = Texts {
+                encoding,
+                start,
+                tables: published.tables(encoding),
+                text: Vec::new(),
+                compared: 0,
+            };
+            texts.walk(start).map_err(|error| {
+                let (name, text) = (name(encoding), &texts.text);
+                format!("{name}, mode {mode}, {text:02X?}: {error}")
+            })?;
+            compared += texts.compared;
+        }
+    }
+    Ok(format!(
+        "{compared} short texts over few bytes, whole and byte by byte"
+    ))
+}
+
+/// Records with every pair of bytes held, and with three from a choice: which of them calls leave.
+pub fn records() -> Result<String, String> {
+    let choice = b"\x00\x1B\x21\x24\x28\x2F\x30\x39\x3A\x7E\x80\x81\x8E\x8F\x90\x9F\xA0\xA1\xBF\xC1\xC2\xD7\xD8\xDB\xDC\xDF\xE0\xED\xEF\xF0\xF4\xF5\xFC\xFE\xFF";
+    let (mut forged, mut left) = (0, 0);
+    let mut compare = |record: Record| -> Result<(), String> {
+        let answer =
+            compare::finish(record, 3).map_err(|error| format!("{record:02X?}: {error}"))?;
+        match answer.refusal {
+            5 => forged += 1,
+            _ => left += 1,
+        }
+        Ok(())
+    };
+    for encoding in [0, 1, 21, 29, 30, 31, 32, 33, 34, 35, 36, 37, 38, 39, 40] {
+        for (mode, state, flag, ended) in (0..3 * 5 * 3 * 3)
+            .map(|number| (number % 3, number / 3 % 5, number / 15 % 3, number / 45))
+        {
+            let mut record = Record {
+                encoding,
+                mode,
+                state,
+                flag,
+                ended,
+                ..Record::default()
+            };
+            compare(record)?;
+            for held in 0..5 {
+                for place in 0..3 {
+                    for &byte in choice {
+                        record.held = held;
+                        record.first = if place == 0 { byte } else { 0 };
+                        record.second = if place == 1 { byte } else { 0 };
+                        record.third = if place == 2 { byte } else { 0 };
+                        compare(record)?;
+                    }
+                }
+            }
+            if mode > 1 || flag > 1 || ended > 0 || state > if encoding == 33 { 3 } else { 0 } {
+                continue;
+            }
+            record.third = 0;
+            for bytes in 0..=0xFFFFu16 {
+                [record.first, record.second] = bytes.to_be_bytes();
+                record.held = 2;
+                compare(record)?;
+                if record.second == 0 {
+                    record.held = 1;
+                    compare(record)?;
+                }
+            }
+            record.held = 3;
+            for &first in choice {
+                for &second in choice {
+                    for &third in choice {
+                        (record.first, record.second, record.third) = (first, second, third);
+                        compare(record)?;
+                    }
+                }
+            }
+        }
+    }
+    Ok(format!(
+        "{forged} records that no calls leave, {left} that calls leave"
+    ))
+}
+
 pub fn four_bytes(published: &Published) -> Result<String, String> {
     let mut sequences = 0;
     for encoding in [29, 30] {

@@ -1,6 +1,6 @@
 //! Compares the library with the published tests of the Encoding Standard and with a second implementation.
 //!
-//! Arguments: the number of random calls (400000 where none is given) and their seed (1).
+//! Arguments: the number of random calls (1000000 where none is given) and their seed (1).
 
 mod compare;
 mod data;
@@ -30,12 +30,15 @@ fn compare_all(number: usize, seed: u64) -> Result<(), String> {
     let tables = data::Published::read()?;
     println!("indexes: {} entries by their lines", tables.entries);
     show("labels", published::labels)?;
+    show("names", published::names)?;
     show("decode", || published::decodings(&tables))?;
     show("characters", || published::characters(&tables))?;
     show("encode", || published::encodings(&tables))?;
     show("order of refusals", || order::refusals(&tables))?;
     show("random calls", || random::calls(&tables, number, seed))?;
     show("index lines", || lines::lines(seed))?;
+    show("records", exhaustive::records)?;
+    show("short texts", || exhaustive::texts(&tables))?;
     show("four bytes", || exhaustive::four_bytes(&tables))?;
     show("bytes and pairs", || exhaustive::pairs(&tables))?;
     show("writers", || exhaustive::scalars(&tables))
@@ -46,7 +49,7 @@ fn main() -> ExitCode {
         .skip(1)
         .map(|argument| argument.parse::<u64>());
     let mut argument = |default| arguments.next().unwrap_or(Ok(default));
-    let (Ok(number), Ok(seed)) = (argument(400_000), argument(1)) else {
+    let (Ok(number), Ok(seed)) = (argument(1_000_000), argument(1)) else {
         eprintln!("outside: the arguments are the number of random calls and their seed");
         return ExitCode::FAILURE;
     };

@@ -82,6 +82,35 @@ pub fn labels() -> Result<String, String> {
     ))
 }
 
+/// The names, in rooms of every length.
+pub fn names() -> Result<String, String> {
+    let text = data::read("vectors/labels.txt")?;
+    let mut names: HashMap<u8, &str> = HashMap::new();
+    for line in data::lines(&text) {
+        let fields: Vec<&str> = line.split('\t').collect();
+        names.insert(fields[0].parse().map_err(|_| line.to_string())?, fields[1]);
+    }
+    let mut compared = 0;
+    for encoding in 0..=255 {
+        for room in 0..18 {
+            let mut cells = [0xA5; 20];
+            let answer = unsafe { ffi::hamvukile_name(encoding, cells.as_mut_ptr(), room) };
+            let (refusal, name) = match names.get(&encoding) {
+                None => (2, ""),
+                Some(name) if name.len() > room => (7, ""),
+                Some(name) => (0, *name),
+            };
+            let mut wanted = [0xA5; 20];
+            wanted[..name.len()].copy_from_slice(name.as_bytes());
+            if (answer.refusal, answer.length) != (refusal, name.len()) || cells != wanted {
+                return Err(format!("encoding {encoding}, room {room}: {cells:02X?}"));
+            }
+            compared += 1;
+        }
+    }
+    Ok(format!("{} names, {compared} calls", names.len()))
+}
+
 fn encoding_of(label: &str) -> Result<u8, String> {
     let found = unsafe { ffi::hamvukile_label(label.as_ptr(), label.len()) };
     match found.refusal {

@@ -2,6 +2,7 @@
 
 use crate::compare;
 use crate::data::Published;
+use crate::exhaustive::alphabet;
 use crate::ffi::Decoder as Record;
 use crate::reference::{self, Tables};
 use std::fmt;
@@ -251,7 +252,7 @@ impl Lists {
         self.lent[usize::from(encoding.min(39))][variant].with(flaw)
     }
 
-    fn text(&self, random: &mut Random) -> Vec<u8> {
+    fn text(&self, encoding: u8, random: &mut Random) -> Vec<u8> {
         let length = match random.below(12) {
             0 => 0,
             1 => random.below(60),
@@ -262,6 +263,7 @@ impl Lists {
             match random.below(8) {
                 0 => bytes.extend(random.pick(SEQUENCES)),
                 1 | 2 => bytes.push(random.next() as u8),
+                3..=5 => bytes.push(random.pick(alphabet(encoding))),
                 _ => bytes.push(random.pick(EDGES)),
             }
         }
@@ -285,9 +287,19 @@ impl Lists {
 
     fn list(&self, random: &mut Random) -> Vec<Call> {
         let mut list = vec![self.open(random)];
+        let mut encoding = 0;
         for _ in 0..1 + random.below(14) {
-            let call = self.call(random);
-            list.push(call);
+            match list.last() {
+                Some(Call::Open {
+                    encoding: opened, ..
+                }) => encoding = *opened,
+                Some(Call::Finish { .. }) if !random.one_in(3) => {
+                    list.push(self.open(random));
+                    continue;
+                }
+                _ => {}
+            }
+            list.push(self.call(encoding, random));
         }
         list
     }
@@ -319,7 +331,7 @@ impl Lists {
         }
     }
 
-    fn call(&self, random: &mut Random) -> Call {
+    fn call(&self, encoding: u8, random: &mut Random) -> Call {
         let room = match random.below(8) {
             0 => -1,
             1 => 1,
@@ -370,7 +382,7 @@ impl Lists {
                 }
             }
             _ => {
-                let mut chunk = self.text(random);
+                let mut chunk = self.text(encoding, random);
                 if random.one_in(3000) {
                     let text = chunk.clone();
                     let length = 65535 + random.below(3);
