@@ -48,46 +48,73 @@ fn fed(record: Record, chunk: &[u8], tables: Tables) -> Result<Record, String> {
     Ok(compare::feed(record, chunk, tables, room)?.record)
 }
 
+/// The pairs after one front: the second byte in the same chunk and in the next one.
+struct Pairs<'a> {
+    start: Record,
+    tables: Tables<'a>,
+    chunk: Vec<u8>,
+    bytes: usize,
+    pairs: usize,
+}
+
+impl Pairs<'_> {
+    fn ended(&self, record: Record) -> Result<(), String> {
+        compare::finish(record, record.held.into()).map(|_| ())
+    }
+
+    fn walk(&mut self) -> Result<(), String> {
+        for one in 0..=255u8 {
+            self.chunk = vec![one];
+            let middle = fed(self.start, &self.chunk, self.tables)?;
+            self.ended(middle)?;
+            self.bytes += 1;
+            for two in 0..=255u8 {
+                self.chunk = vec![one, two];
+                let end = fed(self.start, &self.chunk, self.tables)?;
+                self.ended(end)?;
+                if fed(middle, &[two], self.tables)? != end {
+                    return Err("cut, another record".to_string());
+                }
+                self.pairs += 1;
+            }
+        }
+        Ok(())
+    }
+}
+
+/// Every encoding, mode and rule for the byte order mark where it has one.
+fn settings() -> Vec<(u8, u8, u8)> {
+    let mut settings = Vec::new();
+    for encoding in 0..40 {
+        for mode in 0..2 {
+            settings.push((encoding, mode, 0));
+            if matches!(encoding, 0 | 37 | 38) {
+                settings.push((encoding, mode, 1));
+            }
+        }
+    }
+    settings
+}
+
 pub fn pairs(published: &Published) -> Result<String, String> {
     let (mut bytes, mut pairs) = (0, 0);
-    for encoding in 0..40u8 {
+    for (encoding, mode, rule) in settings() {
         let tables = published.tables(encoding);
-        for mode in 0..2 {
-            for rule in 0..2 {
-                if rule == 1 && !matches!(encoding, 0 | 37 | 38) {
-                    continue;
-                }
-                for front in fronts(encoding) {
-                    let case = |chunk: &[u8], error: String| {
-                        format!(
-                            "{}, mode {mode}, rule {rule}, {front:02X?} then {chunk:02X?}: {error}",
-                            name(encoding)
-                        )
-                    };
-                    let start = compare::open(encoding, mode, rule)?.record;
-                    let start = fed(start, front, tables).map_err(|error| case(&[], error))?;
-                    for one in 0..=255u8 {
-                        let middle = fed(start, &[one], tables)
-                            .and_then(|middle| {
-                                compare::finish(middle, middle.held.into()).map(|_| middle)
-                            })
-                            .map_err(|error| case(&[one], error))?;
-                        bytes += 1;
-                        for two in 0..=255u8 {
-                            let pair = [one, two];
-                            let end = fed(start, &pair, tables)
-                                .and_then(|end| compare::finish(end, end.held.into()).map(|_| end))
-                                .map_err(|error| case(&pair, error))?;
-                            let cut =
-                                fed(middle, &[two], tables).map_err(|error| case(&pair, error))?;
-                            if cut != end {
-                                return Err(case(&pair, "cut, another record".to_string()));
-                            }
-                            pairs += 1;
-                        }
-                    }
-                }
-            }
+        for front in fronts(encoding) {
+            let open = compare::open(encoding, mode, rule)?.record;
+            let mut walk = Pairs {
+                start: fed(open, front, tables)?,
+                tables,
+                chunk: Vec::new(),
+                bytes: 0,
+                pairs: 0,
+            };
+            walk.walk().map_err(|error| {
+                let (name, chunk) = (name(encoding), &walk.chunk);
+                format!("{name}, mode {mode}, rule {rule}, {front:02X?} then {chunk:02X?}: {error}")
+            })?;
+            bytes += walk.bytes;
+            pairs += walk.pairs;
         }
     }
     Ok(format!(
@@ -177,69 +204,102 @@ pub fn texts(published: &Published) -> Result<String, String> {
     ))
 }
 
-/// Records with every pair of bytes held, and with three from a choice: which of them calls leave.
-pub fn records() -> Result<String, String> {
-    let choice = b"\x00\x1B\x21\x24\x28\x2F\x30\x39\x3A\x7E\x80\x81\x8E\x8F\x90\x9F\xA0\xA1\xBF\xC1\xC2\xD7\xD8\xDB\xDC\xDF\xE0\xED\xEF\xF0\xF4\xF5\xFC\xFE\xFF";
-    let (mut forged, mut left) = (0, 0);
-    let mut compare = |record: Record| -> Result<(), String> {
+/// Bytes held in the records that are tried.
+const HELD: &[u8] =
+    b"\x00\x1B\x21\x24\x28\x2F\x30\x39\x3A\x7E\x80\x81\x8E\x8F\x90\x9F\xA0\xA1\xBF\xC1\xC2\
+\xD7\xD8\xDB\xDC\xDF\xE0\xED\xEF\xF0\xF4\xF5\xFC\xFE\xFF";
+
+/// Records, counted by whether some calls leave them.
+#[derive(Default)]
+struct Records {
+    forged: usize,
+    left: usize,
+}
+
+impl Records {
+    fn compare(&mut self, record: Record) -> Result<(), String> {
         let answer =
             compare::finish(record, 3).map_err(|error| format!("{record:02X?}: {error}"))?;
         match answer.refusal {
-            5 => forged += 1,
-            _ => left += 1,
+            5 => self.forged += 1,
+            _ => self.left += 1,
         }
         Ok(())
-    };
-    for encoding in [0, 1, 21, 29, 30, 31, 32, 33, 34, 35, 36, 37, 38, 39, 40] {
-        for (mode, state, flag, ended) in (0..3 * 5 * 3 * 3)
-            .map(|number| (number % 3, number / 3 % 5, number / 15 % 3, number / 45))
-        {
-            let mut record = Record {
+    }
+
+    /// One byte in each place, with any number of bytes held.
+    fn one_byte(&mut self, record: Record) -> Result<(), String> {
+        for held in 0..5 {
+            for &byte in HELD {
+                let record = Record { held, ..record };
+                self.compare(Record {
+                    first: byte,
+                    ..record
+                })?;
+                self.compare(Record {
+                    second: byte,
+                    ..record
+                })?;
+                self.compare(Record {
+                    third: byte,
+                    ..record
+                })?;
+            }
+        }
+        Ok(())
+    }
+
+    /// Every byte and pair of bytes held, and three from a choice.
+    fn all_held(&mut self, record: Record) -> Result<(), String> {
+        let with = |held, first, second, third| Record {
+            held,
+            first,
+            second,
+            third,
+            ..record
+        };
+        for first in 0..=255 {
+            self.compare(with(1, first, 0, 0))?;
+            for second in 0..=255 {
+                self.compare(with(2, first, second, 0))?;
+            }
+        }
+        for &first in HELD {
+            for &second in HELD {
+                for &third in HELD {
+                    self.compare(with(3, first, second, third))?;
+                }
+            }
+        }
+        Ok(())
+    }
+}
+
+/// Which records calls leave: refusal 5 for all others.
+pub fn records() -> Result<String, String> {
+    let mut records = Records::default();
+    for encoding in [
+        0, 1, 21, 28, 29, 30, 31, 32, 33, 34, 35, 36, 37, 38, 39, 40, 255,
+    ] {
+        for number in 0..3 * 5 * 3 * 3 {
+            let record = Record {
                 encoding,
-                mode,
-                state,
-                flag,
-                ended,
+                mode: number % 3,
+                state: number / 3 % 5,
+                flag: number / 15 % 3,
+                ended: number / 45,
                 ..Record::default()
             };
-            compare(record)?;
-            for held in 0..5 {
-                for place in 0..3 {
-                    for &byte in choice {
-                        record.held = held;
-                        record.first = if place == 0 { byte } else { 0 };
-                        record.second = if place == 1 { byte } else { 0 };
-                        record.third = if place == 2 { byte } else { 0 };
-                        compare(record)?;
-                    }
-                }
-            }
-            if mode > 1 || flag > 1 || ended > 0 || state > if encoding == 33 { 3 } else { 0 } {
-                continue;
-            }
-            record.third = 0;
-            for bytes in 0..=0xFFFFu16 {
-                [record.first, record.second] = bytes.to_be_bytes();
-                record.held = 2;
-                compare(record)?;
-                if record.second == 0 {
-                    record.held = 1;
-                    compare(record)?;
-                }
-            }
-            record.held = 3;
-            for &first in choice {
-                for &second in choice {
-                    for &third in choice {
-                        (record.first, record.second, record.third) = (first, second, third);
-                        compare(record)?;
-                    }
-                }
+            records.one_byte(record)?;
+            let states = if encoding == 33 { 4 } else { 1 };
+            if record.mode < 2 && record.state < states && record.flag < 2 && record.ended == 0 {
+                records.all_held(record)?;
             }
         }
     }
     Ok(format!(
-        "{forged} records that no calls leave, {left} that calls leave"
+        "{} records that no calls leave, {} that calls leave",
+        records.forged, records.left
     ))
 }
 

@@ -27,6 +27,7 @@ fn show(what: &str, part: impl FnOnce() -> Result<String, String>) -> Result<(),
 }
 
 fn compare_all(number: usize, seed: u64) -> Result<(), String> {
+    println!("{number} random calls, seed {seed}");
     let tables = data::Published::read()?;
     println!("indexes: {} entries by their lines", tables.entries);
     show("labels", published::labels)?;

@@ -34,7 +34,8 @@ fn has_errors(encoding: u8) -> bool {
 fn lead(encoding: u8) -> Option<u8> {
     match encoding {
         0 => Some(0xC2),
-        29..=32 | 34 | 35 | 37 | 38 => Some(0xA1 - 0x20 * u8::from(encoding != 32)),
+        32 => Some(0xA1),
+        29..=31 | 34 | 35 | 37 | 38 => Some(0x81),
         33 => Some(0x1B),
         _ => None,
     }
@@ -114,19 +115,14 @@ fn finishes(published: &Published) -> Result<usize, String> {
         for set in 0..1 << order.len() {
             let causes = causes(&order, set);
             let holds = causes.contains(&7) || causes.contains(&11);
-            let Some(lead) = lead(encoding)
-                .filter(|_| holds)
-                .or(Some(0))
-                .filter(|&lead| lead != 0 || !holds)
-            else {
+            let chunk: Vec<u8> = lead(encoding).filter(|_| holds).into_iter().collect();
+            if holds && chunk.is_empty() {
                 continue;
-            };
-            let refusing = causes.contains(&11);
-            let mut record = compare::open(encoding, u8::from(refusing), 0)?.record;
-            if holds {
-                let tables = published.tables(encoding);
-                record = compare::feed(record, &[lead], tables, 1)?.record;
             }
+            let refusing = causes.contains(&11);
+            let open = compare::open(encoding, u8::from(refusing), 0)?.record;
+            let tables = published.tables(encoding);
+            let mut record = compare::feed(open, &chunk, tables, chunk.len())?.record;
             let held = usize::from(record.held);
             if causes.contains(&6) {
                 record = compare::finish(record, held)?.record;

@@ -4,7 +4,7 @@ use crate::compare;
 use crate::data::Published;
 use crate::exhaustive::alphabet;
 use crate::ffi::Decoder as Record;
-use crate::reference::{self, Tables};
+use crate::reference::{self, Answer, Tables};
 use std::fmt;
 
 /// Random numbers from a seed (splitmix64).
@@ -470,82 +470,99 @@ fn room_of(need: usize, above: isize) -> usize {
     need.saturating_add_signed(above)
 }
 
+/// A decoder between the calls of a list.
+struct Place<'a> {
+    lists: &'a Lists,
+    record: Record,
+    taken: Taken,
+}
+
+impl Place<'_> {
+    fn call(&mut self, call: &Call) -> Result<u8, String> {
+        match call {
+            Call::Open {
+                encoding,
+                mode,
+                rule,
+            } => {
+                let answer = compare::open(*encoding, *mode, *rule)?;
+                self.record = answer.record;
+                self.taken = Taken {
+                    encoding: answer.record.encoding,
+                    mode: answer.record.mode,
+                    ..Taken::default()
+                };
+                Ok(answer.refusal)
+            }
+            Call::Feed {
+                chunk,
+                tables,
+                flaw,
+                room,
+                forge,
+            } => {
+                let record = forged(self.record, *forge);
+                let tables = self.lists.tables(record.encoding, *tables, *flaw);
+                let room = room_of(chunk.len() + usize::from(record.held), *room);
+                let copy = chunk.clone();
+                let answer = compare::feed(record, chunk, tables, room)?;
+                if copy != *chunk {
+                    return Err("the chunk is altered".to_string());
+                }
+                self.after(chunk, answer, forge.is_some())
+            }
+            Call::Finish { room, forge } => {
+                let record = forged(self.record, *forge);
+                let answer = compare::finish(record, room_of(record.held.into(), *room))?;
+                self.after(&[], answer, forge.is_some())
+            }
+            Call::Encode {
+                encoding,
+                mode,
+                scalars,
+                tables,
+                flaw,
+                room,
+            } => {
+                let tables = self.lists.tables(*encoding, *tables, *flaw);
+                let whole = reference::encode(*encoding, *mode, scalars, tables, usize::MAX);
+                let room = room_of(whole.output.len(), *room);
+                Ok(compare::encode(*encoding, *mode, scalars, tables, room)?.refusal)
+            }
+        }
+    }
+
+    /// After a call on a forged record the list goes on with the record that was not forged.
+    fn after(&mut self, chunk: &[u8], answer: Answer, forged: bool) -> Result<u8, String> {
+        if !forged {
+            self.record = answer.record;
+            if matches!(answer.refusal, 0 | 11) {
+                self.taken.after(chunk, &answer.output, answer.record)?;
+            }
+        }
+        Ok(answer.refusal)
+    }
+}
+
 impl Lists {
-    /// Runs a list. After a call on a forged record the list goes on with the record that was not forged.
     fn run(&self, list: &[Call], counts: &mut Counts) -> Result<(), String> {
-        let mut record = compare::open(0, 0, 1)?.record;
-        let mut taken = Taken::default();
+        let mut place = Place {
+            lists: self,
+            record: compare::open(0, 0, 1)?.record,
+            taken: Taken::default(),
+        };
         for call in list {
-            let refusal = match call {
-                Call::Open {
-                    encoding,
-                    mode,
-                    rule,
-                } => {
-                    let answer = compare::open(*encoding, *mode, *rule)?;
-                    record = answer.record;
-                    taken = Taken {
-                        encoding: record.encoding,
-                        mode: record.mode,
-                        ..Taken::default()
-                    };
-                    answer.refusal
-                }
-                Call::Feed {
-                    chunk,
-                    tables,
-                    flaw,
-                    room,
-                    forge,
-                } => {
-                    let given = forged(record, *forge);
-                    let tables = self.tables(given.encoding, *tables, *flaw);
-                    let room = room_of(chunk.len() + usize::from(given.held), *room);
-                    let copy = chunk.clone();
-                    let answer = compare::feed(given, chunk, tables, room)?;
-                    if copy != *chunk {
-                        return Err("the chunk is altered".to_string());
-                    }
-                    counts.bytes += chunk.len();
-                    if forge.is_some() {
-                        counts.forged += 1;
-                    } else {
-                        record = answer.record;
-                        if matches!(answer.refusal, 0 | 11) {
-                            taken.after(chunk, &answer.output, record)?;
-                        }
-                    }
-                    answer.refusal
-                }
-                Call::Finish { room, forge } => {
-                    let given = forged(record, *forge);
-                    let answer = compare::finish(given, room_of(given.held.into(), *room))?;
-                    if forge.is_some() {
-                        counts.forged += 1;
-                    } else {
-                        record = answer.record;
-                        if matches!(answer.refusal, 0 | 11) {
-                            taken.after(&[], &answer.output, record)?;
-                        }
-                    }
-                    answer.refusal
-                }
-                Call::Encode {
-                    encoding,
-                    mode,
-                    scalars,
-                    tables,
-                    flaw,
-                    room,
-                } => {
-                    let tables = self.tables(*encoding, *tables, *flaw);
-                    let whole = reference::encode(*encoding, *mode, scalars, tables, usize::MAX);
-                    let room = room_of(whole.output.len(), *room);
-                    compare::encode(*encoding, *mode, scalars, tables, room)?.refusal
-                }
-            };
+            let refusal = place.call(call)?;
             counts.calls += 1;
             counts.refusals[usize::from(refusal)] += 1;
+            match call {
+                Call::Feed { chunk, forge, .. } => {
+                    counts.bytes += chunk.len();
+                    counts.forged += usize::from(forge.is_some());
+                }
+                Call::Finish { forge, .. } => counts.forged += usize::from(forge.is_some()),
+                _ => {}
+            }
         }
         Ok(())
     }

@@ -733,6 +733,7 @@ impl Decoder {
         }
     }
 
+    /// The library's record of this decoder, with the library's numbers for the states.
     fn record(&self) -> Record {
         let mut record = Record {
             encoding: self.encoding,
@@ -836,7 +837,7 @@ fn fits(encoding: u8, tables: Tables) -> bool {
     let lengths = match encoding {
         21 => (0, 0),
         1..=28 => (128, 0),
-        29 | 30 => return tables.first.len() == 23940 && second.is_multiple_of(2) && second <= 414,
+        29 | 30 => return tables.first.len() == 23940 && second % 2 == 0 && second <= 414,
         31 => (19782, 0),
         32 => (11280, 8836),
         33 | 34 => (11280, 0),
@@ -925,7 +926,7 @@ pub struct Encoded {
     pub index: usize,
 }
 
-/// The bytes of one scalar; null where the encoding has none.
+/// Writes the bytes of one scalar, where the encoding has any, and tells whether it has.
 fn encode_scalar(encoding: u8, scalar: u32, tables: Tables, output: &mut Vec<u8>) -> bool {
     if scalar < 0x80 {
         output.push(scalar as u8);
