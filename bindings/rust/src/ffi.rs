@@ -22,7 +22,7 @@ pub struct Line {
 }
 
 #[repr(C)]
-#[derive(Clone, Copy, Debug, PartialEq, Eq)]
+#[derive(Clone, Copy, Debug, Default, PartialEq, Eq)]
 pub struct Decoder {
     pub encoding: u8,
     pub mode: u8,

@@ -5,6 +5,7 @@
 mod compare;
 mod data;
 mod exhaustive;
+#[path = "../../../bindings/rust/src/ffi.rs"]
 mod ffi;
 mod lines;
 mod order;
