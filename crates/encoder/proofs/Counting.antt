@@ -1,6 +1,6 @@
 -- The loops over the scalars: what is counted, what is written, and what is left. Assumes nothing.
 use mathlib.Core.Path.{_≡_, refl, sym, ap, _∙_}
-use mathlib.Core.Bool.{Bool, true, false, not, _&&_, and-true}
+use mathlib.Core.Bool.{Bool, true, false, not, _&&_, and-true, and-false}
 use mathlib.Core.List.{List, [], _∷_, _++_, append-assoc, append-nil}
 use mathlib.Core.Option.{Option, some, none}
 use Prim.Native.Nat.{ℕ, zero, suc, _+_, _*_, _≤_, _<_}
@@ -9,14 +9,13 @@ use native.Mathlib.Omega.{arith}
 use lib.Dec.{leb, eqb}
 use lib.ListN.{length, take, drop, getD, length-append, take-append-drop, drop-of-length-le}
 use lib.Seq.{sets, sets-eq, length-sets, length-take-le, take-at, drop-at, drop-drop, drop-cons}
-use borrow.Author.Tests.{leb-true, le-leb}
-use Rattle.standard.specs.Base.{_then_else_, within, every, isScalar, scalars}
+use borrow.Author.Tests.{leb-true, le-leb, eq-eqb, ne-eqb}
+use Rattle.standard.specs.Base.{within, every, isScalar, scalars}
 use Rattle.standard.specs.Machine.{Result, reference}
-use Rattle.standard.proofs.Tests.{and-left, and-right, under, above}
-use Rattle.encoder.specs.Writer.{Writing, onward, unwritten, writing, Outcome, answerOf, write}
-use Rattle.encoder.specs.WriterCode.{listed, given, Gives, piece}
+use Rattle.standard.proofs.Tests.{split, and-left, and-right, under, above}
+use Rattle.encoder.specs.Writer.{bytesOf, Writing, onward, unwritten, writing, Outcome, answerOf, write}
+use Rattle.encoder.specs.WriterCode.{noScalar, Wrote}
 use Rattle.encoder.specs.declared.Written.{Written}
-use Rattle.encoder.specs.declared.scalar.Bytes.{Bytes}
 
 -- what holds of every element holds at each place
 every-at : (p : ℕ → Bool) (xs : List ℕ) (i : ℕ) → every p xs ≡ true → i < length xs → p (getD xs i 0) ≡ true
@@ -73,24 +72,19 @@ module _ (room : List ℕ) (o : ℕ) (us : List ℕ) (h : o + length us ≤ leng
   rest-of = rw (sets-eq us room o h) (drop-at (take o room ++ us) (drop (o + length us) room) (o + length us) whole-length)
 
 module _ (encode : ℕ → Result) (m : ℕ) where
-  module _ (c : ℕ) (cs : List ℕ) (b : Bytes) (g : Gives (encode c) b) where
-    writing-by : writing encode m (c ∷ cs) ≡ by m c (writing encode m cs) (given b)
+  -- the first scalar: its bytes, a reference, or the end
+  module _ (c : ℕ) (cs : List ℕ) where
+    pub first-bytes : {us : List ℕ} → bytesOf (encode c) ≡ some us → writing encode m (c ∷ cs) ≡ onward us (writing encode m cs)
     unfolding writing
-    writing-by = ap (by m c (writing encode m cs)) (sym (g .same))
+    first-bytes e = ap (by m c (writing encode m cs)) e
 
-    writing-stop : eqb m 1 && eqb (b .count) 0 ≡ true → writing encode m (c ∷ cs) ≡ stopped (some 0)
-    writing-stop h = writing-by ∙ rw (and-right (eqb m 1) (eqb (b .count) 0) h, and-left (eqb m 1) (eqb (b .count) 0) h)
+    pub first-reference : bytesOf (encode c) ≡ none → (m ≡ 1 → ⊥) → writing encode m (c ∷ cs) ≡ onward (reference c) (writing encode m cs)
+    unfolding writing
+    first-reference e n = ap (by m c (writing encode m cs)) e ∙ rw (ne-eqb m 1 n)
 
-    writing-on : eqb m 1 && eqb (b .count) 0 ≡ false → writing encode m (c ∷ cs) ≡ onward (piece b c) (writing encode m cs)
-    writing-on h = writing-by ∙ go (eqb m 1) (eqb (b .count) 0) h
-      where
-        go : (s t : Bool) → s && t ≡ false →
-            elim (_then_else_ {A = Option (List ℕ)} t none (some (listed b))) [ some bs ↦ onward bs (writing encode m cs) | none ↦ s then stopped (some 0) else onward (reference c) (writing encode m cs) ] ≡
-            onward (t then reference c else listed b) (writing encode m cs)
-        go true true h = let z : _≡_ {A = ℕ} 0 1 = cc in absurd (omega arith)
-        go false true h = refl
-        go true false h = refl
-        go false false h = refl
+    pub first-stop : bytesOf (encode c) ≡ none → m ≡ 1 → writing encode m (c ∷ cs) ≡ stopped (some 0)
+    unfolding writing
+    first-stop e h = ap (by m c (writing encode m cs)) e ∙ rw (eq-eqb m 1 h)
 
   module _ (cs : List ℕ) where
     front : (i : ℕ) → i < length cs → writing encode m (drop i cs) ≡ writing encode m (getD cs i 0 ∷ drop (i + 1) cs)
@@ -100,12 +94,19 @@ module _ (encode : ℕ → Result) (m : ℕ) where
     unfolding writing
     at-end i h = rw (drop-of-length-le cs h)
 
-    here-stop : (i : ℕ) (b : Bytes) → i < length cs → Gives (encode (getD cs i 0)) b → eqb m 1 && eqb (b .count) 0 ≡ true → writing encode m (drop i cs) ≡ stopped (some 0)
-    here-stop i b h g e = front i h ∙ writing-stop (getD cs i 0) (drop (i + 1) cs) b g e
+    -- these bytes are written of the scalar at i
+    abbrev pub Here : ℕ → List ℕ → Type 0
+    Here i us = writing encode m (drop i cs) ≡ onward us (writing encode m (drop (i + 1) cs))
 
-    here-on : (i : ℕ) (b : Bytes) → i < length cs → Gives (encode (getD cs i 0)) b → eqb m 1 && eqb (b .count) 0 ≡ false →
-        writing encode m (drop i cs) ≡ onward (piece b (getD cs i 0)) (writing encode m (drop (i + 1) cs))
-    here-on i b h g e = front i h ∙ writing-on (getD cs i 0) (drop (i + 1) cs) b g e
+    module _ (i : ℕ) (h : i < length cs) where
+      pub here-bytes : {us : List ℕ} → bytesOf (encode (getD cs i 0)) ≡ some us → Here i us
+      here-bytes e = front i h ∙ first-bytes (getD cs i 0) (drop (i + 1) cs) e
+
+      pub here-reference : bytesOf (encode (getD cs i 0)) ≡ none → (m ≡ 1 → ⊥) → Here i (reference (getD cs i 0))
+      here-reference e n = front i h ∙ first-reference (getD cs i 0) (drop (i + 1) cs) e n
+
+      pub here-stop : bytesOf (encode (getD cs i 0)) ≡ none → m ≡ 1 → writing encode m (drop i cs) ≡ stopped (some 0)
+      here-stop e n = front i h ∙ first-stop (getD cs i 0) (drop (i + 1) cs) e n
 
     -- Counting: n bytes before the scalar at i.
     pub record Counted (n i : ℕ) : Type 0 where
@@ -116,21 +117,17 @@ module _ (encode : ℕ → Result) (m : ℕ) where
     counted-start = record { bound = omega arith; same = omega arith }
 
     module _ (n i : ℕ) (s : Counted n i) where
-      counted-done : {u : Option ℕ} → writing encode m (drop i cs) ≡ stopped u → n ≡ length (writing encode m cs .bytes)
-      counted-done e = omega (arith, s .same, ap (λ (w : Writing). length (w .bytes)) e)
+      pub counted-stop : {u : Option ℕ} → writing encode m (drop i cs) ≡ stopped u → n ≡ length (writing encode m cs .bytes)
+      counted-stop e = omega (arith, s .same, ap (λ (w : Writing). length (w .bytes)) e)
 
       pub counted-end : length cs ≤ i → n ≡ length (writing encode m cs .bytes)
-      counted-end h = counted-done (at-end i h)
+      counted-end h = counted-stop (at-end i h)
 
-      module _ (h : i < length cs) (b : Bytes) (g : Gives (encode (getD cs i 0)) b) where
-        pub counted-stop : eqb m 1 && eqb (b .count) 0 ≡ true → n ≡ length (writing encode m cs .bytes)
-        counted-stop e = counted-done (here-stop i b h g e)
-
-        pub counted-on : eqb m 1 && eqb (b .count) 0 ≡ false → (r : ℕ) → r ≡ length (piece b (getD cs i 0)) → r ≤ 4294967300 → Counted (n + r) (i + 1)
-        counted-on e r p q = record {
-          bound = omega (arith, s .bound);
-          same = omega (arith, s .same, ap (λ (w : Writing). length (w .bytes)) (here-on i b h g e), length-append (piece b (getD cs i 0)) (writing encode m (drop (i + 1) cs) .bytes), p);
-        }
+      pub counted-on : (us : List ℕ) → Here i us → (r : ℕ) → r ≡ length us → r ≤ 4294967300 → Counted (n + r) (i + 1)
+      counted-on us e r p q = record {
+        bound = omega (arith, s .bound);
+        same = omega (arith, s .same, ap (λ (w : Writing). length (w .bytes)) e, length-append us (writing encode m (drop (i + 1) cs) .bytes), p);
+      }
 
     -- Writing: o bytes at the front of the room before the scalar at i, the rest of the room as it was.
     pub record Running (room₀ room : List ℕ) (i o : ℕ) : Type 0 where
@@ -149,53 +146,49 @@ module _ (encode : ℕ → Result) (m : ℕ) where
           let l : length (take o room) ≡ o = length-take-le o room (s .inside) in
           ap (λ (w : Writing). write w room₀) w ∙ rw (l, sym (s .rest), take-append-drop o room)
 
-      parts : {w : Outcome} {a : Written} {r : List ℕ} → w ≡ record { answer = a; room = r } → (a ≡ w .answer) × (r ≡ w .room)
-      parts e = (ap (λ (w : Outcome). w .answer) (sym e), ap (λ (w : Outcome). w .room) (sym e))
+      parts : {a : Written} → write (writing encode m cs) room₀ ≡ record { answer = a; room = room } → Wrote (writing encode m cs) room₀ a room
+      parts e = record { answers = ap (λ (w : Outcome). w .answer) (sym e); leaves = ap (λ (w : Outcome). w .room) (sym e) }
 
-      pub running-end : length cs ≤ i → (answerOf o none ≡ write (writing encode m cs) room₀ .answer) × (room ≡ write (writing encode m cs) room₀ .room)
+      pub running-end : length cs ≤ i → Wrote (writing encode m cs) room₀ (answerOf o none) room
       running-end h = parts (done (at-end i h))
 
-      module _ (h : i < length cs) (b : Bytes) (g : Gives (encode (getD cs i 0)) b) where
-        pub running-stop : eqb m 1 && eqb (b .count) 0 ≡ true → (answerOf o (some i) ≡ write (writing encode m cs) room₀ .answer) × (room ≡ write (writing encode m cs) room₀ .room)
-        running-stop e = let z : i + 0 ≡ i = omega arith in parts (rw z at (done (here-stop i b h g e)))
+      pub running-stop : writing encode m (drop i cs) ≡ stopped (some 0) → Wrote (writing encode m cs) room₀ (answerOf o (some i)) room
+      running-stop e = let z : i + 0 ≡ i = omega arith in parts (rw z at (done e))
 
-        module _ (e : eqb m 1 && eqb (b .count) 0 ≡ false) (l : length (writing encode m cs .bytes) ≤ length room₀) where
-          onto : writing encode m cs ≡ ahead (take o room ++ piece b (getD cs i 0)) (i + 1) (writing encode m (drop (i + 1) cs))
-          onto = s .same ∙ ap (ahead (take o room) i) (here-on i b h g e) ∙ ahead-onward (take o room) i (piece b (getD cs i 0)) (writing encode m (drop (i + 1) cs))
+      module _ (us : List ℕ) (e : Here i us) (l : length (writing encode m cs .bytes) ≤ length room₀) where
+        onto : writing encode m cs ≡ ahead (take o room ++ us) (i + 1) (writing encode m (drop (i + 1) cs))
+        onto = s .same ∙ ap (ahead (take o room) i) e ∙ ahead-onward (take o room) i us (writing encode m (drop (i + 1) cs))
 
-          pub running-room : o + length (piece b (getD cs i 0)) ≤ length room
-          running-room = omega (
-            arith,
-            l,
-            s .size,
-            ap (λ (w : Writing). length (w .bytes)) onto,
-            length-append (take o room ++ piece b (getD cs i 0)) (writing encode m (drop (i + 1) cs) .bytes),
-            length-append (take o room) (piece b (getD cs i 0)),
-            length-take-le o room (s .inside),
-          )
+        pub running-room : o + length us ≤ length room
+        running-room = omega (
+          arith,
+          l,
+          s .size,
+          ap (λ (w : Writing). length (w .bytes)) onto,
+          length-append (take o room ++ us) (writing encode m (drop (i + 1) cs) .bytes),
+          length-append (take o room) us,
+          length-take-le o room (s .inside),
+        )
 
-          pub running-on : (r : ℕ) (after : List ℕ) → r ≡ o + length (piece b (getD cs i 0)) → after ≡ sets room o (piece b (getD cs i 0)) → Running room₀ after (i + 1) r
-          running-on r after p q = rw (p, q) (record {
-            inside = omega (arith, running-room, length-sets room o (piece b (getD cs i 0)));
-            size = length-sets room o (piece b (getD cs i 0)) ∙ s .size;
-            same = onto ∙ ap (λ (xs : List ℕ). ahead xs (i + 1) (writing encode m (drop (i + 1) cs))) (sym (front-of room o (piece b (getD cs i 0)) running-room));
-            rest = rest-of room o (piece b (getD cs i 0)) running-room ∙ sym (drop-drop (length (piece b (getD cs i 0))) o room) ∙ ap (drop (length (piece b (getD cs i 0)))) (s .rest) ∙ drop-drop (length (piece b (getD cs i 0))) o room₀;
-          })
+        pub running-on : (r : ℕ) (after : List ℕ) → r ≡ o + length us → after ≡ sets room o us → Running room₀ after (i + 1) r
+        running-on r after p q = rw (p, q) (record {
+          inside = omega (arith, running-room, length-sets room o us);
+          size = length-sets room o us ∙ s .size;
+          same = onto ∙ ap (λ (xs : List ℕ). ahead xs (i + 1) (writing encode m (drop (i + 1) cs))) (sym (front-of room o us running-room));
+          rest = rest-of room o us running-room ∙ sym (drop-drop (length us) o room) ∙ ap (drop (length us)) (s .rest) ∙ drop-drop (length us) o room₀;
+        })
 
--- Are all of them scalars?
-module _ (cs : List ℕ) (i : ℕ) where
-  pub all-end : length cs ≤ i → true ≡ scalars (drop i cs)
+-- Are all of them scalars? The others are counted: n before the number at i.
+module _ (cs : List ℕ) (n i : ℕ) where
+  pub all-end : length cs ≤ i → eqb n 0 && scalars (drop i cs) ≡ scalars cs → eqb n 0 ≡ scalars cs
   unfolding every
-  all-end h = rw (drop-of-length-le cs h)
+  all-end h e = sym (and-true (eqb n 0)) ∙ rw (drop-of-length-le cs h) at e
 
-  module _ (h : i < length cs) where
-    pub all-not : isScalar (getD cs i 0) ≡ false → false ≡ scalars (drop i cs)
-    unfolding every
-    all-not e = rw (drop-cons cs i 0 h, e)
-
-    pub all-on : isScalar (getD cs i 0) ≡ true → scalars (drop (i + 1) cs) ≡ scalars (drop i cs)
-    unfolding every
-    all-on e = rw (add-one, drop-cons cs i 0 h, e)
+  pub all-on : i < length cs → (r : ℕ) → r ≡ noScalar (getD cs i 0) → eqb (n + r) 0 && scalars (drop (i + 1) cs) ≡ eqb n 0 && scalars (drop i cs)
+  unfolding every
+  all-on h r e = rw (e, add-one, drop-cons cs i 0 h) (split (isScalar (getD cs i 0))
+      (λ t. let z : n + 0 ≡ n = omega arith in rw (t, z))
+      (λ t. rw (t, ne-eqb (n + 1) 0 (λ z. omega arith), and-false (eqb n 0))))
 
 -- A scalar, by ranges.
 module _ (c : ℕ) where

@@ -1,7 +1,9 @@
 pub mod Tables
 pub mod Scalars
 pub mod Rooms
+pub mod Filling
 pub mod Counting
+pub mod Most
 pub mod Refusals
 pub mod Encoding
 pub mod Writing

@@ -14,7 +14,7 @@ use Rattle.standard.specs.Encoders.{encoder}
 use Rattle.standard.proofs.Tests.{split, or-case, and-left}
 use Rattle.encoder.specs.Writer.{Outcome, refuse, write, encoding}
 use Rattle.encoder.specs.declared.Written.{Written}
-use Rattle.encoder.specs.WriterCode.{writes, cellsOf, encoderOf, writingOf, refusalOf}
+use Rattle.encoder.specs.WriterCode.{writes, cellsOf, encoderOf, writingOf, Wrote, refusalOf}
 
 -- the encodings with a writer
 module _ {A : Type 0} (e : ℕ) (w : writes e ≡ true) where
@@ -120,9 +120,9 @@ module _ (e m : ℕ) (t : Tables) (cs room : List ℕ) where
     pub tells-refusal : (r ≡ 0 → ⊥) → (_≡_ {A = Written} (record { written = 0; index = 0; refusal = r }) (encoding e m t cs room .answer)) × (room ≡ encoding e m t cs room .room)
     tells-refusal n = let q = call-refused (λ z. n (p ∙ z)) in (rw p (ap (λ (o : Outcome). o .answer) (sym q)), ap (λ (o : Outcome). o .room) (sym q))
 
-    pub tells-written : r ≡ 0 → {a : Written} {after : List ℕ} → (a ≡ write (writingOf e m (t .first) cs) room .answer) × (after ≡ write (writingOf e m (t .first) cs) room .room) →
+    pub tells-written : r ≡ 0 → {a : Written} {after : List ℕ} → Wrote (writingOf e m (t .first) cs) room a after →
         (a ≡ encoding e m t cs room .answer) × (after ≡ encoding e m t cs room .room)
-    tells-written z w = let q = call-accepted (sym p ∙ z) in (w .0 ∙ ap (λ (o : Outcome). o .answer) (sym q), w .1 ∙ ap (λ (o : Outcome). o .room) (sym q))
+    tells-written z w = let q = call-accepted (sym p ∙ z) in (w .answers ∙ ap (λ (o : Outcome). o .answer) (sym q), w .leaves ∙ ap (λ (o : Outcome). o .room) (sym q))
 
 -- The refusals, one after the other.
 module _ (e m : ℕ) (t : Tables) (cs : List ℕ) (n : ℕ) where
@@ -165,11 +165,11 @@ module _ (e m : ℕ) (t : Tables) (cs : List ℕ) (n : ℕ) where
             unfolding refusalOf
             refused-10 h = rw (le-ltb 39 e h2, le-ltb 1 m h3, h9, fit, le-ltb 16384 (length cs) h8, h)
 
-            module _ (h10 : scalars cs ≡ true) (k : ℕ) (z : k ≡ length (writingOf e m (t .first) cs .bytes)) where
-              pub refused-7 : n < k → 7 ≡ refusalOf e m t cs n
+            module _ (h10 : scalars cs ≡ true) (r : Bool) (z : r ≡ ltb n (length (writingOf e m (t .first) cs .bytes))) where
+              pub refused-7 : r ≡ true → 7 ≡ refusalOf e m t cs n
               unfolding refusalOf
-              refused-7 h = rw (le-ltb 39 e h2, le-ltb 1 m h3, h9, fit, le-ltb 16384 (length cs) h8, h10, sym z, lt-ltb n k h)
+              refused-7 h = rw (le-ltb 39 e h2, le-ltb 1 m h3, h9, fit, le-ltb 16384 (length cs) h8, h10, sym z, h)
 
-              pub refused-not : k ≤ n → 0 ≡ refusalOf e m t cs n
+              pub refused-not : r ≡ false → 0 ≡ refusalOf e m t cs n
               unfolding refusalOf
-              refused-not h = rw (le-ltb 39 e h2, le-ltb 1 m h3, h9, fit, le-ltb 16384 (length cs) h8, h10, sym z, le-ltb n k h)
+              refused-not h = rw (le-ltb 39 e h2, le-ltb 1 m h3, h9, fit, le-ltb 16384 (length cs) h8, h10, sym z, h)

@@ -1,18 +1,16 @@
 -- Bytes written into a room: those of a scalar, and the digits of a reference. Assumes nothing.
 use mathlib.Core.Path.{_≡_, refl, sym, ap, _∙_}
 use mathlib.Core.List.{List, [], _∷_, _++_}
-use Prim.Native.Nat.{ℕ, zero, suc, _+_, _/_, _%_, _≤_, _<_}
+use Prim.Native.Nat.{ℕ, zero, suc, _+_, _*_, _/_, _%_, _≤_, _<_}
 use native.Mathlib.Nat.{add-zero}
 use native.Mathlib.Numerals.{add-one}
 use native.Mathlib.Omega.{arith}
 use lib.Dec.{ltb}
 use lib.ListN.{length, set, length-append}
-use lib.Seq.{sets, length-take-le}
-use borrow.Author.Tests.{ltb-true, ltb-false, lt-ltb, le-ltb, eq-eqb, ne-eqb}
+use lib.Seq.{sets}
+use borrow.Author.Tests.{ltb-true, ltb-false, lt-ltb, le-ltb}
 use Rattle.standard.specs.Machine.{digits, reference}
 use Rattle.standard.proofs.Tests.{split}
-use Rattle.encoder.specs.WriterCode.{listed, piece}
-use Rattle.encoder.specs.declared.scalar.Bytes.{Bytes}
 
 -- Digits: any count of turns that suffices gives the same.
 digits-one : (n c : ℕ) → c < 10 → digits n c ≡ (0x30 + c) ∷ []
@@ -47,6 +45,22 @@ digits-more-length c h r e = rw (digits-more c h, length-append) (omega (arith, 
 pub reference-length : (c : ℕ) → length (reference c) ≡ length (digits c c) + 3
 unfolding reference
 reference-length c = omega (arith, length-append (digits c c) (0x3B ∷ []))
+
+-- a number has at most seven digits below 10,000,000
+tens : ℕ → ℕ
+tens zero = 10
+tens (suc k) = 10 * tens k
+
+digits-below : (k c : ℕ) → c < tens k → length (digits c c) ≤ suc k
+unfolding tens
+digits-below zero c h = omega (arith, digits-one-length c h)
+digits-below (suc k) c h = split (ltb c 10)
+    (λ e. omega (arith, digits-one-length c (ltb-true c 10 e)))
+    (λ e. omega (arith, digits-more-length c (ltb-false c 10 e) (length (digits (c / 10) (c / 10))) refl, digits-below k (c / 10) (omega arith)))
+
+pub reference-most : (c : ℕ) → c ≤ 0x10FFFF → length (reference c) ≤ 10
+unfolding tens
+reference-most c h = omega (arith, reference-length c, digits-below 6 c (omega arith))
 
 -- Stores one after the other.
 pub sets-append : (l : List ℕ) (i : ℕ) (us vs : List ℕ) → sets l i (us ++ vs) ≡ sets (sets l i us) (i + length us) vs
@@ -84,24 +98,14 @@ module _ (room : List ℕ) (at : ℕ) where
       places = let two : at + 2 ≡ suc (suc at) = omega arith in rw (two, add-one)
 
   -- the bytes of a scalar
-  module _ (b : Bytes) where
-    pub put-one : b .count ≡ 1 → (at + 1 ≡ at + length (listed b)) × (set room at (b .first) ≡ sets room at (listed b))
-    put-one h = rw h (refl, refl)
+  pub put-one : (u : ℕ) → (at + 1 ≡ at + length (u ∷ [])) × (set room at u ≡ sets room at (u ∷ []))
+  put-one u = (refl, refl)
 
-    pub put-two : b .count ≡ 2 → (at + 2 ≡ at + length (listed b)) × (set (set room at (b .first)) (at + 1) (b .second) ≡ sets room at (listed b))
-    put-two h = rw h (refl, rw add-one refl)
+  pub put-two : (u v : ℕ) → (at + 2 ≡ at + length (u ∷ v ∷ [])) × (set (set room at u) (at + 1) v ≡ sets room at (u ∷ v ∷ []))
+  put-two u v = (refl, rw add-one refl)
 
-    pub put-three : b .count ≡ 3 → (at + 3 ≡ at + length (listed b)) × (set (set (set room at (b .first)) (at + 1) (b .second)) (at + 2) (b .third) ≡ sets room at (listed b))
-    put-three h = let two : at + 2 ≡ suc (suc at) = omega arith in rw h (refl, rw (two, add-one) refl)
+  pub put-three : (u v w : ℕ) → (at + 3 ≡ at + length (u ∷ v ∷ w ∷ [])) × (set (set (set room at u) (at + 1) v) (at + 2) w ≡ sets room at (u ∷ v ∷ w ∷ []))
+  put-three u v w = let two : at + 2 ≡ suc (suc at) = omega arith in (refl, rw (two, add-one) refl)
 
-    pub put-four : b .count ≡ 4 → (at + 4 ≡ at + length (listed b)) × (set (set (set (set room at (b .first)) (at + 1) (b .second)) (at + 2) (b .third)) (at + 3) (b .fourth) ≡ sets room at (listed b))
-    put-four h = let two : at + 2 ≡ suc (suc at) = omega arith in let three : at + 3 ≡ suc (suc (suc at)) = omega arith in rw h (refl, rw (three, two, add-one) refl)
-
-pub listed-length : (b : Bytes) → b .count ≤ 4 → length (listed b) ≡ b .count
-listed-length b h = length-take-le (b .count) _ h
-
-pub piece-bytes : (b : Bytes) (c : ℕ) → (b .count ≡ 0 → ⊥) → piece b c ≡ listed b
-piece-bytes b c h = rw (ne-eqb (b .count) 0 h)
-
-pub piece-reference : (b : Bytes) (c : ℕ) → b .count ≡ 0 → piece b c ≡ reference c
-piece-reference b c h = rw (eq-eqb (b .count) 0 h)
+  pub put-four : (u v w x : ℕ) → (at + 4 ≡ at + length (u ∷ v ∷ w ∷ x ∷ [])) × (set (set (set (set room at u) (at + 1) v) (at + 2) w) (at + 3) x ≡ sets room at (u ∷ v ∷ w ∷ x ∷ []))
+  put-four u v w x = let two : at + 2 ≡ suc (suc at) = omega arith in let three : at + 3 ≡ suc (suc (suc at)) = omega arith in (refl, rw (three, two, add-one) refl)

@@ -5,40 +5,92 @@ use mathlib.Core.List.{List, [], _∷_, _++_}
 use mathlib.Core.Option.{Option, some, none}
 use Prim.Native.Nat.{ℕ, zero, suc, _+_, _-_, _/_, _%_, _≤_, _<_}
 use native.Mathlib.Omega.{arith}
-use lib.Dec.{eqb}
+use lib.Dec.{ltb, leb, eqb}
 use lib.ListN.{length}
-use borrow.Author.Tests.{lt-ltb, le-ltb, le-leb, lt-leb, eqb-true, eqb-false, eq-eqb, ne-eqb}
-use Rattle.standard.specs.Base.{within, every, mapped}
+use borrow.Author.Tests.{ltb-true, ltb-false, lt-ltb, le-ltb, le-leb, lt-leb, eqb-true, eqb-false, eq-eqb, ne-eqb}
+use Rattle.standard.specs.Base.{_then_else_, within, every, mapped}
 use Rattle.standard.specs.Indexes.{indexPointer, pointerFrom, irregular, countFrom, windows1252}
 use Rattle.standard.specs.Machine.{Result, tokens, error-with}
 use Rattle.standard.specs.Encoders.{utf8-following, utf8-bytes, utf8-encode, orErrorWith, single-encode, user-encode}
 use Rattle.standard.proofs.Tests.{split, and-left, and-right, under, above}
-use Rattle.encoder.specs.WriterCode.{Gives, encoderOf}
-use Rattle.encoder.specs.declared.scalar.Bytes.{Bytes}
+use Rattle.encoder.specs.Writer.{bytesOf}
+use Rattle.encoder.specs.WriterCode.{given, utf8Of, encoderOf}
 use Rattle.encoder.proofs.Tables.{table-rule}
 
--- the same bytes, for an equal answer
-pub gives-as : {r q : Result} {b : Bytes} → Gives r b → r ≡ q → Gives q b
-gives-as g e = record { few = g .few; same = g .same ∙ rw e }
+-- the byte of an answer, or none
+pub given-byte : {r : Result} (b : ℕ) → b < 256 → tokens (b ∷ []) ≡ r → given b ≡ bytesOf r
+given-byte b h e = rw (lt-ltb b 256 h) (ap bytesOf e)
+
+pub given-none : {r : Result} (c : ℕ) → error-with c ≡ r → given 256 ≡ bytesOf r
+given-none c e = ap bytesOf e
+
+-- what an answer's byte says of its bytes
+pub byte-some : {o : Option (List ℕ)} (b : ℕ) → b < 256 → given b ≡ o → o ≡ some (b ∷ [])
+byte-some b h e = sym e ∙ rw (lt-ltb b 256 h)
+
+pub byte-none : {o : Option (List ℕ)} (b : ℕ) → 256 ≤ b → given b ≡ o → o ≡ none
+byte-none b h e = sym e ∙ rw (le-ltb b 256 h)
 
 -- UTF-8
 module _ (c : ℕ) where
-  pub utf8-one : c < 0x80 → tokens (c ∷ []) ≡ utf8-encode c
+  pub utf8-some : bytesOf (utf8-encode c) ≡ some (utf8Of c)
   unfolding utf8-encode
+  utf8-some = go (ltb c 0x80) (leb c 0x7FF) (leb c 0xFFFF)
+    where
+      go : (s t u : Bool) → bytesOf (s then tokens (c ∷ []) else t then tokens (utf8-bytes 1 0xC0 c) else u then tokens (utf8-bytes 2 0xE0 c) else tokens (utf8-bytes 3 0xF0 c)) ≡
+          some (s then c ∷ [] else t then utf8-bytes 1 0xC0 c else u then utf8-bytes 2 0xE0 c else utf8-bytes 3 0xF0 c)
+      go true t u = refl
+      go false true u = refl
+      go false false true = refl
+      go false false false = refl
+
+  pub utf8-one : c < 0x80 → c ∷ [] ≡ utf8Of c
   utf8-one h = rw (lt-ltb c 0x80 h)
 
-  pub utf8-two : 0x80 ≤ c → c ≤ 0x7FF → (s : ℕ) → s ≡ 0x80 + c % 64 → Gives (utf8-encode c) (record { count = 2; first = c / 64 + 0xC0; second = s; third = 0; fourth = 0 })
-  unfolding utf8-encode utf8-bytes utf8-following
-  utf8-two h g s e = let f : s ≡ 0x80 + c / 1 % 64 = omega arith in record { few = omega arith; same = rw (le-ltb c 0x80 h, le-leb c 0x7FF g, f) }
+  pub utf8-two : 0x80 ≤ c → c ≤ 0x7FF → (s : ℕ) → s ≡ 0x80 + c % 64 → (c / 64 + 0xC0) ∷ s ∷ [] ≡ utf8Of c
+  unfolding utf8-bytes utf8-following
+  utf8-two h g s e = let f : s ≡ 0x80 + c / 1 % 64 = omega arith in rw (le-ltb c 0x80 h, le-leb c 0x7FF g, f)
 
-  pub utf8-three : 0x7FF < c → c ≤ 0xFFFF → (s t : ℕ) → s ≡ 0x80 + c / 64 % 64 → t ≡ 0x80 + c % 64 → Gives (utf8-encode c) (record { count = 3; first = c / 4096 + 0xE0; second = s; third = t; fourth = 0 })
-  unfolding utf8-encode utf8-bytes utf8-following
-  utf8-three h g s t e d = let f : t ≡ 0x80 + c / 1 % 64 = omega arith in record { few = omega arith; same = rw (le-ltb c 0x80 (omega arith), lt-leb c 0x7FF h, le-leb c 0xFFFF g, e, f) }
+  pub utf8-three : 0x7FF < c → c ≤ 0xFFFF → (s t : ℕ) → s ≡ 0x80 + c / 64 % 64 → t ≡ 0x80 + c % 64 → (c / 4096 + 0xE0) ∷ s ∷ t ∷ [] ≡ utf8Of c
+  unfolding utf8-bytes utf8-following
+  utf8-three h g s t e d = let f : t ≡ 0x80 + c / 1 % 64 = omega arith in rw (le-ltb c 0x80 (omega arith), lt-leb c 0x7FF h, le-leb c 0xFFFF g, e, f)
 
-  pub utf8-four : 0xFFFF < c → (s t u : ℕ) → s ≡ 0x80 + c / 4096 % 64 → t ≡ 0x80 + c / 64 % 64 → u ≡ 0x80 + c % 64 →
-      Gives (utf8-encode c) (record { count = 4; first = c / 262144 + 0xF0; second = s; third = t; fourth = u })
-  unfolding utf8-encode utf8-bytes utf8-following
-  utf8-four h s t u e d k = let f : u ≡ 0x80 + c / 1 % 64 = omega arith in record { few = omega arith; same = rw (le-ltb c 0x80 (omega arith), lt-leb c 0x7FF (omega arith), lt-leb c 0xFFFF h, e, d, f) }
+  pub utf8-four : 0xFFFF < c → (s t u : ℕ) → s ≡ 0x80 + c / 4096 % 64 → t ≡ 0x80 + c / 64 % 64 → u ≡ 0x80 + c % 64 → (c / 262144 + 0xF0) ∷ s ∷ t ∷ u ∷ [] ≡ utf8Of c
+  unfolding utf8-bytes utf8-following
+  utf8-four h s t u e d k = let f : u ≡ 0x80 + c / 1 % 64 = omega arith in rw (le-ltb c 0x80 (omega arith), lt-leb c 0x7FF (omega arith), lt-leb c 0xFFFF h, e, d, f)
+
+  -- how many bytes
+  pub utf8-one-length : c < 0x80 → 1 ≡ length (utf8Of c)
+  utf8-one-length h = ap length (utf8-one h)
+
+  pub utf8-two-length : 0x80 ≤ c → c ≤ 0x7FF → 2 ≡ length (utf8Of c)
+  utf8-two-length h g = ap length (utf8-two h g (0x80 + c % 64) refl)
+
+  pub utf8-three-length : 0x7FF < c → c ≤ 0xFFFF → 3 ≡ length (utf8Of c)
+  utf8-three-length h g = ap length (utf8-three h g (0x80 + c / 64 % 64) (0x80 + c % 64) refl refl)
+
+  pub utf8-four-length : 0xFFFF < c → 4 ≡ length (utf8Of c)
+  utf8-four-length h = ap length (utf8-four h (0x80 + c / 4096 % 64) (0x80 + c / 64 % 64) (0x80 + c % 64) refl refl refl)
+
+  -- and by the three tests
+  test-below : (n x : ℕ) → c < n → x ≡ (ltb c n then 0 else 1) → x ≡ 0
+  test-below n x h e = e ∙ rw (lt-ltb c n h)
+
+  test-from : (n x : ℕ) → n ≤ c → x ≡ (ltb c n then 0 else 1) → x ≡ 1
+  test-from n x h e = e ∙ rw (le-ltb c n h)
+
+  pub utf8-size : (s t u : ℕ) → s ≡ (ltb c 0x80 then 0 else 1) → t ≡ (ltb c 0x800 then 0 else 1) → u ≡ (ltb c 0x10000 then 0 else 1) → 1 + s + t + u ≡ length (utf8Of c)
+  utf8-size s t u e d k =
+      split (ltb c 0x80) (λ h. let l : c < 0x80 = ltb-true c 0x80 h in
+      omega (arith, utf8-one-length l, test-below 0x80 s l e, test-below 0x800 t (omega arith) d, test-below 0x10000 u (omega arith) k)) (λ h.
+      let l : 0x80 ≤ c = ltb-false c 0x80 h in
+      split (ltb c 0x800) (λ g. let m : c < 0x800 = ltb-true c 0x800 g in
+      omega (arith, utf8-two-length l (omega arith), test-from 0x80 s l e, test-below 0x800 t m d, test-below 0x10000 u (omega arith) k)) (λ g.
+      let m : 0x800 ≤ c = ltb-false c 0x800 g in
+      split (ltb c 0x10000) (λ f. let n : c < 0x10000 = ltb-true c 0x10000 f in
+      omega (arith, utf8-three-length (omega arith) (omega arith), test-from 0x80 s l e, test-from 0x800 t m d, test-below 0x10000 u n k)) (λ f.
+      let n : 0x10000 ≤ c = ltb-false c 0x10000 f in
+      omega (arith, utf8-four-length (omega arith), test-from 0x80 s l e, test-from 0x800 t m d, test-from 0x10000 u n k))))
 
 -- single-byte
 module _ (table : List ℕ) (c : ℕ) where
@@ -129,6 +181,17 @@ module _ (c : ℕ) where
       let e : indexPointer windows1252 c ≡ some (32 + (c - 0xA0)) = windows-pointer ∙ rw (irregular-none r) (counted-self 32 0xA0 96 c m h (omega arith)) in
       let z : 32 + (c - 0xA0) + 0x80 ≡ c = omega arith in
       rw (le-ltb c 0x80 (omega arith), e, z)
+
+  -- what is found among the irregular ones
+  pub windows-more : (bs : List ℕ) → bytesOf (single-encode irregular c) ≡ some bs → bytesOf (single-encode windows1252 c) ≡ some bs
+  unfolding single-encode or
+  windows-more bs e = split (ltb c 0x80)
+      (λ h. rw h (rw h at e))
+      (λ h. rw (h, windows-pointer) (go (indexPointer irregular c) (pointerFrom 32 (countFrom 0xA0 96) c) (rw h at e)))
+    where
+      go : (o x : Option ℕ) → bytesOf (orErrorWith o c) ≡ some bs → bytesOf (orErrorWith (or o x) c) ≡ some bs
+      go (some p) x e = e
+      go none x e = let z : _≡_ {A = ℕ} 0 1 = cc in absurd (omega arith)
 
   -- x-user-defined
   pub user-one : c < 0x80 → tokens (c ∷ []) ≡ user-encode c

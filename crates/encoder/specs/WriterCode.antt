@@ -1,35 +1,34 @@
--- What the code's values stand for: the bytes of one scalar, the encoder of an encoding number, and the refusal of a call. Assumes nothing.
+-- What the code's values stand for: the bytes of one scalar, the encoder of an encoding number, what a call wrote, and its refusal. Assumes nothing.
 use mathlib.Core.Path.{_≡_}
 use mathlib.Core.Bool.{Bool, not, _||_}
 use mathlib.Core.List.{List, [], _∷_}
 use mathlib.Core.Option.{Option, some, none}
-use Prim.Native.Nat.{ℕ, _≤_}
+use Prim.Native.Nat.{ℕ, _+_, _*_, _/_, _%_}
 use lib.Dec.{ltb, leb, eqb}
-use lib.ListN.{length, take}
-use Rattle.standard.specs.Base.{_then_else_, scalars}
+use lib.ListN.{length, getD, set}
+use Rattle.standard.specs.Base.{_then_else_, isScalar, scalars, mapped}
 use Rattle.standard.specs.Encodings.{family, Tables, fits}
 use Rattle.standard.specs.Indexes.{windows1252}
-use Rattle.standard.specs.Machine.{Result, reference}
-use Rattle.standard.specs.Encoders.{utf8-encode, single-encode, user-encode}
-use Rattle.encoder.specs.Writer.{bytesOf, Writing, writing}
-use Rattle.encoder.specs.declared.scalar.Bytes.{Bytes}
+use Rattle.standard.specs.Machine.{Result}
+use Rattle.standard.specs.Encoders.{utf8-bytes, utf8-encode, single-encode, user-encode}
+use Rattle.encoder.specs.Writer.{bytesOf, Writing, writing, write}
+use Rattle.encoder.specs.declared.Written.{Written}
 
--- The bytes that are there.
-abbrev pub listed : Bytes → List ℕ
-listed b = take (b .count) (b .first ∷ b .second ∷ b .third ∷ b .fourth ∷ [])
+-- 1 for a number that is no scalar, else 0.
+abbrev pub noScalar : ℕ → ℕ
+noScalar c = isScalar c then 0 else 1
 
--- No bytes: an unwritable scalar.
-abbrev pub given : Bytes → Option (List ℕ)
-given b = eqb (b .count) 0 then none else some (listed b)
+-- A byte, or none from 256 on: an unwritable scalar.
+abbrev pub given : ℕ → Option (List ℕ)
+given b = ltb b 256 then some (b ∷ []) else none
 
--- The bytes are those of an encoder's answer.
-pub record Gives (r : Result) (b : Bytes) : Type 0 where
-  pub few : b .count ≤ 4
-  pub same : given b ≡ bytesOf r
-
--- What is written of a scalar where writing goes on: its bytes, or a reference.
-abbrev pub piece : Bytes → ℕ → List ℕ
-piece b c = eqb (b .count) 0 then reference c else listed b
+-- The bytes of a scalar in UTF-8.
+abbrev pub utf8Of : ℕ → List ℕ
+utf8Of c =
+    ltb c 0x80 then c ∷ [] else
+    leb c 0x7FF then utf8-bytes 1 0xC0 c else
+    leb c 0xFFFF then utf8-bytes 2 0xE0 c else
+    utf8-bytes 3 0xF0 c
 
 -- Is there a writer for this encoding?
 abbrev pub writes : ℕ → Bool
@@ -43,6 +42,14 @@ encoderOf e table =
     leb e 28 then single-encode table else
     user-encode
 
+-- Every slot holds a scalar, times 256, and its byte.
+pub record Slots (encode : ℕ → Result) (slots : List ℕ) : Type 0 where
+  pub right : (k : ℕ) → bytesOf (encode (getD slots k 0 / 256)) ≡ some (getD slots k 0 % 256 ∷ [])
+
+-- The cell at a pointer put into its slot, where it counts as mapped.
+abbrev pub entered : List ℕ → ℕ → ℕ → List ℕ
+entered slots c p = mapped c then set slots (c % 2048) (c * 256 + (p + 0x80)) else slots
+
 -- The cells of its first table; its second is empty.
 abbrev pub cellsOf : ℕ → ℕ
 cellsOf e = eqb e 0 then 0 else eqb e 21 then 0 else leb e 28 then 128 else 0
@@ -50,6 +57,15 @@ cellsOf e = eqb e 0 then 0 else eqb e 21 then 0 else leb e 28 then 128 else 0
 -- What such an encoding writes of some scalars.
 abbrev pub writingOf : ℕ → ℕ → List ℕ → List ℕ → Writing
 writingOf e m table cs = writing (encoderOf e table) m cs
+
+-- The most bytes that such an encoding writes of one scalar.
+abbrev pub mostOf : ℕ → ℕ → ℕ
+mostOf e m = eqb e 0 then 4 else eqb m 1 then 1 else 10
+
+-- A writing, put into a room: the answer and the room afterwards.
+pub record Wrote (w : Writing) (room : List ℕ) (answer : Written) (after : List ℕ) : Type 0 where
+  pub answers : answer ≡ write w room .answer
+  pub leaves : after ≡ write w room .room
 
 -- The refusal of a call with so many bytes of room, or 0: 2, 3, 9, 4, 8, 10, 7.
 unfoldable pub refusalOf : ℕ → ℕ → Tables → List ℕ → ℕ → ℕ

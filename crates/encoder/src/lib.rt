@@ -1,7 +1,10 @@
 // Writing: document 01, "Writing rules" and "Refusal numbers".
 
-mod pieces;
+mod references;
 mod scalar;
+mod slots;
+mod space;
+mod utf8;
 
 // The refusal number of document 01 or 0, the bytes written, and with report 11 the index of the unwritable scalar (else 0).
 #[repr(C)]
@@ -13,50 +16,60 @@ pub struct Written {
 
 ghost use mathlib.Core.Path.{_≡_};
 ghost use mathlib.Core.Bool.{true};
+ghost use mathlib.Core.Option.{none};
 ghost use Prim.Native.Nat.{_≤_};
 ghost use lib.ListN.{length};
 ghost use Rattle.standard.specs.Base.{isScalar, scalars as areScalars};
 ghost use Rattle.standard.specs.Encodings.{lent};
-ghost use Rattle.encoder.specs.Writer.{write, encoding as outcome};
-ghost use Rattle.encoder.specs.WriterCode.{writes, cellsOf, writingOf, refusalOf};
+ghost use Rattle.standard.specs.Encoders.{utf8-encode};
+ghost use Rattle.encoder.specs.Writer.{writing, answerOf, encoding as outcome};
+ghost use Rattle.encoder.specs.WriterCode.{noScalar, writes, cellsOf, encoderOf, Slots, writingOf, refusalOf, Wrote};
 
-// How many bytes are written of the scalars.
-fn count(encoding: u8, mode: u8, scalars: &[u32], table: &[u32]) -> usize
-    requires { ⌜ (areScalars (now scalars) ≡ true) × (length (now scalars) ≤ 16384) × (length (now table) ≤ 128) ⌝ }
-    ensures { λ r. ⌜ r ≡ length (writingOf encoding mode (now (table .entry)) (now (scalars .entry)) .bytes) ⌝ }
+// The scalars written in UTF-8 into a room that has space for all their bytes; how many bytes.
+fn write_utf8(scalars: &[u32], room: &mut [u8]) -> usize
+    requires { ⌜ (areScalars (now scalars) ≡ true) × (length (writing utf8-encode 0 (now scalars) .bytes) ≤ length (now room)) ⌝ }
+    ensures { λ r. ⌜ Wrote (writing utf8-encode 0 (now (scalars .entry))) (now (room .entry)) (answerOf r none) (now (room .exit)) ⌝ }
 {
-    let mut n: usize = 0;
+    let mut o: usize = 0;
     let mut i: usize = 0;
     while i < scalars.len() {
-        let c = scalars[i];
-        let b = scalar::bytes_of(encoding, table, c);
-        if pieces::stops(mode, b) {
-            return n;
-        }
-        n += pieces::size(b, c);
+        o = utf8::put(room, o, scalars[i]);
         i += 1;
     }
-    n
+    o
 }
 
-// The scalars written into a room that has space for all their bytes.
-fn write(encoding: u8, mode: u8, scalars: &[u32], table: &[u32], room: &mut [u8]) -> Written
-    requires { ⌜ (areScalars (now scalars) ≡ true) × (length (now table) ≤ 128) × (length (writingOf encoding mode (now table) (now scalars) .bytes) ≤ length (now room)) ⌝ }
-    ensures { λ r. ⌜ (r ≡ write (writingOf encoding mode (now (table .entry)) (now (scalars .entry))) (now (room .entry)) .answer) × (now (room .exit) ≡ write (writingOf encoding mode (now (table .entry)) (now (scalars .entry))) (now (room .entry)) .room) ⌝ }
+// The scalars written by one byte each, or a reference, into a room that has space for all.
+fn write_single_byte(
+    encoding: u8,
+    mode: u8,
+    scalars: &[u32],
+    table: &[u32],
+    slots: &[u32],
+    room: &mut [u8],
+) -> Written
+    requires { ⌜ (1 ≤ encoding) × (length (now table) ≤ 128) × Slots (encoderOf encoding (now table)) (now slots) × (length (writingOf encoding mode (now table) (now scalars) .bytes) ≤ length (now room)) ⌝ }
+    ensures { λ r. ⌜ Wrote (writingOf encoding mode (now (table .entry)) (now (scalars .entry))) (now (room .entry)) r (now (room .exit)) ⌝ }
 {
     let mut o: usize = 0;
     let mut i: usize = 0;
     while i < scalars.len() {
         let c = scalars[i];
-        let b = scalar::bytes_of(encoding, table, c);
-        if pieces::stops(mode, b) {
+        let b = slots::byte_of(encoding, table, slots, c);
+        if b < 256 {
+            room[o] = b as u8;
+            o += 1;
+            i += 1;
+            continue;
+        }
+        if mode == 1 {
             return Written {
                 written: o,
                 index: i,
                 refusal: 11,
             };
         }
-        o = pieces::put(room, o, b, c);
+        o = references::put(room, o, c);
         i += 1;
     }
     Written {
@@ -64,6 +77,27 @@ fn write(encoding: u8, mode: u8, scalars: &[u32], table: &[u32], room: &mut [u8]
         index: 0,
         refusal: 0,
     }
+}
+
+// The scalars written into a room that has space for all their bytes.
+fn write(encoding: u8, mode: u8, scalars: &[u32], table: &[u32], room: &mut [u8]) -> Written
+    requires { ⌜ (areScalars (now scalars) ≡ true) × (length (now table) ≤ 128) × (length (writingOf encoding mode (now table) (now scalars) .bytes) ≤ length (now room)) ⌝ }
+    ensures { λ r. ⌜ Wrote (writingOf encoding mode (now (table .entry)) (now (scalars .entry))) (now (room .entry)) r (now (room .exit)) ⌝ }
+{
+    if encoding == 0 {
+        let written = write_utf8(scalars, room);
+        return Written {
+            written,
+            index: 0,
+            refusal: 0,
+        };
+    }
+    if scalars.len() < slots::least(encoding) {
+        return write_single_byte(encoding, mode, scalars, table, &table[0..0], room);
+    }
+    let mut slots = [0u32; 2048];
+    slots::fill(encoding, table, &mut slots);
+    write_single_byte(encoding, mode, scalars, table, &slots, room)
 }
 
 fn is_scalar(c: u32) -> bool
@@ -78,17 +112,28 @@ fn is_scalar(c: u32) -> bool
     c <= 0x10FFFF
 }
 
+// 1 for a number that is no scalar, else 0.
+fn no_scalar(c: u32) -> u32
+    ensures { λ r. ⌜ (r ≡ noScalar c) × (r ≤ 1) ⌝ }
+{
+    if is_scalar(c) {
+        return 0;
+    }
+    1
+}
+
+// Are all of them scalars? The others are counted: a loop with no return in it takes several numbers at once.
 fn all_scalars(scalars: &[u32]) -> bool
+    requires { ⌜ length (now scalars) ≤ 16384 ⌝ }
     ensures { λ r. ⌜ r ≡ areScalars (now (scalars .entry)) ⌝ }
 {
+    let mut others: u32 = 0;
     let mut i: usize = 0;
     while i < scalars.len() {
-        if !is_scalar(scalars[i]) {
-            return false;
-        }
+        others += no_scalar(scalars[i]);
         i += 1;
     }
-    true
+    others == 0
 }
 
 // Is there a writer for this encoding?
@@ -142,7 +187,7 @@ fn refusal(encoding: u8, mode: u8, scalars: &[u32], t1: &[u32], t2: &[u32], room
     if !all_scalars(scalars) {
         return 10;
     }
-    if room < count(encoding, mode, scalars, t1) {
+    if space::lacks(encoding, mode, scalars, t1, room) {
         return 7;
     }
     0

@@ -1,64 +1,61 @@
-use Rattle.encoder.proofs.Counting.{all-end, all-not, all-on}
+use Rattle.encoder.proofs.Counting.{all-end, all-on}
 use Rattle.standard.specs.Base.{scalars as areScalars}
-use borrow.Author.Tests.{not-true, not-false}
+use mathlib.Core.Path.{_≡_, refl, _∙_}
+use mathlib.Core.Bool.{_&&_}
+use lib.Dec.{eqb}
 use lib.ListN.{length, drop}
-use Prim.Native.Nat.{_-_}
-use mathlib.Core.Path.{_≡_, refl, sym, _∙_}
+use Prim.Native.Nat.{_-_, _≤_}
+use native.Mathlib.Omega.{arith}
 use borrow.Author.Needs.{needs}
 use Rattle.encoder.proofs.all_scalars.Statement.{statement}
 use Rattle.encoder.proofs.all_scalars.Tie as tie
 
 abbrev Inv-loop : tie.InvT-loop
-Inv-loop scalars i₀ i = areScalars (drop i scalars) ≡ areScalars scalars
+Inv-loop scalars others₀ i₀ others i = (others ≤ i) × (eqb others 0 && areScalars (drop i scalars) ≡ areScalars scalars)
 
 abbrev μ-loop : tie.MeasureT-loop
-μ-loop scalars i₀ i = length scalars - i
+μ-loop scalars others₀ i₀ others i = length scalars - i
 
--- src/lib.rt:76:5
 loop-holds : tie.Need-loop-holds Inv-loop μ-loop
-loop-holds c = refl
+loop-holds c = (omega arith, refl)
 
--- src/lib.rt:77:23
-mul-is-scalar : tie.Need-mul-is-scalar Inv-loop μ-loop
-mul-is-scalar c = search needs
+mul-no-scalar : tie.Need-mul-no-scalar Inv-loop μ-loop
+mul-no-scalar c = search needs
 
--- src/lib.rt:77:23
-shared-slice-read-is-scalar : tie.Need-shared-slice-read-is-scalar Inv-loop μ-loop
-shared-slice-read-is-scalar c = search needs
+shared-slice-read-no-scalar : tie.Need-shared-slice-read-no-scalar Inv-loop μ-loop
+shared-slice-read-no-scalar c = search needs
 
--- src/lib.rt:77:13
-is-scalar-requires : tie.Need-is-scalar-requires Inv-loop μ-loop
-is-scalar-requires c κs = search needs
+no-scalar-requires : tie.Need-no-scalar-requires Inv-loop μ-loop
+no-scalar-requires c κs = search needs
 
--- src/lib.rt:78:13
-returns : tie.Need-returns Inv-loop μ-loop
-returns c =
-    let args = c .before .before .before .before .before .before .args in
-    let at-loop = c .before .before .before .before .loop in
-    let at-loop-test = c .before .before .before .loop-test in
-    let at-is-scalar = c .before .is-scalar in
-    all-not (args .scalars .now) (at-loop .i) (at-loop-test .taken) (sym (at-is-scalar .ensures) ∙ not-true _ (c .if1 .taken)) ∙ at-loop .inv
+add-others : tie.Need-add-others Inv-loop μ-loop
+add-others c =
+    let at-loop = c .before .before .before .loop in
+    let at-no-scalar = c .no-scalar in
+    let at-pre = c .before .before .before .before .before .pre in
+    let at-loop-test = c .before .before .loop-test in
+    record { fits = omega (arith, at-loop .inv .0, at-no-scalar .ensures .1, at-pre, at-loop-test .taken) }
 
--- src/lib.rt:80:9
 add-i : tie.Need-add-i Inv-loop μ-loop
 add-i c = search needs
 
--- src/lib.rt:76:5
 loop-less : tie.Need-loop-less Inv-loop μ-loop
 loop-less c = search needs
 
--- src/lib.rt:76:5
 loop-again : tie.Need-loop-again Inv-loop μ-loop
 loop-again c =
-    let args = c .before .before .before .before .before .before .args in
-    let at-loop = c .before .before .before .before .loop in
-    let at-loop-test = c .before .before .before .loop-test in
-    let at-is-scalar = c .before .is-scalar in
-    all-on (args .scalars .now) (at-loop .i) (at-loop-test .taken) (sym (at-is-scalar .ensures) ∙ not-false _ (c .if1 .left)) ∙ at-loop .inv
+    let at-loop = c .before .before .before .loop in
+    let at-no-scalar = c .no-scalar in
+    let args = c .before .before .before .before .before .args in
+    let at-loop-test = c .before .before .loop-test in
+    (omega (arith, at-loop .inv .0, at-no-scalar .ensures .1), all-on (args .scalars .now) (at-loop .others) (at-loop .i) (at-loop-test .taken) (at-no-scalar .result) (at-no-scalar .ensures .0) ∙ at-loop .inv .1)
 
--- src/lib.rt:72:1
-returns-2 : tie.Need-returns-2 Inv-loop μ-loop
-returns-2 c = all-end ((c .before .before .before .args) .scalars .now) (c .before .loop .i) (c .loop-test .left) ∙ c .before .loop .inv
+returns : tie.Need-returns Inv-loop μ-loop
+returns c =
+    let args = c .before .before .before .args in
+    let at-loop = c .before .loop in
+    let at-loop-test = c .loop-test in
+    all-end (args .scalars .now) (at-loop .others) (at-loop .i) (at-loop-test .left) (at-loop .inv .1)
 
 pub all-scalars-spec : {M : Type 1} → statement M
 all-scalars-spec =
@@ -67,11 +64,11 @@ all-scalars-spec =
     Inv-loop
     μ-loop
     loop-holds
-    mul-is-scalar
-    shared-slice-read-is-scalar
-    is-scalar-requires
-    returns
+    mul-no-scalar
+    shared-slice-read-no-scalar
+    no-scalar-requires
+    add-others
     add-i
     loop-less
     loop-again
-    returns-2)
+    returns)

@@ -63,7 +63,7 @@ returns-6 c =
     refused-8 (args .encoding) (args .mode) (lent (args .t1 .now) (args .t2 .now)) (args .scalars .now) (args .room) (at-if1 .left) (at-if2 .left) (sym (at-writes .ensures) ∙ not-false _ (at-if3 .left)) (at-if4 .left ∙ at-cells .ensures) (at-if5 .left) (c .if6 .taken)
 
 all-scalars-requires : tie.Need-all-scalars-requires
-all-scalars-requires c κs = search needs
+all-scalars-requires c κs = c .if6 .left
 
 returns-7 : tie.Need-returns-7
 returns-7 c =
@@ -79,8 +79,8 @@ returns-7 c =
     let at-all-scalars = c .before .all-scalars in
     refused-10 (args .encoding) (args .mode) (lent (args .t1 .now) (args .t2 .now)) (args .scalars .now) (args .room) (at-if1 .left) (at-if2 .left) (sym (at-writes .ensures) ∙ not-false _ (at-if3 .left)) (at-if4 .left ∙ at-cells .ensures) (at-if5 .left) (at-if6 .left) (sym (at-all-scalars .ensures) ∙ not-true _ (c .if7 .taken))
 
-count-requires : tie.Need-count-requires
-count-requires c κs =
+lacks-requires : tie.Need-lacks-requires
+lacks-requires c κs =
     let args = c .before .before .before .before .before .before .before .before .before .before .before .before .before .args in
     let at-all-scalars = c .before .all-scalars in
     let at-if6 = c .before .before .if6 in
@@ -106,8 +106,8 @@ returns-8 c =
     let at-if6 = c .before .before .before .before .if6 in
     let at-all-scalars = c .before .before .before .all-scalars in
     let at-if7 = c .before .before .if7 in
-    let at-count = c .before .count in
-    refused-7 (args .encoding) (args .mode) (lent (args .t1 .now) (args .t2 .now)) (args .scalars .now) (args .room) (at-if1 .left) (at-if2 .left) (sym (at-writes .ensures) ∙ not-false _ (at-if3 .left)) (at-if4 .left ∙ at-cells .ensures) (at-if5 .left) (at-if6 .left) (sym (at-all-scalars .ensures) ∙ not-false _ (at-if7 .left)) (at-count .result) (at-count .ensures) (c .if8 .taken)
+    let at-lacks = c .before .lacks in
+    refused-7 (args .encoding) (args .mode) (lent (args .t1 .now) (args .t2 .now)) (args .scalars .now) (args .room) (at-if1 .left) (at-if2 .left) (sym (at-writes .ensures) ∙ not-false _ (at-if3 .left)) (at-if4 .left ∙ at-cells .ensures) (at-if5 .left) (at-if6 .left) (sym (at-all-scalars .ensures) ∙ not-false _ (at-if7 .left)) (at-lacks .result) (at-lacks .ensures) (c .if8 .taken)
 
 returns-9 : tie.Need-returns-9
 returns-9 c =
@@ -122,8 +122,8 @@ returns-9 c =
     let at-if6 = c .before .before .before .before .if6 in
     let at-all-scalars = c .before .before .before .all-scalars in
     let at-if7 = c .before .before .if7 in
-    let at-count = c .before .count in
-    refused-not (args .encoding) (args .mode) (lent (args .t1 .now) (args .t2 .now)) (args .scalars .now) (args .room) (at-if1 .left) (at-if2 .left) (sym (at-writes .ensures) ∙ not-false _ (at-if3 .left)) (at-if4 .left ∙ at-cells .ensures) (at-if5 .left) (at-if6 .left) (sym (at-all-scalars .ensures) ∙ not-false _ (at-if7 .left)) (at-count .result) (at-count .ensures) (c .if8 .left)
+    let at-lacks = c .before .lacks in
+    refused-not (args .encoding) (args .mode) (lent (args .t1 .now) (args .t2 .now)) (args .scalars .now) (args .room) (at-if1 .left) (at-if2 .left) (sym (at-writes .ensures) ∙ not-false _ (at-if3 .left)) (at-if4 .left ∙ at-cells .ensures) (at-if5 .left) (at-if6 .left) (sym (at-all-scalars .ensures) ∙ not-false _ (at-if7 .left)) (at-lacks .result) (at-lacks .ensures) (c .if8 .left)
 
 pub refusal-spec : {M : Type 1} → statement M
 refusal-spec =
@@ -139,6 +139,6 @@ refusal-spec =
     returns-6
     all-scalars-requires
     returns-7
-    count-requires
+    lacks-requires
     returns-8
     returns-9)

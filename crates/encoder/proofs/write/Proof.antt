@@ -1,98 +1,101 @@
-use Rattle.encoder.proofs.Counting.{Running, running-start, running-end, running-stop, running-room, running-on, scalar-at}
-use Rattle.encoder.specs.WriterCode.{encoderOf}
+use Rattle.encoder.proofs.Most.{utf8-writing, utf8-wrote}
+use Rattle.encoder.specs.Writer.{Writing}
 use lib.ListN.{length}
-use Prim.Native.Nat.{_-_}
-use mathlib.Core.Path.{sym, _∙_}
+use mathlib.Core.Path.{refl, ap}
+use native.Mathlib.Omega.{arith}
+use Rattle.encoder.proofs.Filling.{empty-slots}
 use borrow.Author.Needs.{needs}
 use Rattle.encoder.proofs.write.Statement.{statement}
 use Rattle.encoder.proofs.write.Tie as tie
 
-abbrev Inv-loop : tie.InvT-loop
-Inv-loop encoding mode scalars table room₀ o₀ i₀ room o i = Running (encoderOf encoding table) mode scalars room₀ room i o
+write-utf8-requires : tie.Need-write-utf8-requires
+write-utf8-requires c κs =
+    let at-pre = c .before .before .before .before .before .pre in
+    let args = c .before .before .before .before .before .args in
+    let at-if1 = c .before .if1 in
+    (at-pre .0, omega (arith, at-pre .2, ap (λ (w : Writing). length (w .bytes)) (utf8-writing (args .encoding) (args .mode) (args .table .now) (args .scalars .now) (at-if1 .taken))))
 
-abbrev μ-loop : tie.MeasureT-loop
-μ-loop encoding mode scalars table room₀ o₀ i₀ room o i = length scalars - i
-
-loop-holds : tie.Need-loop-holds Inv-loop μ-loop
-loop-holds c = running-start _ _ _ _
-
-mul-c : tie.Need-mul-c Inv-loop μ-loop
-mul-c c = search needs
-
-shared-slice-read-c : tie.Need-shared-slice-read-c Inv-loop μ-loop
-shared-slice-read-c c = search needs
-
-bytes-of-requires : tie.Need-bytes-of-requires Inv-loop μ-loop
-bytes-of-requires c κs =
-    let args = c .before .before .before .before .before .before .args in
-    let at-loop = c .before .before .loop in
-    let at-pre = c .before .before .before .before .before .before .pre in
-    let at-loop-test = c .before .loop-test in
-    (scalar-at (args .scalars .now) (at-loop .i) (at-pre .0) (at-loop-test .taken), at-pre .1)
-
-stops-requires : tie.Need-stops-requires Inv-loop μ-loop
-stops-requires c κs = search needs
-
-same-length : tie.Need-same-length Inv-loop μ-loop
+same-length : tie.Need-same-length
 same-length c = search needs
 
-returns : tie.Need-returns Inv-loop μ-loop
+returns : tie.Need-returns
 returns c =
-    let at-loop = c .before .before .before .before .before .loop in
-    let at-loop-test = c .before .before .before .before .loop-test in
-    let at-bytes-of = c .before .before .bytes-of in
-    let at-stops = c .before .stops in
-    running-stop _ _ _ _ _ _ _ (at-loop .inv) (at-loop-test .taken) _ (at-bytes-of .ensures) (sym (at-stops .ensures) ∙ c .if1 .taken)
-
-put-requires : tie.Need-put-requires Inv-loop μ-loop
-put-requires c κs =
-    let at-loop = c .before .before .before .before .before .before .loop in
-    let at-loop-test = c .before .before .before .before .before .loop-test in
-    let at-bytes-of = c .before .before .before .bytes-of in
-    let at-stops = c .before .before .stops in
-    let at-if1 = c .before .if1 in
-    let at-pre = c .before .before .before .before .before .before .before .before .before .before .pre in
-    (running-room _ _ _ _ _ _ _ (at-loop .inv) (at-loop-test .taken) _ (at-bytes-of .ensures) (sym (at-stops .ensures) ∙ at-if1 .left) (at-pre .2), at-bytes-of .ensures .few)
-
-add-i : tie.Need-add-i Inv-loop μ-loop
-add-i c = search needs
-
-loop-less : tie.Need-loop-less Inv-loop μ-loop
-loop-less c = search needs
-
-loop-again : tie.Need-loop-again Inv-loop μ-loop
-loop-again c =
-    let at-loop = c .before .before .before .before .before .before .before .before .before .loop in
-    let at-loop-test = c .before .before .before .before .before .before .before .before .loop-test in
-    let at-bytes-of = c .before .before .before .before .before .before .bytes-of in
-    let at-stops = c .before .before .before .before .before .stops in
+    let args = c .before .before .before .before .before .before .before .before .args in
     let at-if1 = c .before .before .before .before .if1 in
-    let at-pre = c .before .before .before .before .before .before .before .before .before .before .before .before .before .pre in
-    let at-put = c .before .before .put in
-    running-on _ _ _ _ _ _ _ (at-loop .inv) (at-loop-test .taken) _ (at-bytes-of .ensures) (sym (at-stops .ensures) ∙ at-if1 .left) (at-pre .2) _ _ (at-put .ensures .0) (at-put .ensures .1)
+    let at-write-utf8 = c .before .before .write-utf8 in
+    utf8-wrote (args .encoding) (args .mode) (args .table .now) (args .scalars .now) (at-if1 .taken) (args .room .now) (at-write-utf8 .ensures)
 
-same-length-2 : tie.Need-same-length-2 Inv-loop μ-loop
+least-requires : tie.Need-least-requires
+least-requires c κs = search needs
+
+sub-write-single-byte : tie.Need-sub-write-single-byte
+sub-write-single-byte c = search needs
+
+part-write-single-byte-start : tie.Need-part-write-single-byte-start
+part-write-single-byte-start c = search needs
+
+part-write-single-byte-end : tie.Need-part-write-single-byte-end
+part-write-single-byte-end c = search needs
+
+write-single-byte-requires : tie.Need-write-single-byte-requires
+write-single-byte-requires c κs =
+    let at-if1 = c .before .before .before .before .if1 in
+    let at-pre = c .before .before .before .before .before .before .before .before .pre in
+    let args = c .before .before .before .before .before .before .before .before .args in
+    (omega (arith, at-if1 .left), at-pre .1, empty-slots (args .encoding) (args .table .now) _ (λ k. refl), at-pre .2)
+
+same-length-2 : tie.Need-same-length-2
 same-length-2 c = search needs
 
-returns-2 : tie.Need-returns-2 Inv-loop μ-loop
-returns-2 c = running-end _ _ _ _ _ _ _ (c .before .loop .inv) (c .loop-test .left)
+returns-2 : tie.Need-returns-2
+returns-2 c =
+    let at-write-single-byte = c .before .before .write-single-byte in
+    at-write-single-byte .ensures
+
+slice-aggregate-fill : tie.Need-slice-aggregate-fill
+slice-aggregate-fill c = search needs
+
+fill-requires : tie.Need-fill-requires
+fill-requires c κs =
+    let at-if1 = c .before .before .before .if1 in
+    let at-pre = c .before .before .before .before .before .before .before .pre in
+    (omega (arith, at-if1 .left), at-pre .1, refl)
+
+slice-aggregate-write-single-byte : tie.Need-slice-aggregate-write-single-byte
+slice-aggregate-write-single-byte c = search needs
+
+write-single-byte-requires-2 : tie.Need-write-single-byte-requires-2
+write-single-byte-requires-2 c κs =
+    let at-if1 = c .before .before .before .before .before .before .before .if1 in
+    let at-pre = c .before .before .before .before .before .before .before .before .before .before .before .pre in
+    let at-fill = c .before .before .before .fill in
+    (omega (arith, at-if1 .left), at-pre .1, at-fill .ensures, at-pre .2)
+
+same-length-3 : tie.Need-same-length-3
+same-length-3 c = search needs
+
+returns-3 : tie.Need-returns-3
+returns-3 c =
+    let at-write-single-byte2 = c .before .before .write-single-byte2 in
+    at-write-single-byte2 .ensures
 
 pub write-spec : {M : Type 1} → statement M
 write-spec =
     tie.close
     (tie.spec
-    Inv-loop
-    μ-loop
-    loop-holds
-    mul-c
-    shared-slice-read-c
-    bytes-of-requires
-    stops-requires
+    write-utf8-requires
     same-length
     returns
-    put-requires
-    add-i
-    loop-less
-    loop-again
+    least-requires
+    sub-write-single-byte
+    part-write-single-byte-start
+    part-write-single-byte-end
+    write-single-byte-requires
     same-length-2
-    returns-2)
+    returns-2
+    slice-aggregate-fill
+    fill-requires
+    slice-aggregate-write-single-byte
+    write-single-byte-requires-2
+    same-length-3
+    returns-3)

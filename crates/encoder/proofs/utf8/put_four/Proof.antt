@@ -1,0 +1,53 @@
+use Rattle.encoder.proofs.Rooms.{put-four}
+use native.Mathlib.Omega.{arith}
+use lib.ListN.{length-set}
+use borrow.Author.Needs.{needs}
+use Rattle.encoder.proofs.utf8.put_four.Statement.{statement}
+use Rattle.encoder.proofs.utf8.put_four.Tie as tie
+
+slice-write-room : tie.Need-slice-write-room
+slice-write-room c = search needs
+
+add-room : tie.Need-add-room
+add-room c = search needs
+
+slice-write-room-2 : tie.Need-slice-write-room-2
+slice-write-room-2 c = simp length-set (omega arith)
+
+add-room-2 : tie.Need-add-room-2
+add-room-2 c = search needs
+
+slice-write-room-3 : tie.Need-slice-write-room-3
+slice-write-room-3 c = simp length-set (omega arith)
+
+add-room-3 : tie.Need-add-room-3
+add-room-3 c = search needs
+
+slice-write-room-4 : tie.Need-slice-write-room-4
+slice-write-room-4 c = simp length-set (omega arith)
+
+add-result : tie.Need-add-result
+add-result c = search needs
+
+same-length : tie.Need-same-length
+same-length c = search needs
+
+returns : tie.Need-returns
+returns c =
+    let args = c .args in
+    put-four (args .room .now) (args .at) (args .u) (args .v) (args .w) (args .x)
+
+pub put-four-spec : {M : Type 1} → statement M
+put-four-spec =
+    tie.close
+    (tie.spec
+    slice-write-room
+    add-room
+    slice-write-room-2
+    add-room-2
+    slice-write-room-3
+    add-room-3
+    slice-write-room-4
+    add-result
+    same-length
+    returns)

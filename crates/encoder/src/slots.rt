@@ -1,0 +1,91 @@
+// Slots for long texts: 2,048, by a scalar's remainder, each with a scalar times 256 plus its byte. An empty slot is 0, which is right too.
+
+ghost use mathlib.Core.Path.{_≡_};
+ghost use Prim.Native.Nat.{_≤_, _<_};
+ghost use lib.ListN.{length, replicate};
+ghost use Rattle.standard.specs.Indexes.{windows1252};
+ghost use Rattle.standard.specs.Encoders.{single-encode};
+ghost use Rattle.encoder.specs.Writer.{bytesOf};
+ghost use Rattle.encoder.specs.WriterCode.{given, encoderOf, Slots, entered};
+
+// The cell at a pointer, put into its slot where it counts as mapped.
+fn enter(slots: &mut [u32], c: u32, p: usize)
+    requires { ⌜ (length (now slots) ≡ 2048) × (p < 128) ⌝ }
+    ensures { λ r. ⌜ now (slots .exit) ≡ entered (now (slots .entry)) c p ⌝ }
+{
+    if !index::mapped(c) {
+        return;
+    }
+    slots[(c % 2048) as usize] = c * 256 + (p as u32 + 0x80);
+}
+
+// The cells of a table, from the last on, so that the first of equal cells stays.
+fn fill_table(table: &[u32], slots: &mut [u32])
+    requires { ⌜ (length (now table) ≤ 128) × (now slots ≡ replicate 2048 0) ⌝ }
+    ensures { λ r. ⌜ Slots (single-encode (now (table .entry))) (now (slots .exit)) ⌝ }
+{
+    let mut p = table.len();
+    while 0 < p {
+        p -= 1;
+        enter(slots, table[p], p);
+    }
+}
+
+// A0 to FF of windows-1252, which stand for themselves.
+fn fill_regular(slots: &mut [u32])
+    requires { ⌜ (length (now slots) ≡ 2048) × Slots (single-encode windows1252) (now slots) ⌝ }
+    ensures { λ r. ⌜ Slots (single-encode windows1252) (now (slots .exit)) ⌝ }
+{
+    let mut c: u32 = 0xA0;
+    while c < 0x100 {
+        slots[c as usize] = c * 256 + c;
+        c += 1;
+    }
+}
+
+// From how many scalars on the slots save more time than they cost.
+pub(crate) fn least(encoding: u8) -> usize
+    ensures { λ r. ⌜ r ≤ 16385 ⌝ }
+{
+    if encoding == 21 {
+        return 256;
+    }
+    if encoding <= 28 {
+        return 16;
+    }
+    16385
+}
+
+// The slots of an encoding, from empty ones.
+pub(crate) fn fill(encoding: u8, table: &[u32], slots: &mut [u32])
+    requires { ⌜ (1 ≤ encoding) × (length (now table) ≤ 128) × (now slots ≡ replicate 2048 0) ⌝ }
+    ensures { λ r. ⌜ Slots (encoderOf encoding (now (table .entry))) (now (slots .exit)) ⌝ }
+{
+    if 28 < encoding {
+        return;
+    }
+    if encoding == 21 {
+        fill_table(&index::IRREGULAR, slots);
+        fill_regular(slots);
+        return;
+    }
+    fill_table(table, slots);
+}
+
+// The byte of a scalar in an encoding other than UTF-8, by its slot or by a search; 256 stands for an unwritable scalar.
+pub(crate) fn byte_of(encoding: u8, table: &[u32], slots: &[u32], c: u32) -> u32
+    requires { ⌜ (1 ≤ encoding) × (length (now table) ≤ 128) × Slots (encoderOf encoding (now table)) (now slots) ⌝ }
+    ensures { λ r. ⌜ given r ≡ bytesOf (encoderOf encoding (now (table .entry)) c) ⌝ }
+{
+    if c < 0x80 {
+        return c;
+    }
+    if slots.len() != 2048 {
+        return crate::scalar::byte_of(encoding, table, c);
+    }
+    let s = slots[(c % 2048) as usize];
+    if s / 256 == c {
+        return s % 256;
+    }
+    crate::scalar::byte_of(encoding, table, c)
+}
