@@ -17,6 +17,7 @@ use Rattle.standard.specs.Next.{next}
 use Rattle.standard.specs.Decode.{decode, oneError, isoEnd, ending, lastOut, given, shown, broken, before}
 use Rattle.standard.proofs.AnyTables.{more-any}
 use Rattle.standard.proofs.Items.{shown-cons}
+use Rattle.standard.proofs.Reading.{empty}
 use Rattle.sequences.specs.Code.{nextOf, outOf, front}
 use Rattle.sequences.specs.declared.Sequence.{Sequence}
 use Rattle.decoder.specs.Valid.{shiftOf, heldOf, possible, isMore, unused, validRest, valid}
@@ -50,6 +51,10 @@ front-held (suc zero) a b c h = refl
 front-held (suc (suc zero)) a b c h = refl
 front-held (suc (suc (suc zero))) a b c h = refl
 front-held (suc (suc (suc (suc n)))) a b c h = absurd (omega arith)
+
+-- no byte held
+pub none-started : (d : Decoder) → d .held ≡ 0 → true ≡ isMore (next noTables (family (d .encoding)) (shiftOf d) (heldOf d))
+none-started d h = sym (ap (λ (n : ℕ). isMore (next noTables (family (d .encoding)) (shiftOf d) (take n (d .first ∷ d .second ∷ d .third ∷ [])))) h ∙ ap isMore (empty noTables (family (d .encoding)) (shiftOf d)))
 
 pub started-is : (d : Decoder) (t : Tables) (q : Sequence) → d .held ≤ 3 → nextOf q ≡ next t (family (d .encoding)) (shift (d .state) (eqb (d .flag) 1)) (front (d .held) (d .first) (d .second) (d .third) 0) →
     eqb (q .width) 0 ≡ isMore (next noTables (family (d .encoding)) (shiftOf d) (heldOf d))

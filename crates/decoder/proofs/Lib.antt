@@ -11,4 +11,3 @@ pub mod Theorems
 pub mod Loop
 pub mod Numbers
 pub mod Checks
-pub mod Dispatch

@@ -15,23 +15,19 @@ use Rattle.standard.specs.Sequence.{Shift, Out, text, error, Next, more, item, 
 use Rattle.standard.specs.Next.{next}
 use Rattle.standard.specs.Decode.{Read, put, decode, given, shown, broken, before}
 use Rattle.standard.proofs.Tests.{and-left, and-right}
+use Rattle.standard.proofs.Items.{shown-cons}
 use Rattle.standard.proofs.Laws.{Law}
 use Rattle.standard.proofs.FamilyLaws.{keeps, next-laws}
-use Rattle.standard.proofs.Walk.{stop, at-item, at-more, decode-more, decode-item}
+use Rattle.standard.proofs.Walk.{stop, at-item, at-more, nothing, decode-more, decode-item}
 use Rattle.sequences.specs.Code.{nextOf, outOf, front}
 use Rattle.sequences.specs.declared.Sequence.{Sequence}
 use Rattle.decoder.specs.Valid.{shiftOf, heldOf}
 use Rattle.decoder.specs.Calls.{bit, holding, closed, Outcome, write, handOutRead}
-use Rattle.decoder.specs.Code.{patch, closing, leaving}
+use Rattle.runs.specs.Run.{patch, puts, Runs}
+use Rattle.runs.proofs.Patches.{patch-sets, patch-none, patch-length, patch-patch}
+use Rattle.decoder.specs.Code.{closing, leaving}
 use Rattle.decoder.specs.declared.Decoder.{Decoder}
 use Rattle.decoder.specs.declared.Answer.{Answer}
-
--- the room
-pub patch-sets : (room : List ℕ) (w : ℕ) (cs : List ℕ) → w + length cs ≤ length room → sets room w cs ≡ patch w cs room
-patch-sets room w cs h = sets-eq cs room w h
-
-pub patch-none : (room : List ℕ) (w : ℕ) → room ≡ patch w [] room
-patch-none room w = rw (append-nil (take w room), add-zero w) (sym (take-append-drop w room))
 
 -- what a sequence gives, by its count
 pub out-error : (q : Sequence) → q .count ≡ 3 → given (outOf q) ≡ 0xFFFD ∷ []
@@ -72,39 +68,6 @@ module _ (n a b c : ℕ) (chunk : List ℕ) (h : n ≤ 3) where
 pub third-is : (a b c i : ℕ) → i < 3 → (i ≡ 0 → ⊥) → (i ≡ 1 → ⊥) → getD (a ∷ b ∷ c ∷ []) i 0 ≡ c
 third-is a b c i h g k = let e : i ≡ 2 = omega arith in rw e
 
--- the first four bytes
-front4 : (xs : List ℕ) → take (length xs) (getD xs 0 0 ∷ getD xs 1 0 ∷ getD xs 2 0 ∷ getD xs 3 0 ∷ []) ≡ take 4 xs
-front4 [] = refl
-front4 (a ∷ []) = refl
-front4 (a ∷ b ∷ []) = refl
-front4 (a ∷ b ∷ c ∷ []) = refl
-front4 (a ∷ b ∷ c ∷ d ∷ xs) = ap (λ (l : List ℕ). a ∷ b ∷ c ∷ d ∷ l) (take-nil (length xs))
-
--- four bytes tell: the answer at the front of the first four is the answer at the front of all
-module _ (t : Tables) (f : Family) (s : Shift) where
-  four-tell : (xs : List ℕ) → next t f s (take 4 xs) ≡ next t f s xs
-  four-tell xs = go (next t f s (take 4 xs)) refl
-    where
-      few : length (take 4 xs) ≤ 3 → length xs ≤ 4
-      few n = pick (leb (length xs) 4) refl
-        where
-          pick : (b : Bool) → leb (length xs) 4 ≡ b → length xs ≤ 4
-          pick true q = leb-true (length xs) 4 q
-          pick false q = let l : 4 < length xs = leb-false (length xs) 4 q in absurd (omega (arith, n, length-take-le 4 xs (omega arith)))
-
-      go : (a : Next) → next t f s (take 4 xs) ≡ a → next t f s (take 4 xs) ≡ next t f s xs
-      go more h = ap (next t f s) (take-all 4 xs (few (at-more (keeps f) (next t f) (next-laws t f) s (take 4 xs) h .0)))
-      go (item w s′ o) h =
-          let l = at-item (keeps f) (next t f) (next-laws t f) s (take 4 xs) h (drop 4 xs) in
-          h ∙ sym (ap (next t f s) (sym (take-append-drop 4 xs)) ∙ l .0)
-
-  pub front-is : (Q : List ℕ) (at : ℕ) → {n b0 b1 b2 b3 : ℕ} → n ≡ length Q - at → b0 ≡ getD Q at 0 → b1 ≡ getD Q (at + 1) 0 → b2 ≡ getD Q (at + 2) 0 → b3 ≡ getD Q (at + 3) 0 →
-      next t f s (front n b0 b1 b2 b3) ≡ next t f s (drop at Q)
-  front-is Q at {n} {b0} {b1} {b2} {b3} p p0 p1 p2 p3 =
-      ap (next t f s) (
-      rw (p ∙ sym (length-drop at Q), p0 ∙ ap (λ (k : ℕ). getD Q k 0) (sym (add-zero at)) ∙ sym (getD-drop at Q 0 0), p1 ∙ sym (getD-drop at Q 1 0), p2 ∙ sym (getD-drop at Q 2 0), p3 ∙ sym (getD-drop at Q 3 0)) (front4 (drop at Q))) ∙
-      four-tell (drop at Q)
-
 -- What is still to be handed out, from place w of the room on.
 abbrev written : ℕ → ℕ → List ℕ → Decoder → List ℕ → Outcome
 written n w cs d room = record { answer = record { written = w + length cs; refusal = n; decoder = d }; room = patch w cs room }
@@ -140,15 +103,6 @@ unfolding emit broken before
 emit-report e m r w room h = rw (eq-eqb m 1 h, add-zero w, append-nil (take w room), take-append-drop w room)
 
 -- any other sequence: its scalars are written, and the rest from there on
-patch-patch : (w : ℕ) (us vs room : List ℕ) → w + length us ≤ length room → patch (w + length us) vs (patch w us room) ≡ patch w (us ++ vs) room
-patch-patch w us vs room h =
-    let k : length (take w room ++ us) ≡ w + length us = length-append (take w room) us ∙ rw (length-take-le w room (omega arith)) in
-    let a : take (w + length us) (patch w us room) ≡ take w room ++ us = take-at (take w room ++ us) (drop (w + length us) room) (w + length us) k in
-    let b : drop (w + length us + length vs) (patch w us room) ≡ drop (w + length us + length vs) room =
-    sym (drop-drop (length vs) (w + length us) (patch w us room)) ∙ ap (drop (length vs)) (drop-at (take w room ++ us) (drop (w + length us) room) (w + length us) k) ∙ drop-drop (length vs) (w + length us) room in
-    let z : w + length us + length vs ≡ w + (length us + length vs) = omega arith in
-    rw (a, b, length-append us vs, append-assoc (take w room) us vs, z)
-
 written-put : (n w : ℕ) (us vs : List ℕ) (d : Decoder) (room : List ℕ) → w + length us ≤ length room → written n w (us ++ vs) d room ≡ written n (w + length us) vs d (patch w us room)
 written-put n w us vs d room h =
     let z : w + length (us ++ vs) ≡ w + length us + length vs = omega (arith, length-append us vs) in
@@ -163,6 +117,30 @@ emit-put e m (text cs) r w room n h = go (eqb m 1 && broken (r .items))
     go true = written-put 11 w cs (before (r .items)) (closed e m) room h
     go false = written-put 0 w cs (shown (r .items)) (holding e m (r .shift) (r .rest)) room h
 emit-put e m error r w room n h = rw (ne-eqb m 1 (λ z. n z refl)) (written-put 0 w (0xFFFD ∷ []) (shown (r .items)) (holding e m (r .shift) (r .rest)) room h)
+
+shown-none : shown [] ≡ []
+unfolding shown
+shown-none = refl
+
+sound-cons : (m : ℕ) (o : Out) (is : List Out) → (m ≡ 1 → broken (o ∷ is) ≡ false) → (m ≡ 1 → o ≡ error → ⊥) × (m ≡ 1 → broken is ≡ false)
+unfolding broken
+sound-cons m (text cs) is h = (λ e q. let z : _≡_ {A = ℕ} 0 1 = cc in absurd (omega arith), h)
+sound-cons m error is h = (λ e q. subst T (h e) tt, λ e. absurd (subst T (h e) tt))
+
+-- the same for some sequences at once, as a run reads them
+emit-puts : (e m : ℕ) (is : List Out) (r : Read) (w : ℕ) (room : List ℕ) → (m ≡ 1 → broken is ≡ false) → w + length (shown is) ≤ length room →
+    emit e m (puts is r) w room ≡ emit e m r (w + length (shown is)) (patch w (shown is) room)
+unfolding puts
+emit-puts e m [] r w room n h = rw shown-none (λ i. emit e m r (sym (add-zero w) i) (patch-none room w i))
+emit-puts e m (o ∷ is) r w room sound h =
+    let k = sound-cons m o is sound in
+    let l : length (shown (o ∷ is)) ≡ length (given o) + length (shown is) = ap length (shown-cons o is) ∙ length-append (given o) (shown is) in
+    let here : w + length (given o) ≤ length room = omega (arith, h, l) in
+    let n : w + length (given o) + length (shown is) ≡ w + length (shown (o ∷ is)) = omega (arith, l) in
+    let p : patch (w + length (given o)) (shown is) (patch w (given o) room) ≡ patch w (shown (o ∷ is)) room = patch-patch w (given o) (shown is) room here ∙ ap (λ (cs : List ℕ). patch w cs room) (sym (shown-cons o is)) in
+    emit-put e m o (puts is r) w room (k .0) here ∙
+    emit-puts e m is r (w + length (given o)) (patch w (given o) room) (k .1) (omega (arith, h, l, patch-length room w (given o) here)) ∙
+    (λ i. emit e m r (n i) (p i))
 
 -- what an accepted feed has to leave
 abbrev pub wanted : Decoder → List ℕ → List ℕ → List ℕ → List ℕ → Outcome
@@ -212,7 +190,7 @@ leaving-is d chunk at state flag w h kept have b0 b1 b2 k l p0 p1 p2 =
     λ i. record { written = w; refusal = 0; decoder = record { encoding = d .encoding; mode = d .mode; state = state; flag = k i; held = n i; first = f0 i; second = f1 i; third = f2 i; ended = 0 } }
 
 -- One turn, with the sequence found at the place.
-module _ (d : Decoder) (chunk t1 t2 room₀ room : List ℕ) (at state flag w : ℕ) (R : Running d chunk t1 t2 room₀ room at state flag w) (q : Sequence)
+module _ {d : Decoder} {chunk t1 t2 room₀ room : List ℕ} {at state flag w : ℕ} (R : Running d chunk t1 t2 room₀ room at state flag w) (q : Sequence)
     (here : nextOf q ≡ next (lent t1 t2) (family (d .encoding)) (shift state (eqb flag 1)) (drop at (heldOf d ++ chunk))) where
   abbrev f : Shift → List ℕ → Next
   f = next (lent t1 t2) (family (d .encoding))
@@ -255,21 +233,67 @@ module _ (d : Decoder) (chunk t1 t2 room₀ room : List ℕ) (at state flag w : 
     pub turn-report : d .mode ≡ 1 → q .count ≡ 3 → wanted d chunk t1 t2 room₀ ≡ record { answer = closing (d .encoding) (d .mode) 11 w; room = room }
     turn-report m k = R .outcome ∙ rw (read, count-error q k) (emit-report (d .encoding) (d .mode) _ w room m)
 
-    patch-length : length (patch w (given (outOf q)) room) ≡ length room
-    patch-length = sym (ap length (patch-sets room w (given (outOf q)) turn-space)) ∙ length-sets room w (given (outOf q))
-
     pub turn-on : (d .mode ≡ 1 → q .count ≡ 3 → ⊥) → Running d chunk t1 t2 room₀ (patch w (given (outOf q)) room) (at + q .width) (q .state) (q .flag) (w + length (given (outOf q)))
     turn-on k = record {
       few = R .few;
       short = R .short;
       place = omega (arith, turn-width .1, R .place);
-      space = omega (arith, patch-length, law .3, turn-width .1, R .space, R .place);
-      size = patch-length ∙ R .size;
+      space = omega (arith, patch-length room w (given (outOf q)) turn-space, law .3, turn-width .1, R .space, R .place);
+      size = patch-length room w (given (outOf q)) turn-space ∙ R .size;
       outcome = R .outcome ∙ rw read (emit-put (d .encoding) (d .mode) (outOf q) _ w room (λ m e. k m (error-count q e)) turn-space ∙ rw (drop-drop (q .width) at (heldOf d ++ chunk)) refl);
     }
+
+-- No byte is left.
+pub turn-done : {d : Decoder} {chunk t1 t2 room₀ room : List ℕ} {at state flag w : ℕ} → Running d chunk t1 t2 room₀ room at state flag w → d .held + length chunk ≤ at →
+    wanted d chunk t1 t2 room₀ ≡ record { answer = leaving (d .encoding) (d .mode) (shift state (eqb flag 1)) (drop at (heldOf d ++ chunk)) w; room = room }
+turn-done {d} {chunk} {t1} {t2} {room₀} {room} {at} {state} {flag} {w} R h =
+    let n = all-length (d .held) (d .first) (d .second) (d .third) chunk (R .few) in
+    let l : length (drop at (heldOf d ++ chunk)) ≤ 0 = omega (arith, length-drop at (heldOf d ++ chunk), n) in
+    let none = nothing (keeps (family (d .encoding))) (next (lent t1 t2) (family (d .encoding))) (next-laws (lent t1 t2) (family (d .encoding))) (shift state (eqb flag 1)) (drop at (heldOf d ++ chunk)) l in
+    R .outcome ∙ rw (decode-more (keeps (family (d .encoding))) (next (lent t1 t2) (family (d .encoding))) (next-laws (lent t1 t2) (family (d .encoding))) (shift state (eqb flag 1)) (drop at (heldOf d ++ chunk)) none) (emit-stop (d .encoding) (d .mode) (shift state (eqb flag 1)) (drop at (heldOf d ++ chunk)) w room)
 
 pub stops-no : (m n : ℕ) → eqb m 1 && eqb n 3 ≡ false → m ≡ 1 → n ≡ 3 → ⊥
 stops-no m n h p q = let k : true ≡ false = rw (p, q) at h in subst T k tt
 
 pub stops-yes : (m n : ℕ) → eqb m 1 && eqb n 3 ≡ true → (m ≡ 1) × (n ≡ 3)
 stops-yes m n h = (eqb-true m 1 (and-left (eqb m 1) (eqb n 3) h), eqb-true n 3 (and-right (eqb m 1) (eqb n 3) h))
+
+-- From a place of the chunk to a place of the bytes held and then the chunk.
+module _ (d : Decoder) (chunk : List ℕ) (few : d .held ≤ 3) where
+  pub joined-length : length (heldOf d ++ chunk) ≡ d .held + length chunk
+  joined-length = all-length (d .held) (d .first) (d .second) (d .third) chunk few
+
+  past : (k : ℕ) → drop (d .held + k) (heldOf d ++ chunk) ≡ drop k chunk
+  past k = sym (drop-drop k (d .held) (heldOf d ++ chunk)) ∙ ap (drop k) (drop-at (heldOf d) chunk (d .held) (length-take-le (d .held) (d .first ∷ d .second ∷ d .third ∷ []) few))
+
+  pub held-runs : {f : Shift → List ℕ → Next} {m at k w w′ : ℕ} {s s′ : Shift} {room room′ : List ℕ} → d .held ≤ at → Runs f m chunk (at - d .held) k s s′ w w′ room room′ →
+      Runs f m (heldOf d ++ chunk) at (d .held + k) s s′ w w′ room room′
+  held-runs {f} {m} {at} {k} {w} {w′} {s} {s′} {room} {room′} h r =
+      let z : d .held + (at - d .held) ≡ at = omega arith in
+      let from : drop at (heldOf d ++ chunk) ≡ drop (at - d .held) chunk = ap (λ (n : ℕ). drop n (heldOf d ++ chunk)) (sym z) ∙ past (at - d .held) in
+      record {
+        ahead = omega (arith, r .ahead);
+        inside = λ l. let i = r .inside (omega (arith, joined-length)) in omega (arith, joined-length);
+        space = omega (arith, joined-length, r .space, r .ahead);
+        size = r .size;
+        ran = rw (from, past k) (r .ran);
+      }
+
+-- A run carries what holds at the loop's head.
+pub carried : {d : Decoder} {chunk t1 t2 room₀ room room′ : List ℕ} {at at′ state state′ flag flag′ w w′ : ℕ} → Running d chunk t1 t2 room₀ room at state flag w →
+    Runs (next (lent t1 t2) (family (d .encoding))) (d .mode) (heldOf d ++ chunk) at at′ (shift state (eqb flag 1)) (shift state′ (eqb flag′ 1)) w w′ room room′ →
+    Running d chunk t1 t2 room₀ room′ at′ state′ flag′ w′
+carried {d} {chunk} {t1} {t2} {room₀} {room} {room′} {at} {at′} {state} {state′} {flag} {flag′} {w} {w′} R r =
+    let n = joined-length d chunk (R .few) in
+    let e : emit (d .encoding) (d .mode) (puts (r .ran .items) (decode (next (lent t1 t2) (family (d .encoding))) (shift state′ (eqb flag′ 1)) (drop at′ (heldOf d ++ chunk)))) w room ≡
+    emit (d .encoding) (d .mode) (decode (next (lent t1 t2) (family (d .encoding))) (shift state′ (eqb flag′ 1)) (drop at′ (heldOf d ++ chunk))) w′ room′ =
+    emit-puts (d .encoding) (d .mode) (r .ran .items) _ w room (r .ran .sound) (omega (arith, r .ran .count, r .space, n, R .space)) ∙
+    rw (r .ran .count, r .ran .wrote) refl in
+    record {
+      few = R .few;
+      short = R .short;
+      place = let i = r .inside (omega (arith, n, R .place)) in omega (arith, n);
+      space = omega (arith, r .space, r .size, n, R .space);
+      size = r .size ∙ R .size;
+      outcome = R .outcome ∙ ap (λ (x : Read). emit (d .encoding) (d .mode) x w room) (r .ran .read) ∙ e;
+    }

@@ -8,6 +8,7 @@ use borrow.Author.Tests.{eqb-true, eqb-false, leb-true, leb-false, le-leb, lt-le
 use Rattle.standard.specs.Base.{_then_else_}
 use Rattle.standard.specs.Encodings.{Family, UTF-8, single-byte, windows-1252, GB18030, Big5, EUC-JP, ISO-2022-JP, Shift-JIS, EUC-KR, Replacement, UTF-16BE, UTF-16LE, x-user-defined, family, traits, secondFits}
 use Rattle.standard.specs.Sequence.{Shift}
+use Rattle.multibyte.proofs.Dispatch.{beyond}
 use Rattle.decoder.specs.Valid.{possible}
 
 -- by the family of a number, with what is known of the number
@@ -25,9 +26,6 @@ pub record Cases (e : ℕ) (P : Family → Type 0) : Type 0 where
   pub c37 : e ≡ 37 → P UTF-16BE
   pub c38 : e ≡ 38 → P UTF-16LE
   pub c39 : 39 ≤ e → P x-user-defined
-
-pub beyond : (n e : ℕ) → n ≤ e → (e ≡ n → ⊥) → n < e
-beyond n e h k = omega arith
 
 module _ (P : Family → Type 0) where
   pick : (t : Bool) {f g : Family} → (t ≡ true → P f) → (t ≡ false → P g) → P (t then f else g)

@@ -1,14 +1,9 @@
 -- The values of the code, as the definitions have them. Assumes nothing.
-use mathlib.Core.List.{List, _++_}
-use Prim.Native.Nat.{ℕ, _+_}
-use lib.ListN.{length, take, drop}
+use mathlib.Core.List.{List}
+use Prim.Native.Nat.{ℕ}
 use Rattle.standard.specs.Sequence.{Shift}
 use Rattle.decoder.specs.Calls.{closed, holding}
 use Rattle.decoder.specs.declared.Answer.{Answer}
-
--- the room with scalars written from a place on
-abbrev pub patch : ℕ → List ℕ → List ℕ → List ℕ
-patch w cs room = take w room ++ cs ++ drop (w + length cs) room
 
 -- the answer of a decoder that has ended
 abbrev pub closing : ℕ → ℕ → ℕ → ℕ → Answer

@@ -2,23 +2,13 @@
 
 mod refusals;
 
+use multibyte::next;
+use multibyte::run;
 use refusals::feed_refusal;
 use refusals::finish_refusal;
 use refusals::marked;
+use runs::Place;
 use sequences::Sequence;
-use sequences::big5::big5;
-use sequences::drop_mark;
-use sequences::euc_jp::euc_jp;
-use sequences::euc_kr::euc_kr;
-use sequences::gb18030::gb18030;
-use sequences::iso_2022_jp::iso_2022_jp;
-use sequences::replacement::replacement;
-use sequences::shift_jis::shift_jis;
-use sequences::single_byte::single_byte;
-use sequences::user_defined::user_defined;
-use sequences::utf_16::utf_16;
-use sequences::utf8::utf8;
-use sequences::windows_1252::windows_1252;
 ghost use mathlib.Core.Path.{_≡_};
 ghost use mathlib.Core.Bool.{false, _&&_};
 ghost use mathlib.Core.List.{_∷_, [], _++_};
@@ -32,7 +22,8 @@ ghost use Rattle.standard.specs.Decode.{decode, ending, lastOut, given};
 ghost use Rattle.sequences.specs.Code.{nextOf, outOf, front};
 ghost use Rattle.decoder.specs.Valid.{shiftOf, heldOf};
 ghost use Rattle.decoder.specs.Calls.{bit, opening, closed, handOut, handOutRead, feeding, finishing};
-ghost use Rattle.decoder.specs.Code.{patch, closing, leaving};
+ghost use Rattle.runs.specs.Run.{patch, Runs};
+ghost use Rattle.decoder.specs.Code.{closing, leaving};
 
 // What a decoder keeps from call to call. Every field is a number in use; one that is not in use is 0.
 #[repr(C)]
@@ -60,59 +51,6 @@ pub struct Answer {
     pub written: usize,
     pub refusal: u8,
     pub decoder: Decoder,
-}
-
-// The sequence at the front of up to four bytes.
-fn next(
-    t1: &[u32],
-    t2: &[u32],
-    encoding: u8,
-    state: u8,
-    flag: u8,
-    b0: u8,
-    b1: u8,
-    b2: u8,
-    b3: u8,
-    have: usize,
-) -> Sequence
-    ensures { λ r. ⌜ nextOf r ≡ next (lent (now (t1 .entry)) (now (t2 .entry))) (family encoding) (shift state (eqb flag 1)) (front have b0 b1 b2 b3) ⌝ }
-{
-    if encoding == 0 {
-        let q = utf8(b0, b1, b2, b3, have);
-        return drop_mark(q, flag == 1);
-    }
-    if encoding == 21 {
-        return windows_1252(b0, b1, b2, b3, have);
-    }
-    if encoding <= 28 {
-        return single_byte(t1, b0, b1, b2, b3, have);
-    }
-    if encoding <= 30 {
-        return gb18030(t1, t2, b0, b1, b2, b3, have);
-    }
-    if encoding == 31 {
-        return big5(t1, b0, b1, b2, b3, have);
-    }
-    if encoding == 32 {
-        return euc_jp(t1, t2, b0, b1, b2, b3, have);
-    }
-    if encoding == 33 {
-        return iso_2022_jp(t1, t2, state, flag, b0, b1, b2, b3, have);
-    }
-    if encoding == 34 {
-        return shift_jis(t1, b0, b1, b2, b3, have);
-    }
-    if encoding == 35 {
-        return euc_kr(t1, b0, b1, b2, b3, have);
-    }
-    if encoding == 36 {
-        return replacement(state, flag, b0, b1, b2, b3, have);
-    }
-    if encoding <= 38 {
-        let q = utf_16(encoding == 37, b0, b1, b2, b3, have);
-        return drop_mark(q, flag == 1);
-    }
-    user_defined(b0, b1, b2, b3, have)
 }
 
 // The byte at a place of the bytes held and then the chunk; 0 past their end.
@@ -249,6 +187,50 @@ fn holds(d: Decoder, chunk: &[u8], at: usize, state: u8, flag: u8, written: usiz
     }
 }
 
+// A run from a place of the bytes held and then the chunk, once the bytes held are read.
+fn run_from(
+    d: Decoder,
+    chunk: &[u8],
+    t1: &[u32],
+    t2: &[u32],
+    at: usize,
+    room: &mut [u32],
+    written: usize,
+    state: u8,
+    flag: u8,
+) -> Place
+    requires { ⌜ (d .held ≤ 3) × (length (now chunk) ≤ 65536) × (at ≤ d .held + length (now chunk)) ⌝ }
+    ensures { λ r. ⌜ Runs (next (lent (now (t1 .entry)) (now (t2 .entry))) (family (d .encoding))) (d .mode) (heldOf d ++ now (chunk .entry)) at (r .at) (shift state (eqb flag 1)) (shift (r .state) (eqb (r .flag) 1)) written (r .written) (now (room .entry)) (now (room .exit)) ⌝ }
+{
+    let held = d.held as usize;
+    if at < held {
+        return Place {
+            at,
+            written,
+            state,
+            flag,
+        };
+    }
+    let r = run(
+        d.encoding,
+        d.mode,
+        chunk,
+        t1,
+        t2,
+        at - held,
+        room,
+        written,
+        state,
+        flag,
+    );
+    Place {
+        at: held + r.at,
+        written: r.written,
+        state: r.state,
+        flag: r.flag,
+    }
+}
+
 // An accepted feed: sequence after sequence, from the bytes held and then the chunk.
 fn read(d: Decoder, chunk: &[u8], t1: &[u32], t2: &[u32], room: &mut [u32]) -> Answer
     requires { ⌜ (d .held ≤ 3) × (length (now chunk) ≤ 65536) × (length (now chunk) + d .held ≤ length (now room)) ⌝ }
@@ -260,6 +242,14 @@ fn read(d: Decoder, chunk: &[u8], t1: &[u32], t2: &[u32], room: &mut [u32]) -> A
     let mut flag = d.flag;
     let mut written: usize = 0;
     loop {
+        let p = run_from(d, chunk, t1, t2, at, room, written, state, flag);
+        at = p.at;
+        written = p.written;
+        state = p.state;
+        flag = p.flag;
+        if at == d.held as usize + chunk.len() {
+            return holds(d, chunk, at, state, flag, written);
+        }
         let q = sequence_at(d, chunk, t1, t2, at, state, flag);
         if q.width == 0 {
             return holds(d, chunk, at, state, flag, written);

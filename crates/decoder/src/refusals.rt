@@ -1,7 +1,7 @@
 // The refusals of feed and finish: the lent tables, and the test of a record.
 
 use crate::Decoder;
-use crate::next;
+use multibyte::next;
 ghost use mathlib.Core.Path.{_≡_};
 ghost use mathlib.Core.Bool.{true, false, _&&_, _||_};
 ghost use Prim.Native.Nat.{_+_, _%_, _≤_, _<_};
@@ -139,6 +139,9 @@ fn started(d: Decoder) -> bool
     requires { ⌜ d .held ≤ 3 ⌝ }
     ensures { λ r. ⌜ r ≡ isMore (next noTables (family (d .encoding)) (shiftOf d) (heldOf d)) ⌝ }
 {
+    if d.held == 0 {
+        return true;
+    }
     let none = [0u32; 1];
     let empty = &none[0..0];
     let q = next(

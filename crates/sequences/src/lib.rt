@@ -113,7 +113,7 @@ fn gives_pair(have: usize, trail: u8, c: u32) -> Sequence
 }
 
 // low to high, inclusive
-fn within(low: u8, b: u8, high: u8) -> bool
+pub fn within(low: u8, b: u8, high: u8) -> bool
     ensures { λ r. ⌜ r ≡ within low b high ⌝ }
 {
     if b < low {

@@ -107,7 +107,7 @@ fn four(b0: u8, b1: u8, b2: u8, b3: u8, have: usize) -> Sequence
 }
 
 // The range of the second byte, after a lead of three or four.
-fn low(b0: u8) -> u8
+pub fn low(b0: u8) -> u8
     ensures { λ r. ⌜ r ≡ utf8Low b0 ⌝ }
 {
     if b0 == 0xE0 {
@@ -119,7 +119,7 @@ fn low(b0: u8) -> u8
     0x80
 }
 
-fn high(b0: u8) -> u8
+pub fn high(b0: u8) -> u8
     ensures { λ r. ⌜ r ≡ utf8High b0 ⌝ }
 {
     if b0 == 0xED {

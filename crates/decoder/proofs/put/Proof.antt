@@ -2,7 +2,8 @@ use native.Mathlib.Numerals.{add-one}
 use lib.ListN.{length, length-set}
 use mathlib.Core.List.{[], _∷_}
 use mathlib.Core.Path.{refl, ap}
-use Rattle.decoder.proofs.Loop.{out-error, out-none, out-one, out-two, out-some, patch-sets, patch-none}
+use Rattle.runs.proofs.Patches.{patch-sets, patch-none}
+use Rattle.decoder.proofs.Loop.{out-error, out-none, out-one, out-two, out-some}
 use native.Mathlib.Omega.{arith}
 use borrow.Author.Needs.{needs}
 use Rattle.decoder.proofs.put.Statement.{statement}

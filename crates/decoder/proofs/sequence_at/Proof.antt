@@ -5,7 +5,8 @@ use Prim.Native.Nat.{ℕ, _-_}
 use Rattle.decoder.specs.Valid.{heldOf}
 use Rattle.standard.specs.Sequence.{shift}
 use Rattle.standard.specs.Encodings.{family, lent}
-use Rattle.decoder.proofs.Loop.{front-is, all-length}
+use Rattle.runs.proofs.Fronts.{front-is}
+use Rattle.decoder.proofs.Loop.{all-length}
 use native.Mathlib.Omega.{arith}
 use borrow.Author.Needs.{needs}
 use Rattle.decoder.proofs.sequence_at.Statement.{statement}

@@ -1,8 +1,13 @@
-use Rattle.decoder.proofs.Checks.{started-is}
+use Rattle.decoder.proofs.Checks.{none-started, started-is}
 use native.Mathlib.Omega.{arith}
 use borrow.Author.Needs.{needs}
 use Rattle.decoder.proofs.refusals.started.Statement.{statement}
 use Rattle.decoder.proofs.refusals.started.Tie as tie
+
+returns : tie.Need-returns
+returns c =
+    let d = c .before .before .args .d in
+    none-started d (omega arith)
 
 sub-empty : tie.Need-sub-empty
 sub-empty c = search needs
@@ -19,9 +24,9 @@ cast-next c = search needs
 next-requires : tie.Need-next-requires
 next-requires c κs = search needs
 
-returns : tie.Need-returns
-returns c = started-is ((c .before .before .before .before .before .args) .d) _ (c .before .next .result) (omega arith) (c .before .next .ensures)
+returns-2 : tie.Need-returns-2
+returns-2 c = started-is ((c .before .before .before .before .before .before .before .args) .d) _ (c .before .next .result) (omega arith) (c .before .next .ensures)
 
 pub started-spec : {M : Type 1} → statement M
 started-spec =
-    tie.close (tie.spec sub-empty part-empty-start part-empty-end cast-next next-requires returns)
+    tie.close (tie.spec returns sub-empty part-empty-start part-empty-end cast-next next-requires returns-2)

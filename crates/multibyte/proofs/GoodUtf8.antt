@@ -1,0 +1,41 @@
+-- Whole sequences of UTF-8. Assumes nothing.
+use mathlib.Core.Path.{_≡_, refl, _∙_}
+use mathlib.Core.Bool.{true, false}
+use mathlib.Core.List.{List, _∷_}
+use Prim.Native.Nat.{ℕ, _+_, _-_, _*_, _≤_, _<_}
+use native.Mathlib.Omega.{arith}
+use borrow.Author.Tests.{lt-ltb, le-ltb}
+use Rattle.standard.specs.Base.{_then_else_, within}
+use Rattle.standard.specs.Encodings.{family, Tables, lent}
+use Rattle.standard.specs.Sequence.{Next, more, item, plain, scalar}
+use Rattle.standard.specs.Next.{next, unmarked}
+use Rattle.standard.specs.Sequences.Utf8.{utf8, utf8Low, utf8High}
+use Rattle.standard.proofs.Tests.{above}
+use Rattle.sequences.proofs.Leaves.{in-range}
+use Rattle.multibyte.proofs.Dispatch.{is-utf8}
+
+module _ (b c : ℕ) (xs : List ℕ) where
+  pub good-two : 0xC2 ≤ b → b ≤ 0xDF → within 0x80 c 0xBF ≡ true → utf8 (b ∷ c ∷ xs) ≡ scalar 2 ((b - 0xC0) * 64 + (c - 0x80))
+  unfolding utf8
+  good-two h k i = rw (le-ltb b 0x80 (omega arith), in-range 0xC2 b 0xDF h k, i)
+
+  pub good-three : (d : ℕ) → 0xE0 ≤ b → b ≤ 0xEF → within (utf8Low b) c (utf8High b) ≡ true → within 0x80 d 0xBF ≡ true → utf8 (b ∷ c ∷ d ∷ xs) ≡ scalar 3 ((b - 0xE0) * 4096 + (c - 0x80) * 64 + (d - 0x80))
+  unfolding utf8
+  good-three d h k i j = rw (le-ltb b 0x80 (omega arith), above 0xC2 b 0xDF (omega arith), in-range 0xE0 b 0xEF h k, i, j)
+
+  pub good-four : (d e : ℕ) → 0xF0 ≤ b → b ≤ 0xF4 → within (utf8Low b) c (utf8High b) ≡ true → within 0x80 d 0xBF ≡ true → within 0x80 e 0xBF ≡ true →
+      utf8 (b ∷ c ∷ d ∷ e ∷ xs) ≡ scalar 4 ((b - 0xF0) * 262144 + (c - 0x80) * 4096 + (d - 0x80) * 64 + (e - 0x80))
+  unfolding utf8
+  good-four d e h k i j l = rw (le-ltb b 0x80 (omega arith), above 0xC2 b 0xDF (omega arith), above 0xE0 b 0xEF (omega arith), in-range 0xF0 b 0xF4 h k, i, j, l)
+
+-- no mark is to be dropped
+pub plain-utf8 : (t1 t2 xs : List ℕ) → next (lent t1 t2) (family 0) plain xs ≡ utf8 xs
+plain-utf8 t1 t2 xs = is-utf8 t1 t2 0 plain xs refl ∙ kept (utf8 xs)
+  where
+    kept : (a : Next) → unmarked false a ≡ a
+    kept more = refl
+    kept (item w s o) = refl
+
+pub self-utf8 : (t1 t2 : List ℕ) (b : ℕ) (ys : List ℕ) → b < 0x80 → next (lent t1 t2) (family 0) plain (b ∷ ys) ≡ scalar 1 b
+unfolding utf8
+self-utf8 t1 t2 b ys h = plain-utf8 t1 t2 (b ∷ ys) ∙ rw (lt-ltb b 0x80 h)

@@ -1,0 +1,35 @@
+-- A sequence that gives one scalar, by its fields. Assumes nothing.
+use mathlib.Core.Path.{_≡_, refl, subst}
+use mathlib.Core.List.{[], _∷_}
+use Prim.Native.Nat.{ℕ}
+use native.Mathlib.Omega.{arith}
+use lib.Dec.{eqb}
+use borrow.Author.Tests.{ne-eqb}
+use Rattle.standard.specs.Sequence.{Shift, text, error, item, shift, plain}
+use Rattle.sequences.specs.Code.{nextOf}
+use Rattle.sequences.specs.declared.Sequence.{Sequence}
+use Rattle.runs.specs.Run.{Gives}
+
+-- the shift that it leaves
+abbrev pub left : Sequence → Shift
+left q = shift (q .state) (eqb (q .flag) 1)
+
+pub silent-item : (q : Sequence) → (q .width ≡ 0 → ⊥) → q .count ≡ 0 → nextOf q ≡ item (q .width) (left q) (text [])
+silent-item q w h = rw (ne-eqb (q .width) 0 w, h)
+
+module _ (m : ℕ) (q : Sequence) (w : q .width ≡ 0 → ⊥) where
+  pub gives-first : q .count ≡ 1 → Gives m (nextOf q) (q .width) (left q) (q .first)
+  gives-first h = record { out = text (q .first ∷ []); is = rw (ne-eqb (q .width) 0 w, h); gives = refl; allowed = λ e n. let z : _≡_ {A = ℕ} 0 1 = cc in absurd (omega arith) }
+
+  pub gives-error : q .count ≡ 3 → (m ≡ 1 → ⊥) → Gives m (nextOf q) (q .width) (left q) 0xFFFD
+  gives-error h n = record { out = error; is = rw (ne-eqb (q .width) 0 w, h); gives = refl; allowed = λ e x. n e }
+
+  module _ (s : q .state ≡ 0) (f : q .flag ≡ 0) where
+    left-plain : left q ≡ plain
+    left-plain = rw (s, f)
+
+    pub gives-first-plain : q .count ≡ 1 → Gives m (nextOf q) (q .width) plain (q .first)
+    gives-first-plain h = subst (λ (x : Shift). Gives m (nextOf q) (q .width) x (q .first)) left-plain (gives-first h)
+
+    pub gives-error-plain : q .count ≡ 3 → (m ≡ 1 → ⊥) → Gives m (nextOf q) (q .width) plain 0xFFFD
+    gives-error-plain h n = subst (λ (x : Shift). Gives m (nextOf q) (q .width) x 0xFFFD) left-plain (gives-error h n)

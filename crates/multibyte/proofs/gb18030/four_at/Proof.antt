@@ -1,0 +1,83 @@
+use Rattle.multibyte.proofs.GbRuns.{at-front, four-told}
+use Rattle.standard.specs.Encodings.{lent}
+use lib.ListN.{getD}
+use Prim.Native.Nat.{_+_}
+use borrow.Author.Tests.{not-false}
+use mathlib.Core.Path.{refl, sym, _∙_}
+use native.Mathlib.Omega.{arith}
+use borrow.Author.Needs.{needs}
+use Rattle.multibyte.proofs.gb18030.four_at.Statement.{statement}
+use Rattle.multibyte.proofs.gb18030.four_at.Tie as tie
+
+returns : tie.Need-returns
+returns c = λ z. absurd (z refl)
+
+shared-slice-read-four-pointer : tie.Need-shared-slice-read-four-pointer
+shared-slice-read-four-pointer c = search needs
+
+add-four-pointer : tie.Need-add-four-pointer
+add-four-pointer c = search needs
+
+shared-slice-read-four-pointer-2 : tie.Need-shared-slice-read-four-pointer-2
+shared-slice-read-four-pointer-2 c = search needs
+
+add-four-pointer-2 : tie.Need-add-four-pointer-2
+add-four-pointer-2 c = search needs
+
+shared-slice-read-four-pointer-3 : tie.Need-shared-slice-read-four-pointer-3
+shared-slice-read-four-pointer-3 c = search needs
+
+add-four-pointer-3 : tie.Need-add-four-pointer-3
+add-four-pointer-3 c = search needs
+
+shared-slice-read-four-pointer-4 : tie.Need-shared-slice-read-four-pointer-4
+shared-slice-read-four-pointer-4 c = search needs
+
+four-pointer-requires : tie.Need-four-pointer-requires
+four-pointer-requires c κs = search needs
+
+gap-requires : tie.Need-gap-requires
+gap-requires c κs = search needs
+
+returns-2 : tie.Need-returns-2
+returns-2 c = λ z. absurd (z refl)
+
+four-scalar-requires : tie.Need-four-scalar-requires
+four-scalar-requires c κs =
+    let at-pre = c .before .before .before .before .before .before .before .before .before .before .before .before .pre in
+    let at-if1 = c .before .before .before .before .before .before .before .before .if1 in
+    at-pre .1 (not-false _ (at-if1 .left))
+
+same-length : tie.Need-same-length
+same-length c = search needs
+
+returns-3 : tie.Need-returns-3
+returns-3 c =
+    let args = c .before .before .before .before .before .before .before .before .before .before .before .before .before .before .before .args in
+    let chunk = args .chunk .now in
+    let i = args .i in
+    let told = c .before .before .before .before .before .gap .ensures (c .before .before .before .before .if2 .left) in
+    λ z first.
+    let r = c .before .before .four-scalar .ensures z in
+    sym (at-front (lent first (args .ranges .now)) chunk i (omega arith)) ∙
+    four-told (args .ranges .now) (c .before .before .before .before .before .before .four-pointer .result) (c .before .before .four-scalar .result) (getD chunk i 0) (getD chunk (i + 1) 0) (getD chunk (i + 2) 0) (getD chunk (i + 3) 0)
+    (c .before .before .before .before .before .before .four-pointer .ensures (told .2)) (told .0) (told .1) (r .0) (r .1) z first
+
+pub four-at-spec : {M : Type 1} → statement M
+four-at-spec =
+    tie.close
+    (tie.spec
+    returns
+    shared-slice-read-four-pointer
+    add-four-pointer
+    shared-slice-read-four-pointer-2
+    add-four-pointer-2
+    shared-slice-read-four-pointer-3
+    add-four-pointer-3
+    shared-slice-read-four-pointer-4
+    four-pointer-requires
+    gap-requires
+    returns-2
+    four-scalar-requires
+    same-length
+    returns-3)

@@ -1,0 +1,126 @@
+use Rattle.runs.proofs.Families.{family-gb, family-iso}
+use Rattle.runs.proofs.Running.{runs-none}
+use Rattle.standard.specs.Sequence.{shift}
+use Rattle.standard.specs.Encodings.{family, lent}
+use lib.Dec.{eqb}
+use mathlib.Core.Path.{_≡_}
+use native.Mathlib.Omega.{arith}
+use borrow.Author.Needs.{needs}
+use Rattle.multibyte.proofs.go.Statement.{statement}
+use Rattle.multibyte.proofs.go.Tie as tie
+
+iso-2022-jp-run-requires : tie.Need-iso-2022-jp-run-requires
+iso-2022-jp-run-requires c κs = search needs
+
+same-length : tie.Need-same-length
+same-length c = search needs
+
+returns : tie.Need-returns
+returns c =
+    let args = c .before .before .before .before .before .before .before .before .before .args in
+    let at-iso-2022-jp-run = c .before .before .iso-2022-jp-run in
+    rw (family-iso (args .encoding) (omega arith)) (at-iso-2022-jp-run .ensures)
+
+still-requires : tie.Need-still-requires
+still-requires c κs = search needs
+
+returns-2 : tie.Need-returns-2
+returns-2 c =
+    let args = c .before .before .before .before .before .before .before .args in
+    rw (c .still .ensures) (runs-none (lent (args .t1 .now) (args .t2 .now)) (family (args .encoding)) (args .mode) (args .chunk .now) (args .from) (shift (args .state) (eqb (args .flag) 1)) (args .place) (args .room .now))
+
+still-requires-2 : tie.Need-still-requires-2
+still-requires-2 c κs = search needs
+
+returns-3 : tie.Need-returns-3
+returns-3 c =
+    let args = c .before .before .before .before .before .before .before .before .args in
+    rw (c .still2 .ensures) (runs-none (lent (args .t1 .now) (args .t2 .now)) (family (args .encoding)) (args .mode) (args .chunk .now) (args .from) (shift (args .state) (eqb (args .flag) 1)) (args .place) (args .room .now))
+
+utf8-run-requires : tie.Need-utf8-run-requires
+utf8-run-requires c κs = search needs
+
+same-length-2 : tie.Need-same-length-2
+same-length-2 c = search needs
+
+returns-4 : tie.Need-returns-4
+returns-4 c =
+    let args = c .before .before .before .before .before .before .before .before .before .before .before .before .args in
+    let at-utf8-run = c .before .before .utf8-run in
+    let s0 : args .state ≡ 0 = omega arith in
+    let f0 : args .flag ≡ 0 = omega arith in
+    let e0 : args .encoding ≡ 0 = omega arith in
+    rw (s0, f0, e0) (at-utf8-run .ensures)
+
+run-requires : tie.Need-run-requires
+run-requires c κs = search needs
+
+same-length-3 : tie.Need-same-length-3
+same-length-3 c = search needs
+
+returns-5 : tie.Need-returns-5
+returns-5 c = c .before .before .run .ensures
+
+gb18030-run-requires : tie.Need-gb18030-run-requires
+gb18030-run-requires c κs = search needs
+
+same-length-4 : tie.Need-same-length-4
+same-length-4 c = search needs
+
+returns-6 : tie.Need-returns-6
+returns-6 c =
+    let args = c .before .before .before .before .before .before .before .before .before .before .before .before .before .before .args in
+    let at-gb18030-run = c .before .before .gb18030-run in
+    let s0 : args .state ≡ 0 = omega arith in
+    let f0 : args .flag ≡ 0 = omega arith in
+    rw (s0, f0, family-gb (args .encoding) (omega arith) (omega arith)) (at-gb18030-run .ensures)
+
+pairs-run-requires : tie.Need-pairs-run-requires
+pairs-run-requires c κs = search needs
+
+same-length-5 : tie.Need-same-length-5
+same-length-5 c = search needs
+
+returns-7 : tie.Need-returns-7
+returns-7 c =
+    let args = c .before .before .before .before .before .before .before .before .before .before .before .before .before .before .before .args in
+    let at-pairs-run = c .before .before .pairs-run in
+    let s0 : args .state ≡ 0 = omega arith in
+    let f0 : args .flag ≡ 0 = omega arith in
+    rw (s0, f0) (at-pairs-run .ensures)
+
+run-requires-2 : tie.Need-run-requires-2
+run-requires-2 c κs = search needs
+
+same-length-6 : tie.Need-same-length-6
+same-length-6 c = search needs
+
+returns-8 : tie.Need-returns-8
+returns-8 c = c .before .before .run2 .ensures
+
+pub go-spec : {M : Type 1} → statement M
+go-spec =
+    tie.close
+    (tie.spec
+    iso-2022-jp-run-requires
+    same-length
+    returns
+    still-requires
+    returns-2
+    still-requires-2
+    returns-3
+    utf8-run-requires
+    same-length-2
+    returns-4
+    run-requires
+    same-length-3
+    returns-5
+    gb18030-run-requires
+    same-length-4
+    returns-6
+    pairs-run-requires
+    same-length-5
+    returns-7
+    run-requires-2
+    same-length-6
+    returns-8)

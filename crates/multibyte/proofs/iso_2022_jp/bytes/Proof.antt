@@ -1,0 +1,99 @@
+use Rattle.multibyte.proofs.IsoRuns.{byte-there}
+use Rattle.runs.proofs.Steps.{at-place, going-one}
+use Rattle.runs.proofs.Running.{Going, going-start}
+use Rattle.standard.specs.Sequence.{shift}
+use Rattle.standard.specs.Encodings.{lent, ISO-2022-JP}
+use borrow.Author.Tests.{not-false}
+use borrow.Author.Needs.{needs}
+use lib.ListN.{length}
+use lib.Dec.{eqb}
+use native.Mathlib.Omega.{arith}
+use Prim.Native.Nat.{_-_}
+use Rattle.multibyte.proofs.iso_2022_jp.bytes.Statement.{statement}
+use Rattle.multibyte.proofs.iso_2022_jp.bytes.Tie as tie
+
+abbrev Inv-loop : tie.InvT-loop
+Inv-loop mode chunk t1 t2 from room₀ place flag n i₀ o₀ f₀ room i o f =
+    Going (lent t1 t2) ISO-2022-JP mode chunk from i (shift 0 (eqb flag 1)) (shift 0 (eqb f 1)) place o room₀ room
+
+abbrev μ-loop : tie.MeasureT-loop
+μ-loop mode chunk t1 t2 from room₀ place flag n i₀ o₀ f₀ room i o f = length chunk - i
+
+loop-holds : tie.Need-loop-holds Inv-loop μ-loop
+loop-holds c =
+    let args = c .before .before .before .before .args in
+    going-start (lent (args .t1 .now) (args .t2 .now)) ISO-2022-JP (args .mode) (args .chunk .now) (args .from) (shift 0 (eqb (args .flag) 1)) (args .place) (args .room .now) (omega arith) (omega arith) (omega arith)
+
+shared-slice-read-b : tie.Need-shared-slice-read-b Inv-loop μ-loop
+shared-slice-read-b c =
+    let at-loop = c .before .before .loop in
+    omega (arith, c .before .loop-test .taken, at-place (at-loop .inv))
+
+one-scalar-requires : tie.Need-one-scalar-requires Inv-loop μ-loop
+one-scalar-requires c κs = search needs
+
+same-length : tie.Need-same-length Inv-loop μ-loop
+same-length c = c .before .before .before .before .loop .inv .runs .size
+
+returns : tie.Need-returns Inv-loop μ-loop
+returns c = c .before .before .before .before .loop .inv .runs
+
+byte-scalar-requires : tie.Need-byte-scalar-requires Inv-loop μ-loop
+byte-scalar-requires c κs = search needs
+
+mul-room : tie.Need-mul-room Inv-loop μ-loop
+mul-room c = search needs
+
+slice-write-room : tie.Need-slice-write-room Inv-loop μ-loop
+slice-write-room c =
+    let at-loop = c .before .before .before .before .before .loop in
+    omega (arith, c .before .before .before .before .loop-test .taken, at-place (at-loop .inv))
+
+add-i : tie.Need-add-i Inv-loop μ-loop
+add-i c =
+    let at-loop = c .before .before .before .before .before .loop in
+    omega (arith, c .before .before .before .before .loop-test .taken, at-place (at-loop .inv))
+
+add-o : tie.Need-add-o Inv-loop μ-loop
+add-o c =
+    let at-loop = c .before .before .before .before .before .loop in
+    omega (arith, c .before .before .before .before .loop-test .taken, at-place (at-loop .inv))
+
+loop-less : tie.Need-loop-less Inv-loop μ-loop
+loop-less c =
+    let at-loop = c .before .before .before .before .before .loop in
+    omega (arith, c .before .before .before .before .loop-test .taken, at-place (at-loop .inv))
+
+loop-again : tie.Need-loop-again Inv-loop μ-loop
+loop-again c =
+    let args = c .before .before .before .before .before .before .before .before .before .before .args in
+    let at-loop = c .before .before .before .before .before .loop in
+    let takes = c .before .before .one-scalar .ensures (not-false _ (c .before .if1 .left)) in
+    going-one (at-loop .inv) (byte-there (args .mode) (args .chunk .now) (at-loop .i) (eqb (at-loop .f) 1) (lent (args .t1 .now) (args .t2 .now)) (omega (arith, c .before .before .before .before .loop-test .taken)) (takes .0) (takes .1) (c .byte-scalar .result) (c .byte-scalar .ensures))
+
+same-length-2 : tie.Need-same-length-2 Inv-loop μ-loop
+same-length-2 c = c .before .loop .inv .runs .size
+
+returns-2 : tie.Need-returns-2 Inv-loop μ-loop
+returns-2 c = c .before .loop .inv .runs
+
+pub bytes-spec : {M : Type 1} → statement M
+bytes-spec =
+    tie.close
+    (tie.spec
+    Inv-loop
+    μ-loop
+    loop-holds
+    shared-slice-read-b
+    one-scalar-requires
+    same-length
+    returns
+    byte-scalar-requires
+    mul-room
+    slice-write-room
+    add-i
+    add-o
+    loop-less
+    loop-again
+    same-length-2
+    returns-2)

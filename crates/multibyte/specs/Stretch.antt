@@ -1,0 +1,17 @@
+-- Stretches of ASCII in a chunk. Assumes nothing.
+use mathlib.Core.Path.{_≡_}
+use mathlib.Core.List.{List, [], _∷_}
+use Prim.Native.Nat.{ℕ, _+_, _≤_, _<_}
+use lib.ListN.{length, take, drop, getD}
+use Rattle.runs.specs.Run.{patch}
+
+-- the eight bytes at a place
+abbrev pub eight : List ℕ → ℕ → List ℕ
+eight xs i = getD xs i 0 ∷ getD xs (i + 1) 0 ∷ getD xs (i + 2) 0 ∷ getD xs (i + 3) 0 ∷ getD xs (i + 4) 0 ∷ getD xs (i + 5) 0 ∷ getD xs (i + 6) 0 ∷ getD xs (i + 7) 0 ∷ []
+
+-- A stretch of k bytes below 80, copied into the room from place w on.
+pub record Copied (chunk : List ℕ) (from k w : ℕ) (room room′ : List ℕ) : Type 0 where
+  pub inside : from + k ≤ length chunk
+  pub ascii : (j : ℕ) → j < k → getD chunk (from + j) 0 < 0x80
+  pub size : length room′ ≡ length room
+  pub wrote : room′ ≡ patch w (take k (drop from chunk)) room

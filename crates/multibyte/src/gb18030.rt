@@ -1,0 +1,319 @@
+// Runs of gb18030, and of GBK, which is decoded the same way.
+
+use crate::ascii::copy_ascii;
+use crate::next_at;
+use crate::scalar_of;
+use index::cell;
+use index::mapped;
+use runs::Place;
+use sequences::within;
+ghost use mathlib.Core.Path.{_≡_};
+ghost use mathlib.Core.Bool.{true, false, _||_};
+ghost use mathlib.Core.List.{List};
+ghost use Prim.Native.Nat.{ℕ, _+_, _-_, _*_, _/_, _≤_, _<_};
+ghost use lib.Dec.{ltb, eqb};
+ghost use lib.ListN.{length, drop, getD};
+ghost use Rattle.standard.specs.Base.{within, mapped};
+ghost use Rattle.standard.specs.Encodings.{Tables, GB18030, lent};
+ghost use Rattle.standard.specs.Sequence.{code, scalar, shift, plain};
+ghost use Rattle.standard.specs.Sequences.Gb18030.{gb18030, gbRange, gbFourCode};
+ghost use Rattle.standard.specs.Next.{next};
+ghost use Rattle.sequences.specs.Code.{front};
+ghost use Rattle.runs.specs.Run.{Runs};
+ghost use Rattle.multibyte.specs.Ranges.{Ascending};
+
+// Sequence after sequence. The ranges are searched in long stretches only.
+pub(crate) fn gb18030_run(
+    mode: u8,
+    chunk: &[u8],
+    t1: &[u32],
+    t2: &[u32],
+    from: usize,
+    room: &mut [u32],
+    place: usize,
+) -> Place
+    requires { ⌜ (from ≤ length (now chunk)) × (length (now chunk) ≤ 65536) × (place + (length (now chunk) - from) ≤ length (now room)) ⌝ }
+    ensures { λ r. ⌜ Runs (next (lent (now (t1 .entry)) (now (t2 .entry))) GB18030) mode (now (chunk .entry)) from (r .at) plain (shift (r .state) (eqb (r .flag) 1)) place (r .written) (now (room .entry)) (now (room .exit)) ⌝ }
+{
+    if chunk.len() - from < 1024 {
+        let mut none = [0u16; 1];
+        return sequences(mode, chunk, t1, t2, false, &mut none, from, room, place);
+    }
+    let mut last = [0u16; 512];
+    sequences(
+        mode,
+        chunk,
+        t1,
+        t2,
+        in_order(t2),
+        &mut last,
+        from,
+        room,
+        place,
+    )
+}
+
+// Sequence after sequence, while four bytes are left. `last` has the pair last used, by pointer.
+fn sequences(
+    mode: u8,
+    chunk: &[u8],
+    t1: &[u32],
+    t2: &[u32],
+    ordered: bool,
+    last: &mut [u16],
+    from: usize,
+    room: &mut [u32],
+    place: usize,
+) -> Place
+    requires { ⌜ (from ≤ length (now chunk)) × (length (now chunk) ≤ 65536) × (place + (length (now chunk) - from) ≤ length (now room)) × (ordered ≡ true → Ascending (now t2)) ⌝ }
+    ensures { λ r. ⌜ Runs (next (lent (now (t1 .entry)) (now (t2 .entry))) GB18030) mode (now (chunk .entry)) from (r .at) plain (shift (r .state) (eqb (r .flag) 1)) place (r .written) (now (room .entry)) (now (room .exit)) ⌝ }
+{
+    let n = chunk.len();
+    let mut i = from;
+    let mut o = place;
+    while 4 <= n - i {
+        let b = chunk[i];
+        if b < 0x80 {
+            let k = copy_ascii(chunk, i, room, o);
+            i += k;
+            o += k;
+            continue;
+        }
+        let c = pair_at(t1, chunk, i);
+        if c != 0 {
+            room[o] = c;
+            i += 2;
+            o += 1;
+            continue;
+        }
+        let u = four_at(t2, ordered, last, chunk, i);
+        if u != 0 {
+            room[o] = u;
+            i += 4;
+            o += 1;
+            continue;
+        }
+        let q = next_at(t1, t2, 30, 0, 0, chunk, i);
+        let v = scalar_of(mode, q);
+        if v == 0 {
+            return plain_place(i, o);
+        }
+        room[o] = v;
+        i += q.width as usize;
+        o += 1;
+    }
+    plain_place(i, o)
+}
+
+// A place that has no shift.
+fn plain_place(at: usize, written: usize) -> Place
+    ensures { λ r. ⌜ (r .at ≡ at) × (r .written ≡ written) × (r .state ≡ 0) × (r .flag ≡ 0) ⌝ }
+{
+    Place {
+        at,
+        written,
+        state: 0,
+        flag: 0,
+    }
+}
+
+// The scalar of the pair at a place, 0 for none.
+fn pair_at(index: &[u32], chunk: &[u8], i: usize) -> u32
+    requires { ⌜ i + 4 ≤ length (now chunk) ⌝ }
+    ensures { λ r. ⌜ ((r ≡ 0 → ⊥) → (second : List ℕ) → next (lent (now (index .entry)) second) GB18030 plain (drop i (now (chunk .entry))) ≡ scalar 2 r) ⌝ }
+{
+    pair_code(index, chunk[i], chunk[i + 1])
+}
+
+// The code point of a pair, 0 for none.
+fn pair_code(index: &[u32], lead: u8, trail: u8) -> u32
+    ensures { λ r. ⌜ ((r ≡ 0 → ⊥) → (second : List ℕ) (d e : ℕ) → gb18030 (lent (now (index .entry)) second) (front 4 lead trail d e) ≡ scalar 2 r) ⌝ }
+{
+    if lead < 0x81 {
+        return 0;
+    }
+    if 0xFE < lead {
+        return 0;
+    }
+    if trail < 0x40 {
+        return 0;
+    }
+    if trail == 0x7F {
+        return 0;
+    }
+    if 0xFE < trail {
+        return 0;
+    }
+    let row = ((lead - 0x81) as usize) * 190;
+    cell(index, row + ((trail - 0x40 - trail / 128) as usize))
+}
+
+// The scalar of the four bytes at a place; 0 for none, and where the ranges are not in order.
+fn four_at(ranges: &[u32], ordered: bool, last: &mut [u16], chunk: &[u8], i: usize) -> u32
+    requires { ⌜ (i + 4 ≤ length (now chunk)) × (ordered ≡ true → Ascending (now ranges)) ⌝ }
+    ensures { λ r. ⌜ ((r ≡ 0 → ⊥) → (first : List ℕ) → next (lent first (now (ranges .entry))) GB18030 plain (drop i (now (chunk .entry))) ≡ scalar 4 r) ⌝ }
+{
+    if !ordered {
+        return 0;
+    }
+    let p = four_pointer(chunk[i], chunk[i + 1], chunk[i + 2], chunk[i + 3]);
+    if gap(p) {
+        return 0;
+    }
+    four_scalar(ranges, last, p)
+}
+
+// The pointer of four bytes; above all pointers if they have none.
+fn four_pointer(b: u8, c: u8, d: u8, e: u8) -> u32
+    ensures { λ r. ⌜ (r ≤ 1237575 → (t : Tables) → gb18030 t (front 4 b c d e) ≡ code 4 (gbFourCode (t .second) r)) ⌝ }
+{
+    if !within(0x81, b, 0xFE) {
+        return 1237576;
+    }
+    if !within(0x30, c, 0x39) {
+        return 1237576;
+    }
+    if !within(0x81, d, 0xFE) {
+        return 1237576;
+    }
+    if !within(0x30, e, 0x39) {
+        return 1237576;
+    }
+    let upper = ((b - 0x81) as u32) * 12600 + ((c - 0x30) as u32) * 1260;
+    upper + ((d - 0x81) as u32) * 10 + ((e - 0x30) as u32)
+}
+
+// Is it a pointer that the ranges do not tell?
+fn gap(p: u32) -> bool
+    ensures { λ r. ⌜ (r ≡ false → (within 39420 p 188999 || ltb 1237575 p ≡ false) × (p ≡ 7457 → ⊥) × (p ≤ 1237575)) ⌝ }
+{
+    if p == 7457 {
+        return true;
+    }
+    if 1237575 < p {
+        return true;
+    }
+    if p < 39420 {
+        return false;
+    }
+    p < 189000
+}
+
+// The scalar of a pointer by the ranges, 0 for none: by the pair last used, or by a search.
+fn four_scalar(ranges: &[u32], last: &mut [u16], p: u32) -> u32
+    requires { ⌜ Ascending (now ranges) ⌝ }
+    ensures { λ r. ⌜ ((r ≡ 0 → ⊥) → (r ≡ gbRange (now (ranges .entry)) p 0) × (mapped r ≡ true)) ⌝ }
+{
+    if last.len() < 512 {
+        return 0;
+    }
+    let h = (p / 64 % 512) as usize;
+    let u = range_scalar(ranges, number(last[h]), p);
+    if u != 0 {
+        return u;
+    }
+    let k = search(ranges, p);
+    last[h] = k as u16;
+    range_scalar(ranges, k, p)
+}
+
+// The number of a pair.
+fn number(k: u16) -> usize
+    ensures { λ r. ⌜ r ≡ k ⌝ }
+{
+    k as usize
+}
+
+// The scalar of a pointer by a pair; 0 for none, and where the pair is not the last one that is not above the pointer.
+fn range_scalar(ranges: &[u32], k: usize, p: u32) -> u32
+    requires { ⌜ Ascending (now ranges) ⌝ }
+    ensures { λ r. ⌜ ((r ≡ 0 → ⊥) → (r ≡ gbRange (now (ranges .entry)) p 0) × (mapped r ≡ true)) ⌝ }
+{
+    if ranges.len() / 2 <= k {
+        return 0;
+    }
+    if pointer_after(ranges, k) <= p {
+        return 0;
+    }
+    pair_scalar(ranges[k * 2], ranges[k * 2 + 1], p)
+}
+
+// The pointer of the pair after a pair; above all pointers if there is none.
+fn pointer_after(ranges: &[u32], k: usize) -> u32
+    requires { ⌜ (length (now ranges) ≤ 65536) × (k < length (now ranges) / 2) ⌝ }
+    ensures { λ r. ⌜ (k + 1 < length (now (ranges .entry)) / 2 → r ≡ getD (now (ranges .entry)) ((k + 1) * 2) 0) ⌝ }
+{
+    let j = place_after(ranges.len(), k);
+    let q = ranges[j];
+    if j == 0 {
+        return 0xFFFFFFFF;
+    }
+    q
+}
+
+// Where the pair after a pair stands, 0 if there is none.
+fn place_after(n: usize, k: usize) -> usize
+    requires { ⌜ (n ≤ 65536) × (k < n / 2) ⌝ }
+    ensures { λ r. ⌜ (r < n) × (k + 1 < n / 2 → r ≡ (k + 1) * 2) ⌝ }
+{
+    let j = (k + 1) * 2;
+    if j < n {
+        return j;
+    }
+    0
+}
+
+// The scalar that a pair gives for a pointer, 0 for none.
+fn pair_scalar(q: u32, c: u32, p: u32) -> u32
+    ensures { λ r. ⌜ ((r ≡ 0 → ⊥) → (q ≤ p) × (r ≡ c + (p - q)) × (mapped r ≡ true)) ⌝ }
+{
+    if p < q {
+        return 0;
+    }
+    let u = (c as u64) + ((p - q) as u64);
+    if 0x10FFFF < u {
+        return 0;
+    }
+    let v = u as u32;
+    if mapped(v) { v } else { 0 }
+}
+
+// A pair not above the pointer with none after it that is not, if the pairs are in order.
+fn search(ranges: &[u32], p: u32) -> usize
+    requires { ⌜ length (now ranges) ≤ 65536 ⌝ }
+    ensures { λ r. ⌜ r ≤ 32768 ⌝ }
+{
+    let mut low: usize = 0;
+    let mut count = ranges.len() / 2;
+    while 1 < count {
+        let half = count / 2;
+        low += half * not_above(ranges[(low + half) * 2], p);
+        count -= half;
+    }
+    low
+}
+
+// 1 if q is not above p, else 0.
+fn not_above(q: u32, p: u32) -> usize
+    ensures { λ r. ⌜ r ≤ 1 ⌝ }
+{
+    (((p as u64) + 0x100000000 - (q as u64)) / 0x100000000) as usize
+}
+
+// Are the pointers of the pairs in ascending order?
+fn in_order(ranges: &[u32]) -> bool
+    ensures { λ r. ⌜ (r ≡ true → Ascending (now (ranges .entry))) ⌝ }
+{
+    if 65536 < ranges.len() {
+        return false;
+    }
+    let n = ranges.len() / 2;
+    let mut i: usize = 1;
+    while i < n {
+        if ranges[i * 2] < ranges[(i - 1) * 2] {
+            return false;
+        }
+        i += 1;
+    }
+    true
+}

@@ -1,0 +1,148 @@
+// UTF-8.
+
+use crate::ascii::copy_ascii;
+use crate::next_at;
+use crate::scalar_of;
+use runs::Place;
+use sequences::utf8::high;
+use sequences::utf8::low;
+use sequences::within;
+ghost use mathlib.Core.Path.{_≡_};
+ghost use mathlib.Core.Bool.{true};
+ghost use mathlib.Core.List.{List, _∷_};
+ghost use Prim.Native.Nat.{ℕ, _+_, _-_, _*_, _≤_};
+ghost use lib.Dec.{eqb};
+ghost use lib.ListN.{length};
+ghost use Rattle.standard.specs.Base.{within};
+ghost use Rattle.standard.specs.Encodings.{family, lent};
+ghost use Rattle.standard.specs.Sequence.{plain, shift, scalar};
+ghost use Rattle.standard.specs.Sequences.Utf8.{utf8};
+ghost use Rattle.standard.specs.Next.{next};
+ghost use Rattle.runs.specs.Run.{Runs};
+
+// The scalar of two bytes, 0 if they are no sequence.
+fn two(b0: u8, b1: u8) -> u32
+    ensures { λ r. ⌜ ((r ≡ 0 → ⊥) → (xs : List ℕ) → utf8 (b0 ∷ b1 ∷ xs) ≡ scalar 2 r) ⌝ }
+{
+    if b0 < 0xC2 {
+        return 0;
+    }
+    if 0xDF < b0 {
+        return 0;
+    }
+    if within(0x80, b1, 0xBF) {
+        return ((b0 - 0xC0) as u32) * 64 + ((b1 - 0x80) as u32);
+    }
+    0
+}
+
+// Of three bytes.
+fn three(b0: u8, b1: u8, b2: u8) -> u32
+    ensures { λ r. ⌜ ((r ≡ 0 → ⊥) → (xs : List ℕ) → utf8 (b0 ∷ b1 ∷ b2 ∷ xs) ≡ scalar 3 r) ⌝ }
+{
+    if b0 < 0xE0 {
+        return 0;
+    }
+    if 0xEF < b0 {
+        return 0;
+    }
+    if within(low(b0), b1, high(b0)) {
+        if within(0x80, b2, 0xBF) {
+            return ((b0 - 0xE0) as u32) * 4096 + ((b1 - 0x80) as u32) * 64 + ((b2 - 0x80) as u32);
+        }
+    }
+    0
+}
+
+// Of four bytes.
+fn four(b0: u8, b1: u8, b2: u8, b3: u8) -> u32
+    ensures { λ r. ⌜ ((r ≡ 0 → ⊥) → (xs : List ℕ) → utf8 (b0 ∷ b1 ∷ b2 ∷ b3 ∷ xs) ≡ scalar 4 r) ⌝ }
+{
+    if b0 < 0xF0 {
+        return 0;
+    }
+    if 0xF4 < b0 {
+        return 0;
+    }
+    if within(low(b0), b1, high(b0)) {
+        return four_end(b0, b1, b2, b3);
+    }
+    0
+}
+
+// The third and the fourth byte of four.
+fn four_end(b0: u8, b1: u8, b2: u8, b3: u8) -> u32
+    requires { ⌜ (0xF0 ≤ b0) × (0x80 ≤ b1) ⌝ }
+    ensures { λ r. ⌜ ((r ≡ 0 → ⊥) → (within 0x80 b2 0xBF ≡ true) × (within 0x80 b3 0xBF ≡ true) × (r ≡ (b0 - 0xF0) * 262144 + (b1 - 0x80) * 4096 + (b2 - 0x80) * 64 + (b3 - 0x80))) ⌝ }
+{
+    if within(0x80, b2, 0xBF) {
+        if within(0x80, b3, 0xBF) {
+            return ((b0 - 0xF0) as u32) * 262144
+                + ((b1 - 0x80) as u32) * 4096
+                + ((b2 - 0x80) as u32) * 64
+                + ((b3 - 0x80) as u32);
+        }
+    }
+    0
+}
+
+// A run: ASCII, sequences of two to four bytes, and errors where they are replaced.
+pub(crate) fn utf8_run(
+    mode: u8,
+    chunk: &[u8],
+    t1: &[u32],
+    t2: &[u32],
+    from: usize,
+    room: &mut [u32],
+    place: usize,
+) -> Place
+    requires { ⌜ (from ≤ length (now chunk)) × (length (now chunk) ≤ 65536) × (place + (length (now chunk) - from) ≤ length (now room)) ⌝ }
+    ensures { λ r. ⌜ Runs (next (lent (now (t1 .entry)) (now (t2 .entry))) (family 0)) mode (now (chunk .entry)) from (r .at) plain (shift (r .state) (eqb (r .flag) 1)) place (r .written) (now (room .entry)) (now (room .exit)) ⌝ }
+{
+    let mut i = from;
+    let mut o = place;
+    while chunk.len() - i >= 4 {
+        let b = chunk[i];
+        if b < 0x80 {
+            let k = copy_ascii(chunk, i, room, o);
+            i += k;
+            o += k;
+            continue;
+        }
+        let c2 = two(b, chunk[i + 1]);
+        if c2 != 0 {
+            room[o] = c2;
+            i += 2;
+            o += 1;
+            continue;
+        }
+        let c3 = three(b, chunk[i + 1], chunk[i + 2]);
+        if c3 != 0 {
+            room[o] = c3;
+            i += 3;
+            o += 1;
+            continue;
+        }
+        let c4 = four(b, chunk[i + 1], chunk[i + 2], chunk[i + 3]);
+        if c4 != 0 {
+            room[o] = c4;
+            i += 4;
+            o += 1;
+            continue;
+        }
+        let q = next_at(t1, t2, 0, 0, 0, chunk, i);
+        let u = scalar_of(mode, q);
+        if u == 0 {
+            break;
+        }
+        room[o] = u;
+        o += 1;
+        i += q.width as usize;
+    }
+    Place {
+        at: i,
+        written: o,
+        state: 0,
+        flag: 0,
+    }
+}

@@ -1,0 +1,135 @@
+-- The single-byte encodings, byte by byte and by a table. Assumes nothing.
+use mathlib.Core.Path.{_≡_, refl, ap, _∙_}
+use mathlib.Core.Bool.{Bool, true, false}
+use mathlib.Core.List.{List, [], _∷_}
+use Prim.Native.Nat.{ℕ, _+_, _-_, _%_, _≤_, _<_}
+use native.Mathlib.Omega.{arith}
+use native.Mathlib.Nat.{add-zero}
+use lib.Dec.{ltb, eqb}
+use lib.ListN.{length, drop, getD, set}
+use lib.Seq.{getD-set-same, getD-set-other}
+use borrow.Author.Tests.{eqb-true, eqb-false, ltb-true, ltb-false, lt-ltb, le-ltb, eq-eqb, ne-eqb}
+use Rattle.standard.specs.Base.{_then_else_, mapped}
+use Rattle.standard.specs.Encodings.{Family, Tables, lent, single-byte, windows-1252}
+use Rattle.standard.specs.Indexes.{irregular, windows1252}
+use Rattle.standard.specs.Sequence.{plain, cell}
+use Rattle.standard.specs.Next.{next}
+use Rattle.standard.specs.Sequences.SingleByte.{singleByte}
+use Rattle.standard.proofs.Tests.{split}
+use Rattle.index.proofs.Cells.{cell-mapped, cell-unmapped}
+use Rattle.sequences.proofs.SingleByteLeaves.{single-ascii, single-cell}
+use Rattle.sequences.proofs.Windows1252Leaves.{windows-irregular, windows-itself}
+use Rattle.runs.specs.Run.{patch, Gives}
+use Rattle.runs.specs.Units.{values}
+use Rattle.runs.specs.Bytes.{unmapped, byteScalar, windowsScalar}
+use Rattle.runs.proofs.Fronts.{byte-at}
+use Rattle.runs.proofs.Running.{Going, going-gives, gives-scalar}
+use Rattle.runs.proofs.Values.{values-same}
+use Rattle.runs.proofs.Rows.{gives-as, gives-bad, going-row}
+
+-- only the first byte tells
+first-tells : (t : List ℕ) (b : ℕ) (xs : List ℕ) → singleByte t (b ∷ xs) ≡ singleByte t (b ∷ [])
+unfolding singleByte
+first-tells t b xs = refl
+
+-- a byte that gives its scalar
+pub byte-gives : (m : ℕ) (cells : List ℕ) (b : ℕ) (xs : List ℕ) → (m ≡ 1 → byteScalar m cells b ≡ 0x110000 → ⊥) → Gives m (singleByte cells (b ∷ xs)) 1 plain (byteScalar m cells b)
+byte-gives m cells b xs n = gives-as m (first-tells cells b xs) (go (ltb b 0x80) (eqb (cell cells (b - 0x80)) 0) refl refl)
+  where
+    go : (p q : Bool) → ltb b 0x80 ≡ p → eqb (cell cells (b - 0x80)) 0 ≡ q → Gives m (singleByte cells (b ∷ [])) 1 plain (byteScalar m cells b)
+    go true q e d = rw e (gives-scalar m (single-ascii cells 1 b 0 0 0 (omega arith) (ltb-true b 0x80 e)))
+    go false true e d =
+        let k : m ≡ 1 → ⊥ = λ z. n z (rw (e, d, eq-eqb m 1 z)) in
+        rw (e, d, ne-eqb m 1 k) (gives-as m (single-cell cells 1 b 0 0 0 (omega arith) (ltb-false b 0x80 e) ∙ rw d) (gives-bad m 1 k))
+    go false false e d = rw (e, d) (gives-scalar m (single-cell cells 1 b 0 0 0 (omega arith) (ltb-false b 0x80 e) ∙ rw d))
+
+pub windows-gives : (m b : ℕ) (xs : List ℕ) → b < 256 → Gives m (singleByte windows1252 (b ∷ xs)) 1 plain (windowsScalar b)
+windows-gives m b xs h = gives-as m (first-tells windows1252 b xs) (go (ltb b 0x80) (ltb b 0xA0) refl refl)
+  where
+    go : (p q : Bool) → ltb b 0x80 ≡ p → ltb b 0xA0 ≡ q → Gives m (singleByte windows1252 (b ∷ [])) 1 plain (windowsScalar b)
+    go true q e d = rw e (gives-scalar m (single-ascii windows1252 1 b 0 0 0 (omega arith) (ltb-true b 0x80 e)))
+    go false true e d = rw (e, d) (gives-scalar m (windows-irregular 1 b 0 0 0 (omega arith) (ltb-false b 0x80 e) (ltb-true b 0xA0 d)))
+    go false false e d = rw (e, d) (gives-scalar m (windows-itself 1 b 0 0 0 (omega arith) (ltb-false b 0xA0 d) h))
+
+-- a table of scalars, filled cell by cell
+pub filled-more : (f : ℕ → ℕ) (table : List ℕ) (b v : ℕ) → b < length table → ((j : ℕ) → j < b → getD table j 0 ≡ f j) → v ≡ f b → (j : ℕ) → j < b + 1 → getD (set table b v) j 0 ≡ f j
+filled-more f table b v h p e j l = split (eqb j b)
+    (λ g. let z = eqb-true j b g in rw z (getD-set-same table b v 0 h ∙ e))
+    (λ g. let z = eqb-false j b g in getD-set-other table b j v 0 z ∙ p j (omega arith))
+
+-- bytes in a row, each of one scalar
+module _ (t : Tables) (f : Family) (m : ℕ) (chunk : List ℕ) (from : ℕ) (v : ℕ → ℕ) (w : ℕ) (room room₁ : List ℕ) where
+  pub going-bytes : Going t f m chunk from from plain plain w w room room → (n : ℕ) → ((j : ℕ) → j < n → Gives m (next t f plain (drop (from + j) chunk)) 1 plain (v j)) →
+      w + n ≤ length room → room₁ ≡ patch w (values v n) room → Going t f m chunk from (from + n) plain plain w (w + n) room room₁
+  going-bytes G n g l e =
+      let G₀ : Going t f m chunk from (from + 0) plain plain w w room room = rw (add-zero from) G in
+      rw e (going-row t f m chunk from (λ (j : ℕ). from + j) 1 (λ j. omega arith) v w w room room G₀ n g l)
+
+-- bytes through a table that holds the scalar of each
+pub looked-up : (f : ℕ → ℕ) (table chunk : List ℕ) (from n w : ℕ) (room room₁ : List ℕ) → ((b : ℕ) → b < 256 → getD table b 0 ≡ f b) → ((j : ℕ) → j < n → getD chunk (from + j) 0 < 256) →
+    room₁ ≡ patch w (values (λ (j : ℕ). getD table (getD chunk (from + j) 0) 0) n) room → room₁ ≡ patch w (values (λ (j : ℕ). f (getD chunk (from + j) 0)) n) room
+looked-up f table chunk from n w room room₁ p q e =
+    e ∙ ap (λ (l : List ℕ). patch w l room)
+    (values-same (λ (j : ℕ). getD table (getD chunk (from + j) 0) 0) (λ (j : ℕ). f (getD chunk (from + j) 0)) n (λ j l. p (getD chunk (from + j) 0) (q j l)))
+
+-- the byte at a place
+pub single-at : (t1 t2 : List ℕ) (m : ℕ) (chunk : List ℕ) (i : ℕ) → i < length chunk → (m ≡ 1 → byteScalar m t1 (getD chunk i 0) ≡ 0x110000 → ⊥) →
+    Gives m (next (lent t1 t2) single-byte plain (drop i chunk)) 1 plain (byteScalar m t1 (getD chunk i 0))
+unfolding next
+single-at t1 t2 m chunk i h n = rw (byte-at chunk i h) (byte-gives m t1 (getD chunk i 0) (drop (i + 1) chunk) n)
+
+pub windows-at : (t : Tables) (m : ℕ) (chunk : List ℕ) (i : ℕ) → i < length chunk → getD chunk i 0 < 256 → Gives m (next t windows-1252 plain (drop i chunk)) 1 plain (windowsScalar (getD chunk i 0))
+unfolding next
+windows-at t m chunk i h l = rw (byte-at chunk i h) (windows-gives m (getD chunk i 0) (drop (i + 1) chunk) l)
+
+-- the scalar of a byte, by the cell that its lower seven bits name
+module _ (m : ℕ) (cells : List ℕ) (b : ℕ) where
+  pub byte-ascii : b < 0x80 → b ≡ byteScalar m cells b
+  byte-ascii h = rw (lt-ltb b 0x80 h)
+
+  module _ (l : b < 256) where
+    pub byte-mapped : mapped (getD cells (b % 128) 0) ≡ true → (ltb b 0x80 then b else getD cells (b % 128) 0) ≡ byteScalar m cells b
+    byte-mapped e = go (ltb b 0x80) refl
+      where
+        some : (c : ℕ) → mapped c ≡ true → c ≡ 0 → ⊥
+        some c p z =
+            let q : false ≡ true = rw z at p in
+            let y : _≡_ {A = ℕ} 0 1 = cc in
+            omega arith
+
+        go : (p : Bool) → ltb b 0x80 ≡ p → (ltb b 0x80 then b else getD cells (b % 128) 0) ≡ byteScalar m cells b
+        go true q = rw q
+        go false q =
+            let h = ltb-false b 0x80 q in
+            let z : b % 128 ≡ b - 0x80 = omega arith in
+            let e′ = rw z at e in
+            rw (q, z, cell-mapped cells (b - 0x80) e′, ne-eqb (getD cells (b - 0x80) 0) 0 (some (getD cells (b - 0x80) 0) e′))
+
+    pub byte-unmapped : mapped (getD cells (b % 128) 0) ≡ false → 0x80 ≤ b → unmapped m ≡ byteScalar m cells b
+    byte-unmapped e h =
+        let z : b % 128 ≡ b - 0x80 = omega arith in
+        let e′ = rw z at e in
+        rw (le-ltb b 0x80 h, cell-unmapped cells (b - 0x80) e′)
+
+-- the same in windows-1252
+module _ (b : ℕ) where
+  pub windows-ascii : b < 0x80 → b ≡ windowsScalar b
+  windows-ascii h = rw (lt-ltb b 0x80 h)
+
+  pub windows-cell : (cells : List ℕ) → cells ≡ irregular → 0x80 ≤ b → b < 0xA0 → getD cells (b % 32) 0 ≡ windowsScalar b
+  windows-cell cells e h l =
+      let z : b % 32 ≡ b - 0x80 = omega arith in
+      rw (le-ltb b 0x80 h, lt-ltb b 0xA0 l, e, z)
+
+  pub windows-same : 0xA0 ≤ b → b ≡ windowsScalar b
+  windows-same h = rw (le-ltb b 0x80 (omega arith), le-ltb b 0xA0 h)
+
+pub irregular-length : length irregular ≡ 32
+unfolding irregular
+irregular-length = refl
+
+-- one byte more
+pub single-step : (t1 t2 : List ℕ) (m : ℕ) (chunk : List ℕ) (from i w o : ℕ) (room₀ room : List ℕ) → Going (lent t1 t2) single-byte m chunk from i plain plain w o room₀ room → (c : ℕ) →
+    c ≡ byteScalar m t1 (getD chunk i 0) → (c ≡ 0x110000 → ⊥) → i < length chunk → Going (lent t1 t2) single-byte m chunk from (i + 1) plain plain w (o + 1) room₀ (set room o c)
+single-step t1 t2 m chunk from i w o room₀ room G c e n h =
+    rw e (going-gives (lent t1 t2) single-byte m chunk from i plain plain w o room₀ room G (single-at t1 t2 m chunk i h (λ y z. n (e ∙ z))))

@@ -1,0 +1,9 @@
+pub mod Patches
+pub mod Fronts
+pub mod Running
+pub mod Steps
+pub mod Values
+pub mod Rows
+pub mod Utf16Runs
+pub mod ByteRuns
+pub mod Families

@@ -1,0 +1,30 @@
+-- Code units of UTF-16 in a row. Contracts of functions inside the library cite these; no promise of a public call rests on them. Assumes nothing.
+use mathlib.Core.Bool.{Bool}
+use mathlib.Core.List.{List, [], _∷_, _++_}
+use Prim.Native.Nat.{ℕ, zero, suc, _+_, _*_, _/_, _%_, _<_}
+use mathlib.Core.Logic.{_⊎_}
+use lib.ListN.{getD}
+use Rattle.standard.specs.Base.{_then_else_}
+use Rattle.standard.specs.Encodings.{Family, UTF-16BE, UTF-16LE}
+use Rattle.standard.specs.Sequences.Utf16.{unit}
+
+-- `be`: the upper byte of a unit is its first
+abbrev pub utf16Family : Bool → Family
+utf16Family be = be then UTF-16BE else UTF-16LE
+
+-- the first values of a function
+unfoldable pub values : (ℕ → ℕ) → ℕ → List ℕ
+values f zero = []
+values f (suc n) = values f n ++ (f n ∷ [])
+
+-- a unit with its bytes the other way round
+abbrev pub swapped : ℕ → ℕ
+swapped u = u % 256 * 256 + u / 256
+
+-- the unit at a place, so many units on
+abbrev pub unitAt : Bool → List ℕ → ℕ → ℕ → ℕ
+unitAt be xs at k = unit be (getD xs (at + k * 2) 0) (getD xs (at + k * 2 + 1) 0)
+
+-- not the upper byte of a surrogate
+abbrev pub NoSurrogate : ℕ → Type 0
+NoSurrogate b = (b < 0xD8) ⊎ (0xDF < b)
