@@ -1,0 +1,61 @@
+-- The first line and the bytes behind it. Assumes nothing.
+use mathlib.Core.Path.{_≡_, refl, sym, ap, _∙_}
+use mathlib.Core.List.{List, [], _∷_, _++_, append-nil}
+use Prim.Native.Nat.{ℕ, suc, _+_, _-_, _≤_, _<_}
+use native.Mathlib.Numerals.{add-one}
+use native.Mathlib.Omega.{arith}
+use lib.Dec.{eqb}
+use lib.ListN.{length, getD, take, drop, drop-of-length-le}
+use lib.Seq.{drop-cons, take-suc, length-take-le, append-snoc}
+use borrow.Author.Tests.{eq-eqb, ne-eqb}
+use Rattle.standard.proofs.Tests.{split}
+use Rattle.labels.proofs.Ends.{rest}
+use Rattle.showtext.specs.Output.{firstLine, afterLine}
+
+pub first-few : (xs : List ℕ) → length (firstLine xs) ≤ length xs
+unfolding firstLine
+first-few [] = omega arith
+first-few (b ∷ xs) = split (eqb b 0x0A) (λ e. rw e (omega arith)) (λ e. rw e (omega (arith, first-few xs)))
+
+-- Behind the first line and its line feed.
+after-is : (xs : List ℕ) → drop (suc (length (firstLine xs))) xs ≡ afterLine xs
+unfolding firstLine afterLine
+after-is [] = refl
+after-is (b ∷ xs) = split (eqb b 0x0A) (λ e. rw e) (λ e. rw e (after-is xs))
+
+module _ (xs : List ℕ) (n : ℕ) (p : n ≡ length (firstLine xs)) where
+  pub after-more : take (length xs - (n + 1)) (drop (n + 1) xs) ≡ afterLine xs
+  after-more = rest xs (n + 1) ∙ rw (p, add-one) (after-is xs)
+
+  pub after-none : length xs ≤ n → take (length xs - n) (drop n xs) ≡ afterLine xs
+  after-none h = let g : length xs ≤ n + 1 = omega arith in rest xs n ∙ drop-of-length-le xs h ∙ sym (drop-of-length-le xs g) ∙ rw (p, add-one) (after-is xs)
+
+-- No line feed among the first i bytes.
+module _ (xs : List ℕ) (i : ℕ) where
+  pub record Passed : Type 0 where
+    pub inside : i ≤ length xs
+    pub split : firstLine xs ≡ take i xs ++ firstLine (drop i xs)
+
+  whole : Passed → firstLine (drop i xs) ≡ [] → (i ≡ length (firstLine xs)) × (i ≤ length xs) × (take i xs ≡ firstLine xs)
+  whole s e =
+      let z : firstLine xs ≡ take i xs = s .split ∙ rw e (append-nil (take i xs)) in
+      (sym (ap length z ∙ length-take-le i xs (s .inside)), s .inside, sym z)
+
+  pub passed-all : Passed → length xs ≤ i → (i ≡ length (firstLine xs)) × (i ≤ length xs) × (take i xs ≡ firstLine xs)
+  unfolding firstLine
+  passed-all s h = whole s (rw (drop-of-length-le xs h))
+
+  module _ (s : Passed) (h : i < length xs) where
+    pub passed-end : getD xs i 0 ≡ 0x0A → (i ≡ length (firstLine xs)) × (i ≤ length xs) × (take i xs ≡ firstLine xs)
+    unfolding firstLine
+    passed-end e = whole s (rw (drop-cons xs i 0 h, eq-eqb (getD xs i 0) 0x0A e))
+
+pub passed-none : (xs : List ℕ) → Passed xs 0
+passed-none xs = record { inside = omega arith; split = refl }
+
+pub passed-on : (xs : List ℕ) (i : ℕ) → Passed xs i → i < length xs → (getD xs i 0 ≡ 0x0A → ⊥) → Passed xs (i + 1)
+unfolding firstLine
+passed-on xs i s h e = record {
+  inside = omega arith;
+  split = s .split ∙ rw (add-one, drop-cons xs i 0 h, take-suc xs i 0 h, ne-eqb (getD xs i 0) 0x0A e) (sym (append-snoc (take i xs) (getD xs i 0) (firstLine (drop (suc i) xs)) ∙ refl));
+}

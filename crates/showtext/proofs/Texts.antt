@@ -1,0 +1,125 @@
+-- What is written into a room of bytes, from a place on. Assumes nothing.
+use mathlib.Core.Path.{_≡_, refl, sym, ap, _∙_}
+use mathlib.Core.List.{List, [], _∷_, _++_, append-assoc, append-nil}
+use Prim.Native.Nat.{ℕ, suc, _+_, _-_, _*_, _/_, _%_, _^_, _≤_, _<_}
+use native.Mathlib.Nat.{add-zero}
+use native.Mathlib.Numerals.{add-one}
+use native.Mathlib.Omega.{arith}
+use lib.ListN.{length, getD, take, set, length-append}
+use lib.Seq.{sets, take-suc, take-all, length-take-le}
+use Rattle.standard.specs.Text.{bytes}
+use Rattle.showtext.specs.Output.{digit, digits, count, codePoint, line, scalarLines}
+use Rattle.showtext.specs.Places.{Put}
+use Rattle.showtext.proofs.Numbers.{count-one, count-more, count-few, four, more-than-four, hexadecimal-few}
+
+-- Stores one after the other.
+pub sets-append : (l : List ℕ) (i : ℕ) (us vs : List ℕ) → sets l i (us ++ vs) ≡ sets (sets l i us) (i + length us) vs
+sets-append l i [] vs = rw (add-zero i)
+sets-append l i (u ∷ us) vs = let e : i + suc (length us) ≡ suc i + length us = omega arith in rw e (sets-append (set l i u) (suc i) us vs)
+
+module _ {room : List ℕ} {at : ℕ} where
+  -- an equal text
+  pub same : {us vs : List ℕ} {place : ℕ} {after : List ℕ} → us ≡ vs → Put room at us place after → Put room at vs place after
+  same e p = record { behind = p .behind ∙ ap (λ (l : List ℕ). at + length l) e; stands = p .stands ∙ ap (λ (l : List ℕ). sets room at l) e }
+
+  -- a second text behind a first
+  pub then-put : {us vs : List ℕ} {place place′ : ℕ} {after after′ : List ℕ} → Put room at us place after → Put after place vs place′ after′ → Put room at (us ++ vs) place′ after′
+  then-put {us} {vs} p q = record {
+    behind = omega (arith, p .behind, q .behind, length-append us vs);
+    stands = q .stands ∙ rw (p .behind, p .stands) (sym (sets-append room at us vs));
+  }
+
+  -- one byte behind a text
+  pub then-byte : {us : List ℕ} {place : ℕ} {after : List ℕ} (b : ℕ) → Put room at us place after → Put room at (us ++ (b ∷ [])) (place + 1) (set after place b)
+  then-byte b p = then-put p (record { behind = refl; stands = refl })
+
+  pub nothing : Put room at [] at room
+  nothing = record { behind = sym (add-zero at); stands = refl }
+
+-- Digits.
+module _ (room : List ℕ) (at : ℕ) where
+  pub put-one : (n : ℕ) → n < 10 → (v : ℕ) → v ≡ digit n → Put room at (count n) (at + 1) (set room at v)
+  put-one n h v e = rw e (same (sym (count-one n h)) (then-byte (digit n) nothing))
+
+  pub put-more : (n : ℕ) → 10 ≤ n → n < 2 ^ 64 → {place : ℕ} {after : List ℕ} → Put room at (count (n / 10)) place after → (v : ℕ) → v ≡ digit (n % 10) → Put room at (count n) (place + 1) (set after place v)
+  put-more n h g p v e = rw e (same (sym (count-more n h g)) (then-byte (digit (n % 10)) p))
+
+  pub put-four : (c : ℕ) → c < 0x10000 → (v w x y : ℕ) → v ≡ digit (c / 4096) → w ≡ digit (c / 256 % 16) → x ≡ digit (c / 16 % 16) → y ≡ digit (c % 16) →
+      Put room at (digits 16 8 4 c) (at + 4) (set (set (set (set room at v) (at + 1) w) (at + 2) x) (at + 3) y)
+  put-four c h v w x y p q r s = rw (p, q, r, s) (same (sym (four c h)) (
+      let two : at + 2 ≡ suc (suc at) = omega arith in
+      let three : at + 3 ≡ suc (suc (suc at)) = omega arith in
+      record { behind = refl; stands = rw (three, two, add-one) refl }
+      ))
+
+  pub put-fifth : (c : ℕ) → 0x10000 ≤ c → c < 2 ^ 32 → {place : ℕ} {after : List ℕ} → Put room at (digits 16 8 4 (c / 16)) place after → (v : ℕ) → v ≡ digit (c % 16) →
+      Put room at (digits 16 8 4 c) (place + 1) (set after place v)
+  put-fifth c h g p v e = rw e (same (sym (more-than-four c h g)) (then-byte (digit (c % 16)) p))
+
+-- Lines.
+module _ (room : List ℕ) (at : ℕ) where
+  pub put-scalar : (n c : ℕ) {tab end : ℕ} {a b : List ℕ} → Put room at (count n) tab a → Put (set (set (set a tab 0x09) (tab + 1) 0x55) (tab + 2) 0x2B) (tab + 3) (digits 16 8 4 c) end b →
+      Put room at (line (count n) (codePoint c)) (end + 1) (set b end 0x0A)
+  unfolding bytes
+  put-scalar n c {tab} {end} {a} p q = same (append-assoc (count n) (0x09 ∷ 0x55 ∷ 0x2B ∷ digits 16 8 4 c) (0x0A ∷ [])) (then-byte 0x0A (then-put p (then-put three q)))
+    where
+      three : Put a tab (0x09 ∷ 0x55 ∷ 0x2B ∷ []) (tab + 3) (set (set (set a tab 0x09) (tab + 1) 0x55) (tab + 2) 0x2B)
+      three = let two : tab + 2 ≡ suc (suc tab) = omega arith in record { behind = refl; stands = rw (two, add-one) refl }
+
+  pub put-line : (us vs : List ℕ) {tab end : ℕ} {a b : List ℕ} → Put room at us tab a → Put (set a tab 0x09) (tab + 1) vs end b → Put room at (line us vs) (end + 1) (set b end 0x0A)
+  put-line us vs p q = same (simp append-assoc) (then-byte 0x0A (then-put (then-byte 0x09 p) q))
+
+-- The length of a scalar's line.
+pub line-few : (n c : ℕ) → length (line (count n) (codePoint c)) ≤ 32
+unfolding bytes
+line-few n c = omega (arith, count-few n, hexadecimal-few c, length-append (count n) (0x09 ∷ codePoint c ++ (0x0A ∷ [])), length-append (digits 16 8 4 c) (0x0A ∷ []))
+
+pub number-few : (word : List ℕ) (n : ℕ) → length (line word (count n)) ≤ length word + 22
+number-few word n = omega (arith, count-few n, length-append word (0x09 ∷ count n ++ (0x0A ∷ [])), length-append (count n) (0x0A ∷ []))
+
+-- The lines of some scalars and of some more.
+pub scalarLines-append : (n : ℕ) (xs ys : List ℕ) → scalarLines n (xs ++ ys) ≡ scalarLines n xs ++ scalarLines (n + length xs) ys
+unfolding scalarLines
+scalarLines-append n [] ys = rw (add-zero n)
+scalarLines-append n (x ∷ xs) ys =
+    let z : n + suc (length xs) ≡ suc n + length xs = omega arith in
+    ap (λ (l : List ℕ). line (count n) (codePoint x) ++ l) (scalarLines-append (suc n) xs ys) ∙ rw z (sym (append-assoc (line (count n) (codePoint x)) (scalarLines (suc n) xs) (scalarLines (suc n + length xs) ys)))
+
+pub lines-few : (n : ℕ) (cs : List ℕ) → length (scalarLines n cs) ≤ 32 * length cs
+unfolding scalarLines
+lines-few n [] = omega arith
+lines-few n (c ∷ cs) = omega (arith, lines-few (suc n) cs, line-few n c, length-append (line (count n) (codePoint c)) (scalarLines (suc n) cs))
+
+module _ (n : ℕ) (cs : List ℕ) (i : ℕ) (h : i < length cs) where
+  -- one line more
+  next-line : scalarLines n (take i cs) ++ line (count (n + i)) (codePoint (getD cs i 0)) ≡ scalarLines n (take (i + 1) cs)
+  unfolding scalarLines
+  next-line = sym (rw (add-one, take-suc cs i 0 h, scalarLines-append n (take i cs) (getD cs i 0 ∷ []), length-take-le i cs (omega arith)) (ap (λ (l : List ℕ). scalarLines n (take i cs) ++ l) (append-nil _)))
+
+  pub put-next : {room : List ℕ} {at : ℕ} {o o′ : ℕ} {a a′ : List ℕ} → Put room at (scalarLines n (take i cs)) o a → Put a o (line (count (n + i)) (codePoint (getD cs i 0))) o′ a′ →
+      Put room at (scalarLines n (take (i + 1) cs)) o′ a′
+  put-next p q = same next-line (then-put p q)
+
+-- one byte more
+module _ (bs : List ℕ) (i : ℕ) (h : i < length bs) where
+  pub put-byte : {room : List ℕ} {at : ℕ} {a : List ℕ} → Put room at (take i bs) (at + i) a → Put room at (take (i + 1) bs) (at + (i + 1)) (set a (at + i) (getD bs i 0))
+  put-byte {room} {at} {a} p =
+      let z : at + i + 1 ≡ at + (i + 1) = omega arith in
+      let q : take i bs ++ (getD bs i 0 ∷ []) ≡ take (i + 1) bs = rw add-one (sym (take-suc bs i 0 h)) in
+      rw z at (same q (then-byte (getD bs i 0) p))
+
+-- the whole of a list
+pub put-all : {room : List ℕ} {at : ℕ} (f : List ℕ → List ℕ) (cs : List ℕ) (i : ℕ) → length cs ≤ i → {o : ℕ} {a : List ℕ} → Put room at (f (take i cs)) o a → Put room at (f cs) o a
+put-all f cs i h p = same (ap f (take-all i cs h)) p
+
+-- nothing yet
+pub put-none : {room : List ℕ} {at : ℕ} → Put room at [] (at + 0) room
+put-none = record { behind = refl; stands = refl }
+
+pub no-lines : (n : ℕ) {room : List ℕ} {at : ℕ} → Put room at (scalarLines n []) at room
+unfolding scalarLines
+no-lines n = nothing
+
+-- the lines of the first w cells
+pub shown-part : (w n : ℕ) (room : List ℕ) {out : List ℕ} {at o : ℕ} {after : List ℕ} → Put out at (scalarLines n (take (w - 0) room)) o after → Put out at (scalarLines n (take w room)) o after
+shown-part w n room p = let z : w - 0 ≡ w = omega arith in rw z at p

@@ -1,0 +1,273 @@
+-- The promises of specs/Statements.antt. Assumes nothing.
+use mathlib.Core.Path.{_≡_, refl, sym, ap, _∙_}
+use mathlib.Core.Bool.{Bool, true, false}
+use mathlib.Core.List.{List, [], _∷_, _++_, append-assoc, append-nil, map}
+use mathlib.Core.Option.{Option, some, none}
+use Prim.Native.Nat.{ℕ, suc, _+_, _≤_, _<_}
+use Prim.Native.String.{String}
+use native.Mathlib.Nat.{zero-add}
+use native.Mathlib.Omega.{arith}
+use lib.Dec.{ltb, eqb}
+use lib.ListN.{length, take, drop, length-append}
+use lib.Seq.{take-append-seam, length-take-le}
+use borrow.Author.Tests.{lt-ltb, le-ltb, eq-eqb, ne-eqb, ltb-true, ltb-false, eqb-true, eqb-false}
+use Rattle.standard.specs.Base.{_then_else_}
+use Rattle.standard.specs.Text.{bytes}
+use Rattle.standard.specs.Encodings.{family, traits, noTables, fits}
+use Rattle.standard.specs.Indexes.{irregular, countFrom, windows1252}
+use Rattle.standard.specs.Sequence.{cell}
+use Rattle.standard.specs.Sequences.SingleByte.{singleByte}
+use Rattle.standard.specs.Next.{next}
+use Rattle.standard.specs.Decode.{reads, decode, oneError, ending, shown, everything}
+use Rattle.standard.proofs.Tests.{split}
+use Rattle.standard.proofs.Reading.{empty}
+use Rattle.labels.specs.Labels.{table, trimmed, fold, same, among, find, answer, label, name}
+use Rattle.labels.specs.Labels.{start as startOf}
+use Rattle.labels.specs.declared.Found.{Found}
+use Rattle.labels.proofs.Known.{encodings}
+use Rattle.decoder.specs.Calls.{Outcome, holding, newShift, openRefusal, opening, feedRefusal, feeding, finishing}
+use Rattle.decoder.specs.Histories.{Call, History, noted, after, start}
+use Rattle.decoder.specs.Statements.{Piece, cutting, Account, account, Roomy, Accepts}
+use Rattle.decoder.specs.Statements.{joined as joinedPieces}
+use Rattle.decoder.specs.Whole.{dealt, wholeAccount}
+use Rattle.decoder.specs.declared.Decoder.{Decoder}
+use Rattle.decoder.proofs.Steps.{opened-is, feed-holding}
+use Rattle.decoder.proofs.Validity.{valid-opening}
+use Rattle.decoder.proofs.Cutting.{cut-is-whole}
+use Rattle.decoder.proofs.Rooms.{roomy, room-kept}
+use Rattle.showtext.specs.Output.{firstLine, afterLine, digits, count, line, refused, scalarLines, printed}
+use Rattle.showtext.specs.Program.{Leaves, leave, linesOf, beginning, goingOn, closing, text, later, program}
+use Rattle.showtext.specs.Statements.{joined, Small, Prints}
+use Rattle.showtext.proofs.Texts.{scalarLines-append}
+use Rattle.showtext.proofs.Buffers.{feed-few, finish-few, found, opened, fed, at-long, at-unknown, at-refused, at-fed}
+
+-- The first line of a longer input.
+line-closed : (xs ys : List ℕ) → length (firstLine xs) < length xs → (firstLine (xs ++ ys) ≡ firstLine xs) × (afterLine (xs ++ ys) ≡ afterLine xs ++ ys)
+unfolding firstLine afterLine
+line-closed [] ys h = absurd (omega arith)
+line-closed (b ∷ xs) ys h = go (line-closed xs ys) (eqb b 0x0A) h
+  where
+    go : (length (firstLine xs) < length xs → (firstLine (xs ++ ys) ≡ firstLine xs) × (afterLine (xs ++ ys) ≡ afterLine xs ++ ys)) → (e : Bool) → length (e then [] else b ∷ firstLine xs) < suc (length xs) →
+        ((e then [] else b ∷ firstLine (xs ++ ys)) ≡ (e then [] else b ∷ firstLine xs)) × ((e then xs ++ ys else afterLine (xs ++ ys)) ≡ (e then xs else afterLine xs) ++ ys)
+    go f true g = (refl, refl)
+    go f false g = let r = f (omega (arith, g)) in (ap (λ (l : List ℕ). b ∷ l) (r .0), r .1)
+
+line-longer : (xs ys : List ℕ) → length (firstLine xs) ≤ length (firstLine (xs ++ ys))
+unfolding firstLine
+line-longer [] ys = omega arith
+line-longer (b ∷ xs) ys = go (line-longer xs ys) (eqb b 0x0A)
+  where
+    go : length (firstLine xs) ≤ length (firstLine (xs ++ ys)) → (e : Bool) → length (e then [] else b ∷ firstLine xs) ≤ length (e then [] else b ∷ firstLine (xs ++ ys))
+    go f true = omega arith
+    go f false = omega (arith, f)
+
+after-few : (xs : List ℕ) → length (afterLine xs) ≤ length xs
+unfolding afterLine
+after-few [] = omega arith
+after-few (b ∷ xs) = split (eqb b 0x0A) (λ e. rw e (omega arith)) (λ e. rw e (omega (arith, after-few xs)))
+
+-- The first buffer has the whole line, where that has at most 255 bytes.
+line-cut : (first : List ℕ) (bs : List (List ℕ)) → (length first < 256 → bs ≡ []) → length (firstLine first) ≤ 255 → (firstLine (first ++ joined bs) ≡ firstLine first) × (afterLine (first ++ joined bs) ≡ afterLine first ++ joined bs)
+unfolding joined
+line-cut first bs h l = split (ltb (length first) 256)
+    (λ e. rw (h (ltb-true (length first) 256 e), append-nil first, append-nil (afterLine first)) (refl, refl))
+    (λ e. line-closed first (joined bs) (omega (arith, l, ltb-false (length first) 256 e)))
+
+-- An encoding that a label names has a number up to 39.
+find-below : (l : List ℕ) (n : ℕ) (rs : List (String × List String)) (e : ℕ) → find l n rs ≡ some e → e < n + length rs
+unfolding find
+find-below l n [] e h = let z : _≡_ {A = ℕ} 0 1 = cc in absurd (omega arith)
+find-below l n (r ∷ rs) e h = go (find-below l (suc n) rs e) (among l (r .1)) h
+  where
+    go : (find l (suc n) rs ≡ some e → e < suc n + length rs) → (b : Bool) → (b then some n else find l (suc n) rs) ≡ some e → e < n + suc (length rs)
+    go f true g = let z : n ≡ e = cc in omega (arith, z)
+    go f false g = omega (arith, f g)
+
+known-below : (xs : List ℕ) → (label xs .refusal ≡ 1 → ⊥) → label xs .encoding ≤ 39
+unfolding label
+known-below xs h = go (find (map fold (trimmed xs)) 0 table) refl h
+  where
+    go : (o : Option ℕ) → find (map fold (trimmed xs)) 0 table ≡ o → (answer xs o .refusal ≡ 1 → ⊥) → answer xs o .encoding ≤ 39
+    go none e g = absurd (g refl)
+    go (some n) e g = omega (arith, find-below (map fold (trimmed xs)) 0 table n e, encodings)
+
+-- What a call prints is its text.
+text-is : (d : Decoder) (n number : ℕ) (us room out : List ℕ) → text (leave d n number us room out) ≡ us
+text-is d n number us room out = take-append-seam us (drop (length us) out)
+
+-- The feeds of further buffers, each with the room that the one before it left, and the room of the finish.
+pieces : Decoder → List ℕ → List (List ℕ) → List Piece
+pieces d room [] = []
+pieces d room (b ∷ bs) = let o = feeding d noTables b room in record { chunk = b; room = room } ∷ pieces (o .answer .decoder) (o .room) bs
+
+lastRoom : Decoder → List ℕ → List (List ℕ) → List ℕ
+lastRoom d room [] = room
+lastRoom d room (b ∷ bs) = let o = feeding d noTables b room in lastRoom (o .answer .decoder) (o .room) bs
+
+calls : Decoder → List ℕ → List (List ℕ) → List Call
+calls d room bs = cutting noTables (pieces d room bs) (lastRoom d room bs)
+
+pieces-joined : (d : Decoder) (room : List ℕ) (bs : List (List ℕ)) → joinedPieces (pieces d room bs) ≡ joined bs
+unfolding pieces joined joinedPieces
+pieces-joined d room [] = refl
+pieces-joined d room (b ∷ bs) = let o = feeding d noTables b room in ap (λ (l : List ℕ). b ++ l) (pieces-joined (o .answer .decoder) (o .room) bs)
+
+pieces-roomy : (d : Decoder) (room : List ℕ) (bs : List (List ℕ)) → 4099 ≤ length room → Small bs → Roomy (pieces d room bs) (lastRoom d room bs)
+unfolding pieces lastRoom Small Roomy
+pieces-roomy d room [] h s = omega arith
+pieces-roomy d room (b ∷ bs) h s =
+    let o = feeding d noTables b room in
+    (omega (arith, s .0), omega (arith, s .0, h), pieces-roomy (o .answer .decoder) (o .room) bs (omega (arith, h, room-kept d .fed noTables b room)) (s .1))
+
+-- The lines of all scalars, and the last line.
+abbrev ended : List ℕ → List ℕ
+ended cs = scalarLines 0 cs ++ line (bytes "end") (count (length cs))
+
+-- The scalars of a call come behind those handed out before it.
+module _ (handed : List ℕ) (n : ℕ) (k : n ≡ length handed) (o : Outcome) (few : o .answer .written ≤ length (o .room)) where
+  abbrev now : List ℕ
+  now = handed ++ take (o .answer .written) (o .room)
+
+  counted : n + o .answer .written ≡ length now
+  counted = omega (arith, k, length-append handed (take (o .answer .written) (o .room)), length-take-le (o .answer .written) (o .room) few)
+
+  behind : (us : List ℕ) → scalarLines 0 handed ++ (linesOf n o ++ us) ≡ scalarLines 0 now ++ us
+  behind us =
+      let cs = take (o .answer .written) (o .room) in
+      let e : scalarLines 0 now ≡ scalarLines 0 handed ++ linesOf n o = scalarLines-append 0 handed cs ∙ ap (λ (m : ℕ). scalarLines 0 handed ++ scalarLines m cs) (zero-add (length handed) ∙ sym k) in
+      sym (append-assoc (scalarLines 0 handed) (linesOf n o) us) ∙ ap (λ (l : List ℕ). l ++ us) (sym e)
+
+later-is : (bs : List (List ℕ)) (l : Leaves) (taken handed : List ℕ) → l .shown .count ≡ length handed →
+    scalarLines 0 handed ++ later l bs ≡ ended (after (record { taken = taken; handed = handed; decoder = l .shown .decoder }) (calls (l .shown .decoder) (l .room) bs) .handed)
+unfolding later closing goingOn calls pieces lastRoom cutting after
+later-is [] l taken handed k =
+    let d = l .shown .decoder in
+    let n = l .shown .count in
+    let o = finishing d (l .room) in
+    let few : o .answer .written ≤ length (o .room) = omega (arith, finish-few d (l .room), room-kept d .finished (l .room)) in
+    ap (λ (t : List ℕ). scalarLines 0 handed ++ t) (text-is (o .answer .decoder) (n + o .answer .written) (o .answer .refusal) (linesOf n o ++ line (bytes "end") (count (n + o .answer .written))) (o .room) (l .out)) ∙
+    behind handed n k o few (line (bytes "end") (count (n + o .answer .written))) ∙
+    ap (λ (m : ℕ). scalarLines 0 (now handed n k o few) ++ line (bytes "end") (count m)) (counted handed n k o few)
+later-is (b ∷ bs) l taken handed k =
+    let d = l .shown .decoder in
+    let n = l .shown .count in
+    let o = feeding d noTables b (l .room) in
+    let few : o .answer .written ≤ length (o .room) = omega (arith, feed-few d noTables b (l .room), room-kept d .fed noTables b (l .room)) in
+    let l′ = goingOn d n b (l .room) (l .out) in
+    ap (λ (t : List ℕ). scalarLines 0 handed ++ (t ++ later l′ bs)) (text-is (o .answer .decoder) (n + o .answer .written) (o .answer .refusal) (linesOf n o) (o .room) (l .out)) ∙
+    behind handed n k o few (later l′ bs) ∙
+    later-is bs l′ (noted (record { taken = taken; handed = handed; decoder = d }) b o .taken) (now handed n k o few) (counted handed n k o few)
+
+-- The first feed, of an encoding that may be opened.
+module _ (e : ℕ) (o : openRefusal e 0 0 ≡ 0) (chunk room : List ℕ) where
+  abbrev new : Decoder
+  new = opening e 0 0 .decoder
+
+  new-is : new ≡ holding e 0 (newShift e 0) []
+  unfolding start
+  new-is = ap (λ (h : History). h .decoder) (opened-is e 0 0 o)
+
+  feed-accepted : feedRefusal new noTables chunk room ≡ 0 → feeding new noTables chunk room .answer .refusal ≡ 0
+  feed-accepted z =
+      let z′ : feedRefusal (holding e 0 (newShift e 0) []) noTables chunk room ≡ 0 = rw new-is at z in
+      rw (new-is, feed-holding e 0 (newShift e 0) [] noTables chunk room (empty noTables (family e) (newShift e 0)) z′)
+
+  feed-refused : fits (family e) noTables ≡ false → feeding new noTables chunk room .answer .refusal ≡ 4
+  unfolding feeding feedRefusal
+  feed-refused f = rw new-is (rw (rw new-is at (valid-opening e 0 0), f))
+
+module _ (room out first : List ℕ) (bs : List (List ℕ)) (h : 4099 ≤ length room) (c : length first < 256 → bs ≡ []) (s : Small (first ∷ bs)) where
+  abbrev F : Found
+  F = found first room out
+
+  abbrev D : Decoder
+  D = opened first room out
+
+  abbrev O : Outcome
+  O = fed first room out
+
+  -- all that is printed, from what the first buffer leaves
+  abbrev whole-from : Leaves → List ℕ
+  whole-from l = eqb (l .shown .refusal) 0 then text l ++ later l bs else text l
+
+  refuses : (d : Decoder) (number : ℕ) (us room′ : List ℕ) → beginning first room out ≡ leave d 0 number us room′ out → eqb number 0 ≡ false → program room out first bs ≡ us
+  unfolding program
+  refuses d number us room′ e z = ap whole-from e ∙ rw z (text-is d 0 number us room′ out)
+
+  long : 255 < length (firstLine first) → program room out first bs ≡ printed (first ++ joined bs)
+  unfolding printed
+  long l = refuses D 1 (refused 1) room (at-long first room out l) refl ∙ sym (rw (lt-ltb 255 (length (firstLine (first ++ joined bs))) (omega (arith, l, line-longer first (joined bs)))))
+
+  module _ (few : length (firstLine first) ≤ 255) where
+    abbrev cut : (firstLine (first ++ joined bs) ≡ firstLine first) × (afterLine (first ++ joined bs) ≡ afterLine first ++ joined bs)
+    cut = line-cut first bs c few
+
+    unknown : F .refusal ≡ 1 → program room out first bs ≡ printed (first ++ joined bs)
+    unfolding printed
+    unknown e = refuses D 1 (refused 1) room (at-unknown first room out few e) refl ∙ sym (rw (cut .0, le-ltb 255 (length (firstLine first)) few, eq-eqb (F .refusal) 1 e))
+
+    module _ (e : F .refusal ≡ 1 → ⊥) where
+      opens : openRefusal (F .encoding) 0 0 ≡ 0
+      unfolding openRefusal
+      opens = rw (le-ltb 39 (F .encoding) (known-below (firstLine first) e))
+
+      missing : fits (family (F .encoding)) noTables ≡ false → program room out first bs ≡ printed (first ++ joined bs)
+      unfolding printed
+      missing f =
+          let four : O .answer .refusal ≡ 4 = feed-refused (F .encoding) opens (afterLine first) room f in
+          let z : O .answer .refusal ≡ 0 → ⊥ = λ q. omega (arith, four, q) in
+          refuses D (O .answer .refusal) (refused (O .answer .refusal)) (O .room) (at-refused first room out few e z) (ne-eqb (O .answer .refusal) 0 z) ∙ ap refused four ∙
+          sym (rw (cut .0, le-ltb 255 (length (firstLine first)) few, ne-eqb (F .refusal) 1 e, f))
+
+      -- the feeds and the finish
+      abbrev ps : List Piece
+      ps = record { chunk = afterLine first; room = room } ∷ pieces (O .answer .decoder) (O .room) bs
+
+      abbrev last : List ℕ
+      last = lastRoom (O .answer .decoder) (O .room) bs
+
+      module _ (f : fits (family (F .encoding)) noTables ≡ true) where
+        accepts : Accepts noTables (start (F .encoding) 0 0) ps last
+        unfolding Roomy Small
+        accepts = roomy noTables (F .encoding) 0 0 opens ps last f
+            (omega (arith, s .0, after-few first), omega (arith, s .0, h, after-few first), pieces-roomy (O .answer .decoder) (O .room) bs (omega (arith, h, room-kept D .fed noTables (afterLine first) room)) (s .1))
+
+        accepted : O .answer .refusal ≡ 0
+        unfolding Accepts start
+        accepted = feed-accepted (F .encoding) opens (afterLine first) room (accepts .0)
+
+        all : List ℕ
+        all = shown (everything noTables (family (F .encoding)) (newShift (F .encoding) 0) (afterLine (first ++ joined bs)))
+
+        -- what the calls hand out in all
+        handed : after (start (F .encoding) 0 0) (cutting noTables ps last) .handed ≡ all
+        unfolding account wholeAccount dealt joinedPieces all
+        handed = ap (λ (a : Account). a .handed) (cut-is-whole noTables (F .encoding) 0 0 opens ps last accepts) ∙
+            ap (λ (xs : List ℕ). shown (everything noTables (family (F .encoding)) (newShift (F .encoding) 0) xs)) (ap (λ (ys : List ℕ). afterLine first ++ ys) (pieces-joined (O .answer .decoder) (O .room) bs) ∙ sym (cut .1))
+
+        -- the lines behind the first
+        lines : linesOf 0 O ++ later (leave (O .answer .decoder) (O .answer .written) 0 (line (bytes "encoding") (name (F .encoding)) ++ linesOf 0 O) (O .room) out) bs ≡ ended all
+        unfolding start cutting after calls
+        lines =
+            let few′ : O .answer .written ≤ length (O .room) = omega (arith, feed-few D noTables (afterLine first) room, room-kept D .fed noTables (afterLine first) room) in
+            later-is bs (leave (O .answer .decoder) (O .answer .written) 0 (line (bytes "encoding") (name (F .encoding)) ++ linesOf 0 O) (O .room) out)
+            (noted (start (F .encoding) 0 0) (afterLine first) O .taken) (take (O .answer .written) (O .room)) (sym (length-take-le (O .answer .written) (O .room) few′)) ∙ ap ended handed
+
+        listed : program room out first bs ≡ printed (first ++ joined bs)
+        unfolding program printed all
+        listed =
+            let us = line (bytes "encoding") (name (F .encoding)) in
+            let l = leave (O .answer .decoder) (O .answer .written) 0 (us ++ linesOf 0 O) (O .room) out in
+            ap whole-from (at-fed first room out few e accepted) ∙ ap (λ (t : List ℕ). t ++ later l bs) (text-is (O .answer .decoder) (O .answer .written) 0 (us ++ linesOf 0 O) (O .room) out) ∙
+            append-assoc us (linesOf 0 O) (later l bs) ∙ ap (λ (t : List ℕ). us ++ t) lines ∙ sym (rw (cut .0, le-ltb 255 (length (firstLine first)) few, ne-eqb (F .refusal) 1 e, f))
+
+  all-cases : program room out first bs ≡ printed (first ++ joined bs)
+  all-cases = split (ltb 255 (length (firstLine first)))
+      (λ l. long (ltb-true 255 (length (firstLine first)) l))
+      (λ l. let few = ltb-false 255 (length (firstLine first)) l in split (eqb (F .refusal) 1)
+      (λ e. unknown few (eqb-true (F .refusal) 1 e))
+      (λ e. let known = eqb-false (F .refusal) 1 e in split (fits (family (F .encoding)) noTables) (listed few known) (missing few known)))
+
+pub prints : Prints
+unfolding printed digits scalarLines firstLine afterLine bytes name label table startOf trimmed same among find family traits fits everything decode reads ending oneError shown next singleByte cell windows1252 irregular countFrom
+prints = record { whole = all-cases; example = refl; missing = refl }

@@ -1,0 +1,52 @@
+use Rattle.showtext.proofs.FirstLine.{first-few, after-more, after-none}
+use native.Mathlib.Omega.{arith}
+use borrow.Author.Needs.{needs}
+use Rattle.showtext.proofs.after_line.Statement.{statement}
+use Rattle.showtext.proofs.after_line.Tie as tie
+
+add-result : tie.Need-add-result
+add-result c = search needs
+
+sub-result : tie.Need-sub-result
+sub-result c = search needs
+
+part-result-start : tie.Need-part-result-start
+part-result-start c = search needs
+
+part-result-end : tie.Need-part-result-end
+part-result-end c = search needs
+
+returns : tie.Need-returns
+returns c =
+    let args = c .before .before .args in
+    let at-pre = c .before .before .pre in
+    after-more (args .input .now) (args .n) at-pre
+
+sub-result-2 : tie.Need-sub-result-2
+sub-result-2 c = omega (arith, first-few ((c .before .args) .input .now), c .before .pre)
+
+part-result-start-2 : tie.Need-part-result-start-2
+part-result-start-2 c = omega (arith, first-few ((c .before .args) .input .now), c .before .pre)
+
+part-result-end-2 : tie.Need-part-result-end-2
+part-result-end-2 c = search needs
+
+returns-2 : tie.Need-returns-2
+returns-2 c =
+    let args = c .before .before .args in
+    let at-pre = c .before .before .pre in
+    after-none (args .input .now) (args .n) at-pre (omega arith)
+
+pub after-line-spec : {M : Type 1} → statement M
+after-line-spec =
+    tie.close
+    (tie.spec
+    add-result
+    sub-result
+    part-result-start
+    part-result-end
+    returns
+    sub-result-2
+    part-result-start-2
+    part-result-end-2
+    returns-2)

@@ -1,0 +1,21 @@
+use Rattle.standard.specs.Text.{bytes}
+use borrow.Author.Needs.{needs}
+use Rattle.showtext.proofs.refuse.Statement.{statement}
+use Rattle.showtext.proofs.refuse.Tie as tie
+
+slice-aggregate-put-number : tie.Need-slice-aggregate-put-number
+slice-aggregate-put-number c = search needs
+
+put-number-requires : tie.Need-put-number-requires
+put-number-requires c κs = search needs
+
+same-length : tie.Need-same-length
+same-length c = search needs
+
+returns : tie.Need-returns
+unfolding bytes
+returns c = search needs
+
+pub refuse-spec : {M : Type 1} → statement M
+refuse-spec =
+    tie.close (tie.spec slice-aggregate-put-number put-number-requires same-length returns)

@@ -1,0 +1,25 @@
+-- What is proved of the program: read through buffers, any input gives what document 01 says of the whole. Assumes nothing.
+use mathlib.Core.Path.{_≡_}
+use mathlib.Core.List.{List, [], _∷_, _++_}
+use Prim.Native.Nat.{ℕ, _≤_, _<_}
+use lib.ListN.{length}
+use Rattle.standard.specs.Text.{bytes}
+use Rattle.showtext.specs.Output.{printed}
+use Rattle.showtext.specs.Program.{program}
+
+-- Buffers joined.
+unfoldable pub joined : List (List ℕ) → List ℕ
+joined [] = []
+joined (b ∷ bs) = b ++ joined bs
+
+-- Each has at most 4,096 bytes.
+unfoldable pub Small : List (List ℕ) → Type 0
+Small [] = Unit
+Small (b ∷ bs) = (length b ≤ 4096) × Small bs
+
+-- For every room of at least 4,099 cells, every out, and all buffers of which the first has at least 256 bytes or is the whole input.
+pub record Prints : Type 0 where
+  pub whole : (room out first : List ℕ) (bs : List (List ℕ)) → 4099 ≤ length room → (length first < 256 → bs ≡ []) → Small (first ∷ bs) → program room out first bs ≡ printed (first ++ joined bs)
+  -- document 01's example, and a missing table with an empty rest
+  pub example : printed (bytes " Latin1\n" ++ (0x80 ∷ 0x09 ∷ 0x41 ∷ [])) ≡ bytes "encoding\twindows-1252\n0\tU+20AC\n1\tU+0009\n2\tU+0041\nend\t3\n"
+  pub missing : printed (bytes "big5") ≡ bytes "refused\t4\n"

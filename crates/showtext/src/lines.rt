@@ -1,0 +1,127 @@
+// The lines that are printed, written into a lent room of bytes.
+
+ghost use mathlib.Core.Path.{_≡_};
+ghost use Prim.Native.Nat.{_+_, _*_, _≤_, _<_, _^_};
+ghost use lib.ListN.{length};
+ghost use Rattle.standard.specs.Text.{bytes};
+ghost use Rattle.labels.specs.Labels.{name};
+ghost use Rattle.showtext.specs.Output.{digit, digits, count, codePoint, line, scalarLines};
+ghost use Rattle.showtext.specs.Places.{Put};
+
+// The digit of a number below 16, in capitals.
+fn digit(d: u32) -> u8
+    requires { ⌜ d < 16 ⌝ }
+    ensures { λ r. ⌜ r ≡ digit d ⌝ }
+{
+    if d < 10 {
+        return d as u8 + 0x30;
+    }
+    d as u8 + 0x37
+}
+
+// A count in decimal, written from a place on; the place behind it.
+fn put_count(out: &mut [u8], at: usize, n: u64) -> usize
+    requires { ⌜ at + length (count n) ≤ length (now out) ⌝ }
+    ensures { λ r. ⌜ Put (now (out .entry)) at (count n) r (now (out .exit)) ⌝ }
+{
+    if n < 10 {
+        out[at] = digit(n as u32);
+        return at + 1;
+    }
+    let last = put_count(out, at, n / 10);
+    out[last] = digit((n % 10) as u32);
+    last + 1
+}
+
+// The hexadecimal digits of a number, at least four, written from a place on; the place behind them.
+fn put_hexadecimal(out: &mut [u8], at: usize, c: u32) -> usize
+    requires { ⌜ at + length (digits 16 8 4 c) ≤ length (now out) ⌝ }
+    ensures { λ r. ⌜ Put (now (out .entry)) at (digits 16 8 4 c) r (now (out .exit)) ⌝ }
+{
+    if c < 0x10000 {
+        out[at] = digit(c / 4096);
+        out[at + 1] = digit(c / 256 % 16);
+        out[at + 2] = digit(c / 16 % 16);
+        out[at + 3] = digit(c % 16);
+        return at + 4;
+    }
+    let last = put_hexadecimal(out, at, c / 16);
+    out[last] = digit(c % 16);
+    last + 1
+}
+
+// The line of a scalar and its count; the place behind it.
+fn put_scalar(out: &mut [u8], at: usize, n: u64, c: u32) -> usize
+    requires { ⌜ at + 32 ≤ length (now out) ⌝ }
+    ensures { λ r. ⌜ Put (now (out .entry)) at (line (count n) (codePoint c)) r (now (out .exit)) ⌝ }
+{
+    let tab = put_count(out, at, n);
+    out[tab] = 0x09;
+    out[tab + 1] = b'U';
+    out[tab + 2] = b'+';
+    let end = put_hexadecimal(out, tab + 3, c);
+    out[end] = 0x0A;
+    end + 1
+}
+
+// The lines of some scalars, the first one's count being n; the place behind them.
+pub(crate) fn put_scalars(out: &mut [u8], at: usize, n: u64, scalars: &[u32]) -> usize
+    requires { ⌜ (at + 32 * length (now scalars) ≤ length (now out)) × (n + length (now scalars) < 2 ^ 64) ⌝ }
+    ensures { λ r. ⌜ Put (now (out .entry)) at (scalarLines n (now (scalars .entry))) r (now (out .exit)) ⌝ }
+{
+    let mut o = at;
+    let mut i: usize = 0;
+    while i < scalars.len() {
+        o = put_scalar(out, o, n + i as u64, scalars[i]);
+        i += 1;
+    }
+    o
+}
+
+// Bytes, written from a place on; the place behind them.
+fn put_bytes(out: &mut [u8], at: usize, bytes: &[u8]) -> usize
+    requires { ⌜ at + length (now bytes) ≤ length (now out) ⌝ }
+    ensures { λ r. ⌜ Put (now (out .entry)) at (now (bytes .entry)) r (now (out .exit)) ⌝ }
+{
+    let mut i: usize = 0;
+    while i < bytes.len() {
+        out[at + i] = bytes[i];
+        i += 1;
+    }
+    at + i
+}
+
+// The line of a word and a number; the place behind it.
+pub(crate) fn put_number(out: &mut [u8], at: usize, word: &[u8], n: u64) -> usize
+    requires { ⌜ at + length (now word) + 22 ≤ length (now out) ⌝ }
+    ensures { λ r. ⌜ Put (now (out .entry)) at (line (now (word .entry)) (count n)) r (now (out .exit)) ⌝ }
+{
+    let tab = put_bytes(out, at, word);
+    out[tab] = 0x09;
+    let end = put_count(out, tab + 1, n);
+    out[end] = 0x0A;
+    end + 1
+}
+
+// The line of two words; the place behind it.
+fn put_words(out: &mut [u8], at: usize, first: &[u8], second: &[u8]) -> usize
+    requires { ⌜ at + length (now first) + length (now second) + 2 ≤ length (now out) ⌝ }
+    ensures { λ r. ⌜ Put (now (out .entry)) at (line (now (first .entry)) (now (second .entry))) r (now (out .exit)) ⌝ }
+{
+    let tab = put_bytes(out, at, first);
+    out[tab] = 0x09;
+    let end = put_bytes(out, tab + 1, second);
+    out[end] = 0x0A;
+    end + 1
+}
+
+// The line of an encoding's name, at the front; the place behind it.
+pub(crate) fn put_encoding(out: &mut [u8], encoding: u8) -> usize
+    requires { ⌜ 32 ≤ length (now out) ⌝ }
+    ensures { λ r. ⌜ Put (now (out .entry)) 0 (line (bytes "encoding") (name encoding)) r (now (out .exit)) ⌝ }
+{
+    let mut name = [0u8; 20];
+    let named = labels::name(encoding, &mut name);
+    let n = named.length;
+    put_words(out, 0, b"encoding", &name[0..n])
+}

@@ -1,0 +1,223 @@
+// Document 01, "Program `showtext`": the encoding that the first line of standard input names, the scalars of the rest, and their number.
+
+mod lines;
+
+use decoder::Answer;
+use decoder::Decoder;
+use libc::STDIN_FILENO;
+use libc::STDOUT_FILENO;
+use lines::put_encoding;
+use lines::put_number;
+use lines::put_scalars;
+ghost use mathlib.Core.Path.{_≡_};
+ghost use Prim.Native.Nat.{_+_, _*_, _≤_, _<_, _^_};
+ghost use lib.ListN.{length, take};
+ghost use Rattle.standard.specs.Encodings.{noTables};
+ghost use Rattle.decoder.specs.Calls.{feeding};
+ghost use Rattle.showtext.specs.Output.{firstLine, afterLine, refused, scalarLines};
+ghost use Rattle.showtext.specs.Program.{Answers, Left, beginning, goingOn, closing};
+
+// What a buffer leaves: the decoder, the scalars so far, the bytes of text at the front of `out`, and the refusal number or 0.
+struct Shown {
+    decoder: Decoder,
+    refusal: u8,
+    length: usize,
+    count: u64,
+}
+
+// How many bytes the first line has, without its line feed.
+fn first_line(input: &[u8]) -> usize
+    ensures { λ r. ⌜ (r ≡ length (firstLine (now (input .entry)))) × (r ≤ length (now (input .entry))) × (take r (now (input .entry)) ≡ firstLine (now (input .entry))) ⌝ }
+{
+    let mut i: usize = 0;
+    while i < input.len() {
+        if input[i] == 0x0A {
+            return i;
+        }
+        i += 1;
+    }
+    i
+}
+
+// The bytes behind the first line of n bytes.
+fn after_line<'a>(input: &'a [u8], n: usize) -> &'a [u8]
+    requires { ⌜ n ≡ length (firstLine (now input)) ⌝ }
+    ensures { λ r. ⌜ now r ≡ afterLine (now (input .entry)) ⌝ }
+{
+    if n < input.len() {
+        return &input[n + 1..];
+    }
+    &input[n..]
+}
+
+// The one line of a refusal.
+fn refuse(decoder: Decoder, refusal: u8, out: &mut [u8]) -> Shown
+    requires { ⌜ 32 ≤ length (now out) ⌝ }
+    ensures { λ r. ⌜ Answers decoder 0 refusal (now (out .entry)) 0 (refused refusal) r (now (out .exit)) ⌝ }
+{
+    let length = put_number(out, 0, b"refused", refusal as u64);
+    Shown {
+        decoder,
+        refusal,
+        length,
+        count: 0,
+    }
+}
+
+// The lines of the scalars that a feed or finish wrote, from a place on.
+fn show(answer: Answer, count: u64, room: &[u32], out: &mut [u8], at: usize) -> Shown
+    requires { ⌜ (answer .written ≤ length (now room)) × (at + 32 * answer .written ≤ length (now out)) × (count + answer .written < 2 ^ 64) ⌝ }
+    ensures { λ r. ⌜ Answers (answer .decoder) (count + answer .written) (answer .refusal) (now (out .entry)) at (scalarLines count (take (answer .written) (now (room .entry)))) r (now (out .exit)) ⌝ }
+{
+    let written = answer.written;
+    let decoder = answer.decoder;
+    let length = put_scalars(out, at, count, &room[0..written]);
+    Shown {
+        decoder,
+        refusal: answer.refusal,
+        length,
+        count: count + written as u64,
+    }
+}
+
+// A feed with empty tables.
+fn feed(decoder: Decoder, chunk: &[u8], room: &mut [u32]) -> Answer
+    ensures { λ r. ⌜ (r ≡ feeding decoder noTables (now (chunk .entry)) (now (room .entry)) .answer) × (now (room .exit) ≡ feeding decoder noTables (now (chunk .entry)) (now (room .entry)) .room) ⌝ }
+{
+    let none = [0u32; 1];
+    let empty = &none[0..0];
+    decoder.feed(chunk, empty, empty, room)
+}
+
+// The first buffer of the input.
+fn begin(input: &[u8], room: &mut [u32], out: &mut [u8]) -> Shown
+    requires { ⌜ 32 * length (now room) + 32 ≤ length (now out) ⌝ }
+    ensures { λ r. ⌜ Left (beginning (now (input .entry)) (now (room .entry)) (now (out .entry))) r (now (room .exit)) (now (out .exit)) ⌝ }
+{
+    let n = first_line(input);
+    let found = labels::find_label(&input[0..n]);
+    let opened = Decoder::open(found.encoding, 0, 0);
+    if 255 < n {
+        return refuse(opened.decoder, 1, out);
+    }
+    if found.refusal == 1 {
+        return refuse(opened.decoder, 1, out);
+    }
+    let fed = feed(opened.decoder, after_line(input, n), room);
+    if fed.refusal != 0 {
+        return refuse(opened.decoder, fed.refusal, out);
+    }
+    let at = put_encoding(out, found.encoding);
+    show(fed, 0, room, out, at)
+}
+
+// A further buffer, after `count` scalars.
+fn go_on(decoder: Decoder, count: u64, chunk: &[u8], room: &mut [u32], out: &mut [u8]) -> Shown
+    requires { ⌜ (32 * length (now room) + 32 ≤ length (now out)) × (count + length (now room) < 2 ^ 64) ⌝ }
+    ensures { λ r. ⌜ Left (goingOn decoder count (now (chunk .entry)) (now (room .entry)) (now (out .entry))) r (now (room .exit)) (now (out .exit)) ⌝ }
+{
+    let fed = feed(decoder, chunk, room);
+    show(fed, count, room, out, 0)
+}
+
+// The end of input, after `count` scalars.
+fn close(decoder: Decoder, count: u64, room: &mut [u32], out: &mut [u8]) -> Shown
+    requires { ⌜ (32 * length (now room) + 32 ≤ length (now out)) × (count + length (now room) < 2 ^ 64) ⌝ }
+    ensures { λ r. ⌜ Left (closing decoder count (now (room .entry)) (now (out .entry))) r (now (room .exit)) (now (out .exit)) ⌝ }
+{
+    let last = decoder.finish(room);
+    let s = show(last, count, room, out, 0);
+    let decoder = s.decoder;
+    let length = put_number(out, s.length, b"end", s.count);
+    Shown {
+        decoder,
+        refusal: s.refusal,
+        length,
+        count: s.count,
+    }
+}
+
+// Reads until the buffer is full or the input ends; how many bytes there are, one more than the buffer has where a read failed.
+fn fill(buffer: &mut [u8]) -> usize
+    requires { ⌜ length (now buffer) < 2 ^ 32 ⌝ }
+    ensures { λ r. ⌜ r ≤ length (now (buffer .entry)) + 1 ⌝ }
+{
+    let mut n: usize = 0;
+    while n < buffer.len() {
+        let got = libc::read(STDIN_FILENO, &mut buffer[n..]);
+        if got < 0 {
+            os::fail(b"read");
+            return buffer.len() + 1;
+        }
+        let more = io::count(got, &buffer[n..]);
+        if more == 0 {
+            return n;
+        }
+        n += more;
+    }
+    n
+}
+
+// Writes so many bytes of text to standard output; was all of it written?
+fn print(out: &[u8], bytes: usize) -> bool
+    requires { ⌜ bytes ≤ length (now out) ⌝ }
+{
+    let whole = io::write_all(STDOUT_FILENO, &out[0..bytes]);
+    if !whole {
+        os::fail(b"write");
+    }
+    whole
+}
+
+// The input behind a first buffer of so many bytes. The turns are more than any input takes.
+fn follow(first: Shown, bytes: usize, buffer: &mut [u8], room: &mut [u32], out: &mut [u8])
+    requires { ⌜ (first .count ≤ 4099) × (length (now buffer) < 2 ^ 32) × (length (now room) ≤ 4099) × (32 * length (now room) + 32 ≤ length (now out)) ⌝ }
+{
+    let mut decoder = first.decoder;
+    let mut count = first.count;
+    let mut n = bytes;
+    let mut turns: u64 = 0x4_0000_0000_0000;
+    while n == buffer.len() {
+        if turns == 0 {
+            return;
+        }
+        turns -= 1;
+        n = fill(buffer);
+        if n > buffer.len() {
+            return;
+        }
+        let s = go_on(decoder, count, &buffer[0..n], room, out);
+        if !print(out, s.length) {
+            return;
+        }
+        decoder = s.decoder;
+        count = s.count;
+    }
+    let last = close(decoder, count, room, out);
+    print(out, last.length);
+}
+
+// The whole input, through a buffer, a room for its scalars and a room for their lines.
+fn run(buffer: &mut [u8], room: &mut [u32], out: &mut [u8])
+    requires { ⌜ (length (now buffer) < 2 ^ 32) × (length (now room) ≤ 4099) × (32 * length (now room) + 32 ≤ length (now out)) ⌝ }
+{
+    let n = fill(buffer);
+    if n > buffer.len() {
+        return;
+    }
+    let first = begin(&buffer[0..n], room, out);
+    if !print(out, first.length) {
+        return;
+    }
+    if first.refusal != 0 {
+        return;
+    }
+    follow(first, n, buffer, room, out);
+}
+
+fn main() {
+    let mut buffer = [0u8; 4096];
+    let mut room = [0u32; 4099];
+    let mut out = [0u8; 131200];
+    run(&mut buffer, &mut room, &mut out);
+}
