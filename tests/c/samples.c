@@ -41,33 +41,51 @@ static hamvukile_answer feed(hamvukile_decoder d, const uint8_t *chunk, size_t n
     return hamvukile_feed(d, chunk, n, t.first, t.first_length, t.second, t.second_length, room, room_length);
 }
 
-/* Feeds the text in pieces of `piece` bytes, finishes, and gathers the scalars; the number of them, or -1 if a call was refused or wrote behind them. */
-static int decode(uint8_t encoding, uint8_t rule, tables t, const uint8_t *text, size_t n, size_t piece, uint32_t *out) {
-    int total = 0;
+/* Reads a text that is cut behind byte i where bit i of `cuts` is set; the number of scalars, or -1 if a call was refused or wrote behind them. */
+static int decode(uint8_t encoding, uint8_t rule, tables t, const uint8_t *text, size_t n, unsigned cuts, uint32_t *out) {
+    int total = 0, fed = 0;
     size_t at = 0;
     hamvukile_answer a = hamvukile_open(encoding, HAMVUKILE_REPLACING, rule);
-    if (a.refusal != 0) return -1;
-    for (;;) {
+    while (a.refusal == 0 && !a.decoder.ended) {
         uint32_t room[64];
-        size_t i, k = n - at < piece ? n - at : piece;
+        size_t i, end = at;
         for (i = 0; i < 64; i++) room[i] = UNTOUCHED;
-        a = at < n || n == 0 ? feed(a.decoder, text + at, k, t, room, k + a.decoder.held) : hamvukile_finish(a.decoder, room, a.decoder.held);
-        if (a.refusal != 0) return -1;
+        if (fed && at == n) {
+            a = hamvukile_finish(a.decoder, room, a.decoder.held);
+        } else {
+            while (end < n && (end == at || !(cuts >> (end - 1) & 1))) end++;
+            a = feed(a.decoder, text + at, end - at, t, room, end - at + a.decoder.held);
+            fed = 1;
+            at = end;
+        }
         for (i = 0; i < a.written; i++) out[total++] = room[i];
         for (; i < 64; i++) if (room[i] != UNTOUCHED) return -1;
-        if (a.decoder.ended) return total;
-        at += k;
-        if (n == 0) n = at = 1;
     }
+    return a.refusal == 0 ? total : -1;
 }
 
-/* A sample: some bytes, and the scalars that they give, in whole and byte by byte. */
+static void show_scalars(const uint32_t *scalars, int count) {
+    int i;
+    for (i = 0; i < count; i++) printf(" %04lX", (unsigned long)scalars[i]);
+}
+
+/* A sample: some bytes, and the scalars that they give, in every cut: whole, byte by byte, and all others. */
 static void sample(const char *what, uint8_t encoding, uint8_t rule, tables t, const char *bytes, size_t n, const uint32_t *want, int count) {
-    size_t piece;
-    for (piece = n + 1; piece != 0; piece = piece == 1 ? 0 : 1) {
+    unsigned cuts;
+    for (cuts = 0; cuts < (n == 0 ? 1u : 1u << (n - 1)); cuts++) {
         uint32_t out[64];
-        int got = decode(encoding, rule, t, (const uint8_t *)bytes, n, piece, out);
-        check(what, got == count && memcmp(out, want, sizeof(uint32_t) * (size_t)count) == 0);
+        size_t i;
+        int got = decode(encoding, rule, t, (const uint8_t *)bytes, n, cuts, out);
+        int same = got == count && memcmp(out, want, sizeof(uint32_t) * (size_t)count) == 0;
+        check(what, same);
+        if (same) continue;
+        printf("  encoding %d, cut as", encoding);
+        for (i = 0; i < n; i++) printf("%s%02X", i > 0 && (cuts >> (i - 1) & 1) ? " | " : " ", (uint8_t)bytes[i]);
+        printf("\n  expected");
+        show_scalars(want, count);
+        printf(got < 0 ? "\n  came a refusal, or cells behind the scalars are altered" : "\n  came");
+        show_scalars(out, got);
+        printf("\n");
     }
 }
 
@@ -81,7 +99,11 @@ static void samples(void) {
     int e;
     ranges.second = pair;
     ranges.second_length = 2;
-    for (e = 0; e <= HAMVUKILE_MAX_ENCODING; e++) sample("1: no bytes", (uint8_t)e, HAMVUKILE_DROP_MARK, tables_of((uint8_t)e), "", 0, pair, 0);
+    for (e = 0; e <= HAMVUKILE_MAX_ENCODING; e++) {
+        hamvukile_answer a = hamvukile_finish(hamvukile_open((uint8_t)e, HAMVUKILE_REPLACING, HAMVUKILE_DROP_MARK).decoder, NULL, 0);
+        check("1: no chunk", a.refusal == 0 && a.written == 0 && a.decoder.ended == 1);
+        sample("1: a chunk of no bytes", (uint8_t)e, HAMVUKILE_DROP_MARK, tables_of((uint8_t)e), "", 0, pair, 0);
+    }
     SAMPLE("2: UTF-8 F0 9F 92 A9", 0, "\xF0\x9F\x92\xA9", 0x1F4A9);
     SAMPLE("3: UTF-8 E2 82", 0, "\xE2\x82", 0xFFFD);
     SAMPLE("4: UTF-8 ED A0 80", 0, "\xED\xA0\x80", 0xFFFD, 0xFFFD, 0xFFFD);
@@ -141,7 +163,7 @@ static void refusals(void) {
     b = feed(a.decoder, (const uint8_t *)"\x82", 1, none, room, 1);
     check("16: room 1", b.refusal == HAMVUKILE_SMALL_ROOM && b.written == 0 && memcmp(&a.decoder, &b.decoder, sizeof a.decoder) == 0 && room[0] == UNTOUCHED);
     b = feed(a.decoder, (const uint8_t *)"\x82", 1, none, room, 2);
-    check("16: room 2", b.refusal == 0 && b.decoder.held == 2);
+    check("16: room 2", b.refusal == 0 && b.written == 0 && b.decoder.held == 2);
     a = hamvukile_open(0, HAMVUKILE_REPLACING, HAMVUKILE_DROP_MARK);
     b = feed(a.decoder, chunk, 65536, none, room, 65536);
     check("16: a chunk of 65,536 bytes", b.refusal == 0 && b.written == 65536);
@@ -223,9 +245,9 @@ static void part(const char *what, void (*run)(void)) {
 }
 
 int main(void) {
-    part("sample readings, whole and byte by byte", samples);
-    part("writing", writing);
-    part("refusals", refusals);
+    part("sample readings 1 to 14 in every cut", samples);
+    part("writing, with sample 15", writing);
+    part("refusals, with sample 16", refusals);
     part("labels and names", labels);
     part("index lines", index_lines);
     printf("%d compared, %d different\n", compared, different);

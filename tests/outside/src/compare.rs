@@ -1,8 +1,10 @@
-//! Each call of the library beside the reference: answer, record and every cell of the room.
+//! Each call of the library beside the reference: answer, record and every cell of the room. What is expected is the
+//! reference's, what came is the library's.
 
 use crate::ffi;
 use crate::ffi::Decoder as Record;
 use crate::reference::{self, Answer, Encoded, Tables};
+use std::fmt::Debug;
 
 /// Cells behind the lent room.
 const BEHIND: usize = 4;
@@ -16,36 +18,61 @@ fn byte_before(place: usize) -> u8 {
     0xA5 ^ place as u8
 }
 
-fn equal<T: PartialEq + std::fmt::Debug>(
-    what: &str,
-    library: T,
-    reference: T,
-) -> Result<(), String> {
+/// Compares numbers, and shows them in decimal.
+fn numbers(what: &str, library: usize, reference: usize) -> Result<(), String> {
+    if library == reference {
+        return Ok(());
+    }
+    Err(format!("{what}: expected {reference}, came {library}"))
+}
+
+/// Compares anything else, and shows it in hexadecimal.
+fn equal<T: PartialEq + Debug>(what: &str, library: T, reference: T) -> Result<(), String> {
     if library == reference {
         return Ok(());
     }
     Err(format!(
-        "{what}: library {library:02X?}, reference {reference:02X?}"
+        "{what} (hex): expected {reference:02X?}, came {library:02X?}"
     ))
 }
 
-fn answers(library: ffi::Answer, room: &[u32], reference: Answer) -> Result<Answer, String> {
-    equal("refusal", library.refusal, reference.refusal)?;
-    equal("written", library.written, reference.output.len())?;
-    equal("record", library.decoder, reference.record)?;
-    let written = reference.output.len();
-    equal("scalars", &room[..written], &reference.output[..])?;
+/// Compares what a call wrote to the front of its room, and what stood behind it.
+fn rooms<T: PartialEq + Debug + Copy>(
+    what: &str,
+    room: &[T],
+    written: usize,
+    reference: &[T],
+    before: fn(usize) -> T,
+) -> Result<(), String> {
+    equal(what, &room[..written.min(room.len())], reference)?;
+    numbers("written", written, reference.len())?;
     for (place, &cell) in room.iter().enumerate().skip(written) {
-        if cell != cell_before(place) {
-            return Err(format!("cell {place} of the room is altered to {cell:X}"));
+        if cell != before(place) {
+            return Err(format!(
+                "place {place} of the room, behind the {what}, is altered to {cell:02X?}"
+            ));
         }
     }
+    Ok(())
+}
+
+fn answers(library: ffi::Answer, room: &[u32], reference: Answer) -> Result<Answer, String> {
+    numbers("refusal", library.refusal.into(), reference.refusal.into())?;
+    rooms(
+        "scalars",
+        room,
+        library.written,
+        &reference.output,
+        cell_before,
+    )?;
+    equal("record", library.decoder, reference.record)?;
     Ok(reference)
 }
 
 pub fn open(encoding: u8, mode: u8, rule: u8) -> Result<Answer, String> {
     let library = unsafe { ffi::hamvukile_open(encoding, mode, rule) };
     answers(library, &[], reference::open(encoding, mode, rule))
+        .map_err(|error| format!("open {encoding} mode {mode} rule {rule}: {error}"))
 }
 
 pub fn feed(record: Record, chunk: &[u8], tables: Tables, room: usize) -> Result<Answer, String> {
@@ -99,16 +126,15 @@ pub fn encode(
         )
     };
     let reference = reference::encode(encoding, mode, scalars, tables, room);
-    equal("refusal", library.refusal, reference.refusal)?;
-    equal("written", library.written, reference.output.len())?;
-    equal("index", library.index, reference.index)?;
-    let written = reference.output.len();
-    equal("bytes", &cells[..written], &reference.output[..])?;
-    for (place, &cell) in cells.iter().enumerate().skip(written) {
-        if cell != byte_before(place) {
-            return Err(format!("byte {place} of the room is altered to {cell:02X}"));
-        }
-    }
+    numbers("refusal", library.refusal.into(), reference.refusal.into())?;
+    rooms(
+        "bytes",
+        &cells,
+        library.written,
+        &reference.output,
+        byte_before,
+    )?;
+    numbers("index", library.index, reference.index)?;
     Ok(reference)
 }
 
@@ -117,15 +143,14 @@ pub fn index_line(line: &[u8], table: &mut Vec<u32>) -> Result<reference::Entere
     let library = unsafe {
         ffi::hamvukile_index_line(line.as_ptr(), line.len(), table.as_mut_ptr(), table.len())
     };
-    let library = reference::Entered {
-        refusal: library.refusal,
-        entry: library.entry,
-        pointer: library.pointer,
-    };
     let reference = reference::index_line(line, &mut filled);
-    equal("line", &library, &reference)?;
-    if *table != filled {
-        return Err("the tables differ".to_string());
-    }
+    numbers("refusal", library.refusal.into(), reference.refusal.into())?;
+    numbers("entry", library.entry.into(), reference.entry.into())?;
+    numbers(
+        "pointer",
+        library.pointer as usize,
+        reference.pointer as usize,
+    )?;
+    equal("table", &*table, &filled)?;
     Ok(reference)
 }

@@ -62,6 +62,16 @@ fn parse(index: &str) -> Result<Vec<(u32, u32)>, String> {
     Ok(pairs)
 }
 
+/// Sets the reference's index of windows-1252.
+pub fn read_windows_1252() -> Result<(), String> {
+    let mut index = vec![0; 128];
+    for (pointer, code_point) in parse("windows-1252")? {
+        index[pointer as usize] = code_point;
+    }
+    WINDOWS_1252.get_or_init(|| index);
+    Ok(())
+}
+
 /// The tables of every encoding.
 pub struct Published {
     tables: Vec<(Vec<u32>, Vec<u32>)>,
@@ -70,11 +80,7 @@ pub struct Published {
 
 impl Published {
     pub fn read() -> Result<Published, String> {
-        let mut windows_1252 = vec![0; 128];
-        for (pointer, code_point) in parse("windows-1252")? {
-            windows_1252[pointer as usize] = code_point;
-        }
-        WINDOWS_1252.get_or_init(|| windows_1252);
+        read_windows_1252()?;
         let mut entries = 0;
         let mut tables = Vec::new();
         for encoding in 0..40u8 {

@@ -2,6 +2,7 @@
 
 use crate::compare;
 use crate::data::{name, Published};
+use crate::differences::{smallest_case, Differences};
 use crate::ffi::Decoder as Record;
 use crate::reference::{is_scalar, Tables};
 
@@ -48,76 +49,136 @@ fn fed(record: Record, chunk: &[u8], tables: Tables) -> Result<Record, String> {
     Ok(compare::feed(record, chunk, tables, room)?.record)
 }
 
+/// The record after a chunk; a finish behind the chunk is compared too.
+fn fed_and_finished(record: Record, chunk: &[u8], tables: Tables) -> Result<Record, String> {
+    let after = fed(record, chunk, tables)?;
+    compare::finish(after, after.held.into()).map_err(|error| format!("at the finish, {error}"))?;
+    Ok(after)
+}
+
+/// An encoding, a mode and a rule for the byte order mark.
+#[derive(Clone, Copy)]
+struct Setting {
+    encoding: u8,
+    mode: u8,
+    rule: u8,
+}
+
+impl Setting {
+    fn case(&self, text: &[u8], error: &str) -> String {
+        let name = name(self.encoding);
+        format!(
+            "{name}, mode {}, rule {}, {text:02X?}: {error}",
+            self.mode, self.rule
+        )
+    }
+}
+
 /// The pairs after one front: the second byte in the same chunk and in the next one.
 struct Pairs<'a> {
-    start: Record,
+    setting: Setting,
+    front: &'static [u8],
     tables: Tables<'a>,
-    chunk: Vec<u8>,
     bytes: usize,
     pairs: usize,
+    differences: &'a mut Differences,
 }
 
 impl Pairs<'_> {
-    fn ended(&self, record: Record) -> Result<(), String> {
-        compare::finish(record, record.held.into()).map(|_| ())
+    fn differ(&mut self, chunk: &[u8], error: &str) {
+        let text = [self.front, chunk].concat();
+        self.differences.add(text.len(), || {
+            let cut = format!("cut behind byte {}: {error}", self.front.len());
+            self.setting
+                .case(&text, if self.front.is_empty() { error } else { &cut })
+        });
     }
 
     fn walk(&mut self) -> Result<(), String> {
+        let Setting {
+            encoding,
+            mode,
+            rule,
+        } = self.setting;
+        let open = compare::open(encoding, mode, rule)?.record;
+        let start = match fed_and_finished(open, self.front, self.tables) {
+            Ok(record) => record,
+            Err(error) => {
+                self.differences
+                    .add(self.front.len(), || self.setting.case(self.front, &error));
+                return Ok(());
+            }
+        };
         for one in 0..=255u8 {
-            self.chunk = vec![one];
-            let middle = fed(self.start, &self.chunk, self.tables)?;
-            self.ended(middle)?;
             self.bytes += 1;
-            for two in 0..=255u8 {
-                self.chunk = vec![one, two];
-                let end = fed(self.start, &self.chunk, self.tables)?;
-                self.ended(end)?;
-                if fed(middle, &[two], self.tables)? != end {
-                    return Err("cut, another record".to_string());
-                }
-                self.pairs += 1;
+            match fed_and_finished(start, &[one], self.tables) {
+                Ok(middle) => self.pairs_of(start, middle, one),
+                Err(error) => self.differ(&[one], &error),
             }
         }
         Ok(())
     }
+
+    fn pairs_of(&mut self, start: Record, middle: Record, one: u8) {
+        for two in 0..=255u8 {
+            self.pairs += 1;
+            let whole = fed_and_finished(start, &[one, two], self.tables);
+            let cut = fed(middle, &[two], self.tables);
+            match (whole, cut) {
+                (Ok(whole), Ok(cut)) if whole == cut => {}
+                (Ok(whole), Ok(cut)) => {
+                    let error =
+                        format!("cut before the last byte, record {cut:02X?}, not {whole:02X?}");
+                    self.differ(&[one, two], &error);
+                }
+                (Err(error), _) => self.differ(&[one, two], &error),
+                (_, Err(error)) => {
+                    self.differ(&[one, two], &format!("cut before the last byte, {error}"))
+                }
+            }
+        }
+    }
 }
 
-/// Every encoding, mode and rule for the byte order mark where it has one.
-fn settings() -> Vec<(u8, u8, u8)> {
+/// Every encoding and mode, and both rules where the encoding has a byte order mark.
+fn settings() -> Vec<Setting> {
     let mut settings = Vec::new();
     for encoding in 0..40 {
+        let rules = if matches!(encoding, 0 | 37 | 38) {
+            2
+        } else {
+            1
+        };
         for mode in 0..2 {
-            settings.push((encoding, mode, 0));
-            if matches!(encoding, 0 | 37 | 38) {
-                settings.push((encoding, mode, 1));
-            }
+            settings.extend((0..rules).map(|rule| Setting {
+                encoding,
+                mode,
+                rule,
+            }));
         }
     }
     settings
 }
 
 pub fn pairs(published: &Published) -> Result<String, String> {
+    let mut differences = Differences::default();
     let (mut bytes, mut pairs) = (0, 0);
-    for (encoding, mode, rule) in settings() {
-        let tables = published.tables(encoding);
-        for front in fronts(encoding) {
-            let open = compare::open(encoding, mode, rule)?.record;
+    for setting in settings() {
+        for front in fronts(setting.encoding) {
             let mut walk = Pairs {
-                start: fed(open, front, tables)?,
-                tables,
-                chunk: Vec::new(),
+                setting,
+                front,
+                tables: published.tables(setting.encoding),
                 bytes: 0,
                 pairs: 0,
+                differences: &mut differences,
             };
-            walk.walk().map_err(|error| {
-                let (name, chunk) = (name(encoding), &walk.chunk);
-                format!("{name}, mode {mode}, rule {rule}, {front:02X?} then {chunk:02X?}: {error}")
-            })?;
+            walk.walk()?;
             bytes += walk.bytes;
             pairs += walk.pairs;
         }
     }
-    Ok(format!(
+    differences.result(format!(
         "{bytes} single bytes and {pairs} pairs, whole and cut, in all encodings, modes and states"
     ))
 }
@@ -150,56 +211,65 @@ fn longest(encoding: u8) -> usize {
 }
 
 struct Texts<'a> {
-    encoding: u8,
+    setting: Setting,
     start: Record,
     tables: Tables<'a>,
     text: Vec<u8>,
     compared: usize,
+    differences: &'a mut Differences,
 }
 
 impl Texts<'_> {
-    /// All texts that go on from here: byte by byte, in one chunk, and with a finish.
-    fn walk(&mut self, record: Record) -> Result<(), String> {
-        if self.text.len() == longest(self.encoding) {
-            return Ok(());
+    /// All texts that go on from here: byte by byte, in one chunk, and with a finish. Behind a difference no longer
+    /// text is tried.
+    fn walk(&mut self, record: Record) {
+        if self.text.len() == longest(self.setting.encoding) {
+            return;
         }
-        for &byte in alphabet(self.encoding) {
-            let after = fed(record, &[byte], self.tables)?;
+        for &byte in alphabet(self.setting.encoding) {
             self.text.push(byte);
-            compare::finish(after, after.held.into())?;
-            if fed(self.start, &self.text, self.tables)? != after {
-                return Err("cut, another record".to_string());
-            }
             self.compared += 1;
-            if after.ended == 0 {
-                self.walk(after)?;
+            match self.compare(record, byte) {
+                Ok(after) if after.ended == 0 => self.walk(after),
+                Ok(_) => {}
+                Err(error) => self
+                    .differences
+                    .add(self.text.len(), || self.setting.case(&self.text, &error)),
             }
             self.text.pop();
         }
-        Ok(())
+    }
+
+    fn compare(&self, record: Record, byte: u8) -> Result<Record, String> {
+        let whole = fed(self.start, &self.text, self.tables)?;
+        let after = fed_and_finished(record, &[byte], self.tables)
+            .map_err(|error| format!("byte by byte, {error}"))?;
+        if whole != after {
+            return Err(format!(
+                "byte by byte, record {after:02X?}, not {whole:02X?}"
+            ));
+        }
+        Ok(after)
     }
 }
 
 pub fn texts(published: &Published) -> Result<String, String> {
+    let mut differences = Differences::default();
     let mut compared = 0;
-    for encoding in 0..40u8 {
-        for mode in 0..2 {
-            let start = compare::open(encoding, mode, 0)?.record;
-            let mut texts = Texts {
-                encoding,
-                start,
-                tables: published.tables(encoding),
-                text: Vec::new(),
-                compared: 0,
-            };
-            texts.walk(start).map_err(|error| {
-                let (name, text) = (name(encoding), &texts.text);
-                format!("{name}, mode {mode}, {text:02X?}: {error}")
-            })?;
-            compared += texts.compared;
-        }
+    for setting in settings().into_iter().filter(|setting| setting.rule == 0) {
+        let start = compare::open(setting.encoding, setting.mode, setting.rule)?.record;
+        let mut texts = Texts {
+            setting,
+            start,
+            tables: published.tables(setting.encoding),
+            text: Vec::new(),
+            compared: 0,
+            differences: &mut differences,
+        };
+        texts.walk(start);
+        compared += texts.compared;
     }
-    Ok(format!(
+    differences.result(format!(
         "{compared} short texts over few bytes, whole and byte by byte"
     ))
 }
@@ -214,43 +284,43 @@ const HELD: &[u8] =
 struct Records {
     forged: usize,
     left: usize,
+    differences: Differences,
 }
 
 impl Records {
-    fn compare(&mut self, record: Record) -> Result<(), String> {
-        let answer =
-            compare::finish(record, 3).map_err(|error| format!("{record:02X?}: {error}"))?;
-        match answer.refusal {
-            5 => self.forged += 1,
-            _ => self.left += 1,
+    fn compare(&mut self, record: Record) {
+        match compare::finish(record, 3) {
+            Ok(answer) if answer.refusal == 5 => self.forged += 1,
+            Ok(_) => self.left += 1,
+            Err(error) => self.differences.add(record.held.into(), || {
+                format!("finish {record:02X?}, room 3: {error}")
+            }),
         }
-        Ok(())
     }
 
     /// One byte in each place, with any number of bytes held.
-    fn one_byte(&mut self, record: Record) -> Result<(), String> {
+    fn one_byte(&mut self, record: Record) {
         for held in 0..5 {
             for &byte in HELD {
                 let record = Record { held, ..record };
                 self.compare(Record {
                     first: byte,
                     ..record
-                })?;
+                });
                 self.compare(Record {
                     second: byte,
                     ..record
-                })?;
+                });
                 self.compare(Record {
                     third: byte,
                     ..record
-                })?;
+                });
             }
         }
-        Ok(())
     }
 
     /// Every byte and pair of bytes held, and three from a choice.
-    fn all_held(&mut self, record: Record) -> Result<(), String> {
+    fn all_held(&mut self, record: Record) {
         let with = |held, first, second, third| Record {
             held,
             first,
@@ -259,19 +329,18 @@ impl Records {
             ..record
         };
         for first in 0..=255 {
-            self.compare(with(1, first, 0, 0))?;
+            self.compare(with(1, first, 0, 0));
             for second in 0..=255 {
-                self.compare(with(2, first, second, 0))?;
+                self.compare(with(2, first, second, 0));
             }
         }
         for &first in HELD {
             for &second in HELD {
                 for &third in HELD {
-                    self.compare(with(3, first, second, third))?;
+                    self.compare(with(3, first, second, third));
                 }
             }
         }
-        Ok(())
     }
 }
 
@@ -290,14 +359,14 @@ pub fn records() -> Result<String, String> {
                 ended: number / 45,
                 ..Record::default()
             };
-            records.one_byte(record)?;
+            records.one_byte(record);
             let states = if encoding == 33 { 4 } else { 1 };
             if record.mode < 2 && record.state < states && record.flag < 2 && record.ended == 0 {
-                records.all_held(record)?;
+                records.all_held(record);
             }
         }
     }
-    Ok(format!(
+    records.differences.result(format!(
         "{} records that no calls leave, {} that calls leave",
         records.forged, records.left
     ))
@@ -307,6 +376,13 @@ pub fn four_bytes(published: &Published) -> Result<String, String> {
     let mut sequences = 0;
     for encoding in [29, 30] {
         let tables = published.tables(encoding);
+        let setting = Setting {
+            encoding,
+            mode: 0,
+            rule: 0,
+        };
+        let start = compare::open(encoding, 0, 0)?.record;
+        let read = |text: &[u8]| compare::feed(start, text, tables, text.len());
         for first in 0x81..=0xFEu8 {
             let mut chunk = Vec::new();
             for second in 0x30..=0x39u8 {
@@ -316,18 +392,44 @@ pub fn four_bytes(published: &Published) -> Result<String, String> {
                     }
                 }
             }
-            let start = compare::open(encoding, 0, 0)?.record;
-            let answer = compare::feed(start, &chunk, tables, chunk.len())
-                .map_err(|error| format!("{} from {first:02X}: {error}", name(encoding)))?;
-            if answer.output.len() != chunk.len() / 4 {
-                return Err(format!("{} from {first:02X}: a sequence", name(encoding)));
+            let answer = read(&chunk).map_err(|_| {
+                let (text, error) = smallest_case(&chunk, read);
+                let case = setting.case(&text, &error);
+                format!("no byte can be left out of\n  {case}")
+            })?;
+            let expected = chunk.len() / 4;
+            let came = answer.output.len();
+            if came != expected {
+                let name = name(encoding);
+                return Err(format!(
+                    "{name}, all from {first:02X}: expected {expected} scalars, came {came}"
+                ));
             }
-            sequences += answer.output.len();
+            sequences += came;
         }
     }
     Ok(format!(
         "{sequences} four-byte sequences of GBK and gb18030"
     ))
+}
+
+/// Writes scalars in refusing mode and reads them back; false where one of them cannot be written.
+fn round_trip(encoding: u8, scalars: &[u32], tables: Tables) -> Result<bool, String> {
+    let written = compare::encode(encoding, 1, scalars, tables, 4 * scalars.len())?;
+    if written.refusal == 11 {
+        return Ok(false);
+    }
+    let bytes = written.output;
+    let start = compare::open(encoding, 0, 1)?.record;
+    let read = compare::feed(start, &bytes, tables, bytes.len())
+        .map_err(|error| format!("read back, {error}"))?
+        .output;
+    if read != scalars {
+        return Err(format!(
+            "read back: expected {scalars:04X?}, came {read:04X?}"
+        ));
+    }
+    Ok(true)
 }
 
 /// Every scalar through every writer; what refusing mode writes is read back.
@@ -336,26 +438,22 @@ pub fn scalars(published: &Published) -> Result<String, String> {
     let (mut html, mut refusing, mut read_back) = (0, 0, 0);
     for encoding in (0..=28).chain([39u8]) {
         let tables = published.tables(encoding);
+        let write_html = |list: &[u32]| compare::encode(encoding, 0, list, tables, 10 * list.len());
+        let write_and_read = |list: &[u32]| round_trip(encoding, list, tables);
+        let case = |mode: u8, (list, error): (Vec<u32>, String)| {
+            let name = name(encoding);
+            format!("no scalar can be left out of\n  {name}, mode {mode}, {list:04X?}: {error}")
+        };
         for part in all.chunks(16384) {
-            let case = |error| format!("{} from {:X}: {error}", name(encoding), part[0]);
-            compare::encode(encoding, 0, part, tables, 10 * part.len()).map_err(case)?;
+            write_html(part).map_err(|_| case(0, smallest_case(part, write_html)))?;
             html += part.len();
             // All are written in UTF-8; in the others most are errors, and each call takes one.
             let size = if encoding == 0 { part.len() } else { 1 };
             for list in part.chunks(size) {
-                let case = |error| format!("{} from {:X}: {error}", name(encoding), list[0]);
-                let answer = compare::encode(encoding, 1, list, tables, 4 * size).map_err(case)?;
+                let written = write_and_read(list)
+                    .map_err(|_| case(1, smallest_case(list, write_and_read)))?;
                 refusing += list.len();
-                if answer.refusal == 11 {
-                    continue;
-                }
-                let start = compare::open(encoding, 0, 1)?.record;
-                let room = answer.output.len();
-                let back = compare::feed(start, &answer.output, tables, room).map_err(case)?;
-                if back.output != list {
-                    return Err(case("read back as other scalars".to_string()));
-                }
-                read_back += list.len();
+                read_back += if written { list.len() } else { 0 };
             }
         }
     }

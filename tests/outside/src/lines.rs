@@ -1,6 +1,7 @@
 //! Index lines beside the reference.
 
 use crate::compare;
+use crate::differences::smallest_case;
 use crate::random::Random;
 
 const PIECES: &[&[u8]] = &[
@@ -78,10 +79,14 @@ pub fn lines(seed: u64) -> Result<String, String> {
     let number = 100_000;
     for _ in 0..number {
         let cells = [0, 0, 0, 0x41, 0x80, 0xFFFFFFFF];
-        let mut table: Vec<u32> = (0..random.below(12)).map(|_| random.pick(&cells)).collect();
+        let table: Vec<u32> = (0..random.below(12)).map(|_| random.pick(&cells)).collect();
         let line = line(&mut random);
-        let answer = compare::index_line(&line, &mut table)
-            .map_err(|error| format!("seed {seed}, line {line:02X?}: {error}"))?;
+        let answer = compare::index_line(&line, &mut table.clone()).map_err(|_| {
+            let compare = |line: &[u8]| compare::index_line(line, &mut table.clone());
+            let (line, error) = smallest_case(&line, compare);
+            let shown = String::from_utf8_lossy(&line);
+            format!("seed {seed}; no byte can be left out of\n  line {line:02X?} {shown:?}, table {table:X?}: {error}")
+        })?;
         refusals[usize::from(answer.refusal)] += 1;
     }
     Ok(format!(

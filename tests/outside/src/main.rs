@@ -1,17 +1,26 @@
 //! Compares the library with the published tests of the Encoding Standard and with a second implementation.
 //!
-//! Arguments: the number of random calls (1000000 where none is given) and their seed (1).
+//! Arguments, each with its default where it may be left out:
+//!
+//! - `[NUMBER [SEED]]`: every comparison; the number of random calls (1000000) and their seed (1).
+//! - `random [NUMBER [SEED]]`: the random calls and random index lines alone.
+//! - `showtext PROGRAM [SEED]`: the program `showtext` beside the reference; the seed of its random inputs (1).
 
 mod compare;
 mod data;
+mod differences;
 mod exhaustive;
 #[path = "../../../bindings/rust/src/ffi.rs"]
 mod ffi;
+mod labels;
 mod lines;
+mod long;
 mod order;
+mod program;
 mod published;
 mod random;
 mod reference;
+mod showtext;
 
 use std::process::ExitCode;
 use std::time::Instant;
@@ -28,41 +37,87 @@ fn show(what: &str, part: impl FnOnce() -> Result<String, String>) -> Result<(),
 }
 
 fn compare_all(number: usize, seed: u64) -> Result<(), String> {
-    println!("{number} random calls, seed {seed}");
+    let labels = labels::Labels::read()?;
+    show("labels", || published::labels(&labels))?;
+    show("names", || published::names(&labels))?;
     let tables = data::Published::read()?;
     println!("indexes: {} entries by their lines", tables.entries);
-    show("labels", published::labels)?;
-    show("names", published::names)?;
     show("decode", || published::decodings(&tables))?;
     show("characters", || published::characters(&tables))?;
     show("encode", || published::encodings(&tables))?;
+    show("Shift_JIS", || published::shift_jis(&tables))?;
     show("order of refusals", || order::refusals(&tables))?;
-    show("random calls", || random::calls(&tables, number, seed))?;
-    show("index lines", || lines::lines(seed))?;
     show("records", exhaustive::records)?;
+    show("bytes and pairs", || exhaustive::pairs(&tables))?;
     show("short texts", || exhaustive::texts(&tables))?;
     show("four bytes", || exhaustive::four_bytes(&tables))?;
-    show("bytes and pairs", || exhaustive::pairs(&tables))?;
-    show("writers", || exhaustive::scalars(&tables))
+    show("writers", || exhaustive::scalars(&tables))?;
+    compare_random(&tables, number, seed)
+}
+
+fn compare_random(tables: &data::Published, number: usize, seed: u64) -> Result<(), String> {
+    show("long texts", || long::texts(tables, seed))?;
+    show("random calls", || random::calls(tables, number, seed))?;
+    show("random index lines", || lines::lines(seed))
+}
+
+fn compare_showtext(program: &str, seed: u64) -> Result<(), String> {
+    data::read_windows_1252()?;
+    let showtext = showtext::Showtext::new(program)?;
+    show("showtext, document 01's example", || showtext.example())?;
+    show("showtext, encodings", || showtext.encodings())?;
+    show("showtext, refusals", || showtext.refusals())?;
+    show("showtext, input cut by the pipe", || showtext.cuts())?;
+    show("showtext, ends of buffers", || showtext.buffers())?;
+    show("showtext, random inputs", || showtext.random(500, seed))?;
+    show("showtext, long input", || showtext.long_input(seed))
+}
+
+fn numbers(arguments: &[String]) -> Option<(usize, u64)> {
+    let (number, seed) = match arguments {
+        [] => return Some((1_000_000, 1)),
+        [number] => (number, None),
+        [number, seed] => (number, Some(seed)),
+        _ => return None,
+    };
+    let seed = seed.map_or(Ok(1), |seed| seed.parse());
+    Some((number.parse().ok()?, seed.ok()?))
+}
+
+/// The comparison that the arguments ask for.
+fn run(arguments: &[String]) -> Option<Result<(), String>> {
+    match arguments {
+        [mode, rest @ ..] if mode == "random" => {
+            let (number, seed) = numbers(rest)?;
+            Some(data::Published::read().and_then(|tables| compare_random(&tables, number, seed)))
+        }
+        [mode, program] if mode == "showtext" => Some(compare_showtext(program, 1)),
+        [mode, program, seed] if mode == "showtext" => {
+            Some(compare_showtext(program, seed.parse().ok()?))
+        }
+        rest => {
+            let (number, seed) = numbers(rest)?;
+            Some(compare_all(number, seed))
+        }
+    }
 }
 
 fn main() -> ExitCode {
-    let mut arguments = std::env::args()
-        .skip(1)
-        .map(|argument| argument.parse::<u64>());
-    let mut argument = |default| arguments.next().unwrap_or(Ok(default));
-    let (Ok(number), Ok(seed)) = (argument(1_000_000), argument(1)) else {
-        eprintln!("outside: the arguments are the number of random calls and their seed");
-        return ExitCode::FAILURE;
-    };
-    match compare_all(number as usize, seed) {
-        Ok(()) => {
+    let arguments: Vec<String> = std::env::args().skip(1).collect();
+    match run(&arguments) {
+        Some(Ok(())) => {
             println!("outside: no difference");
             ExitCode::SUCCESS
         }
-        Err(error) => {
-            eprintln!("outside: DIFFERENCE in {error}");
+        Some(Err(error)) => {
+            eprintln!("outside: FAILED: {error}");
             ExitCode::FAILURE
+        }
+        None => {
+            eprintln!(
+                "usage: outside [NUMBER [SEED]] | random [NUMBER [SEED]] | showtext PROGRAM [SEED]"
+            );
+            ExitCode::from(2)
         }
     }
 }

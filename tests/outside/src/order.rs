@@ -2,6 +2,7 @@
 
 use crate::compare;
 use crate::data::Published;
+use crate::differences::Differences;
 use crate::ffi::Decoder as Record;
 use crate::reference::Tables;
 
@@ -13,14 +14,27 @@ fn causes(order: &[u8], set: usize) -> Vec<u8> {
         .collect()
 }
 
-fn expect(what: &str, encoding: u8, causes: &[u8], refusal: u8) -> Result<(), String> {
-    let wanted = causes.first().copied().unwrap_or(0);
-    if refusal == wanted {
-        return Ok(());
+/// Calls with causes for refusals; the smallest difference is that with the fewest causes.
+#[derive(Default)]
+struct Calls {
+    compared: usize,
+    differences: Differences,
+}
+
+impl Calls {
+    /// Compares the refusal with the first of the causes.
+    fn expect(&mut self, causes: &[u8], call: String, answer: Result<u8, String>) {
+        let expected = causes.first().copied().unwrap_or(0);
+        self.compared += 1;
+        let error = match answer {
+            Ok(refusal) if refusal == expected => return,
+            Ok(refusal) => format!("refusal: expected {expected}, came {refusal}"),
+            Err(error) => error,
+        };
+        self.differences.add(causes.len(), || {
+            format!("{call}, causes {causes:?}: {error}")
+        });
     }
-    Err(format!(
-        "{what}, encoding {encoding}, causes {causes:?}: refusal {refusal}, not {wanted}"
-    ))
 }
 
 /// Bytes that are an error in every encoding that has errors, with tables of zeros.
@@ -66,9 +80,8 @@ fn zeros(published: &Published, encoding: u8, causes: &[u8], which: usize) -> (V
     (first, second)
 }
 
-fn feeds(published: &Published) -> Result<usize, String> {
+fn feeds(published: &Published, calls: &mut Calls) -> Result<(), String> {
     let order = [5, 6, 4, 8, 7, 11];
-    let mut calls = 0;
     for encoding in 0..40 {
         for set in 0..1 << order.len() {
             let causes = causes(&order, set);
@@ -98,19 +111,22 @@ fn feeds(published: &Published) -> Result<usize, String> {
                     first: &first,
                     second: &second,
                 };
-                let answer = compare::feed(record, &chunk, tables, room)
-                    .map_err(|error| format!("feed, {encoding}, {causes:?}: {error}"))?;
-                expect("feed", encoding, &causes, answer.refusal)?;
-                calls += 1;
+                let call = format!(
+                    "feed {record:02X?}, {} bytes, tables of {} and {} cells, room {room}",
+                    chunk.len(),
+                    first.len(),
+                    second.len()
+                );
+                let answer = compare::feed(record, &chunk, tables, room);
+                calls.expect(&causes, call, answer.map(|answer| answer.refusal));
             }
         }
     }
-    Ok(calls)
+    Ok(())
 }
 
-fn finishes(published: &Published) -> Result<usize, String> {
+fn finishes(published: &Published, calls: &mut Calls) -> Result<(), String> {
     let order = [5, 6, 7, 11];
-    let mut calls = 0;
     for encoding in 0..40 {
         for set in 0..1 << order.len() {
             let causes = causes(&order, set);
@@ -131,21 +147,18 @@ fn finishes(published: &Published) -> Result<usize, String> {
                 record.third = 1;
             }
             let room = held - usize::from(causes.contains(&7));
-            let answer = compare::finish(record, room)
-                .map_err(|error| format!("finish, {encoding}, {causes:?}: {error}"))?;
-            expect("finish", encoding, &causes, answer.refusal)?;
-            calls += 1;
+            let call = format!("finish {record:02X?}, room {room}");
+            let answer = compare::finish(record, room);
+            calls.expect(&causes, call, answer.map(|answer| answer.refusal));
         }
     }
-    Ok(calls)
+    Ok(())
 }
 
-fn opens() -> Result<usize, String> {
-    let mut calls = 0;
+fn opens(calls: &mut Calls) {
     for encoding in 0..=255 {
         for mode in [0, 1, 2, 255] {
             for rule in [0, 1, 2, 255] {
-                let answer = compare::open(encoding, mode, rule)?;
                 let mut causes = Vec::new();
                 if encoding > 39 {
                     causes.push(2);
@@ -153,17 +166,16 @@ fn opens() -> Result<usize, String> {
                 if mode > 1 || rule > 1 {
                     causes.push(3);
                 }
-                expect("open", encoding, &causes, answer.refusal)?;
-                calls += 1;
+                let call = format!("open {encoding} mode {mode} rule {rule}");
+                let answer = compare::open(encoding, mode, rule);
+                calls.expect(&causes, call, answer.map(|answer| answer.refusal));
             }
         }
     }
-    Ok(calls)
 }
 
-fn encodes(published: &Published) -> Result<usize, String> {
+fn encodes(published: &Published, calls: &mut Calls) {
     let order = [2, 3, 9, 4, 8, 10, 7, 11];
-    let mut calls = 0;
     for encoding in (0..=40).chain([255]) {
         for set in 0..1 << order.len() {
             let causes = causes(&order, set);
@@ -199,25 +211,30 @@ fn encodes(published: &Published) -> Result<usize, String> {
                     first: &first,
                     second: &second,
                 };
-                let answer = compare::encode(encoding, mode, &scalars, tables, room)
-                    .map_err(|error| format!("encode, {encoding}, {causes:?}: {error}"))?;
-                expect("encode", encoding, &causes, answer.refusal)?;
-                calls += 1;
+                let call = format!(
+                    "encode {encoding} mode {mode}, {} numbers, tables of {} and {} cells, room {room}",
+                    scalars.len(),
+                    first.len(),
+                    second.len()
+                );
+                let answer = compare::encode(encoding, mode, &scalars, tables, room);
+                calls.expect(&causes, call, answer.map(|answer| answer.refusal));
             }
         }
     }
-    Ok(calls)
 }
 
 pub fn refusals(published: &Published) -> Result<String, String> {
-    let calls = [
-        opens()?,
-        feeds(published)?,
-        finishes(published)?,
-        encodes(published)?,
-    ];
-    Ok(format!(
-        "{} openings, {} feeds, {} finishes, {} encodings with combined causes",
-        calls[0], calls[1], calls[2], calls[3]
+    let mut calls = Calls::default();
+    opens(&mut calls);
+    let opens = calls.compared;
+    feeds(published, &mut calls)?;
+    let feeds = calls.compared - opens;
+    finishes(published, &mut calls)?;
+    let finishes = calls.compared - opens - feeds;
+    encodes(published, &mut calls);
+    let encodes = calls.compared - opens - feeds - finishes;
+    calls.differences.result(format!(
+        "{opens} openings, {feeds} feeds, {finishes} finishes, {encodes} encodings with combined causes"
     ))
 }

@@ -2,6 +2,7 @@
 
 use crate::compare;
 use crate::data::Published;
+use crate::differences::smallest;
 use crate::exhaustive::alphabet;
 use crate::ffi::Decoder as Record;
 use crate::reference::{self, Answer, Tables};
@@ -185,7 +186,7 @@ impl Lent {
     }
 }
 
-const VARIANTS: usize = 6;
+pub const VARIANTS: usize = 6;
 
 pub struct Lists {
     /// By encoding and variant: published, empty, with holes, with cells at the edges, and two more of these.
@@ -248,7 +249,7 @@ impl Lists {
         }
     }
 
-    fn tables(&self, encoding: u8, variant: usize, flaw: usize) -> Tables<'_> {
+    pub fn tables(&self, encoding: u8, variant: usize, flaw: usize) -> Tables<'_> {
         self.lent[usize::from(encoding.min(39))][variant].with(flaw)
     }
 
@@ -567,43 +568,64 @@ impl Lists {
         Ok(())
     }
 
-    /// Cuts a failing list down while it still fails.
+    /// Cuts a failing list down while it still fails: no call, byte or scalar can then be left out.
     fn smallest(&self, list: &[Call]) -> Vec<Call> {
         let fails = |list: &[Call]| self.run(list, &mut Counts::default()).is_err();
         let mut list = list.to_vec();
         loop {
-            let mut smaller = Vec::new();
+            let before: usize = list.iter().map(Call::size).sum();
+            list = smallest(&list, fails);
             for place in 0..list.len() {
-                let mut without = list.clone();
-                without.remove(place);
-                smaller.push(without);
-                match &list[place] {
-                    Call::Feed { chunk, .. } => {
-                        for cut in 0..chunk.len().min(80) {
-                            let mut shorter = list.clone();
-                            if let Call::Feed { chunk, .. } = &mut shorter[place] {
-                                chunk.remove(cut);
-                            }
-                            smaller.push(shorter);
-                        }
-                    }
-                    Call::Encode { scalars, .. } => {
-                        for cut in 0..scalars.len().min(80) {
-                            let mut shorter = list.clone();
-                            if let Call::Encode { scalars, .. } = &mut shorter[place] {
-                                scalars.remove(cut);
-                            }
-                            smaller.push(shorter);
-                        }
-                    }
-                    _ => {}
-                }
+                let with = |call: Call| {
+                    let mut list = list.clone();
+                    list[place] = call;
+                    list
+                };
+                list = with(list[place].smallest(|call| fails(&with(call))));
             }
-            match smaller.into_iter().find(|smaller| fails(smaller)) {
-                Some(smaller) => list = smaller,
-                None => return list,
+            if list.iter().map(Call::size).sum::<usize>() == before {
+                return list;
             }
         }
+    }
+}
+
+impl Call {
+    /// The call, and the bytes or scalars that it is handed.
+    fn size(&self) -> usize {
+        1 + match self {
+            Call::Feed { chunk, .. } => chunk.len(),
+            Call::Encode { scalars, .. } => scalars.len(),
+            Call::Open { .. } | Call::Finish { .. } => 0,
+        }
+    }
+
+    fn smallest(&self, fails: impl Fn(Call) -> bool) -> Call {
+        let mut call = self.clone();
+        match &mut call {
+            Call::Feed { chunk, .. } => {
+                let with = |bytes: &[u8]| {
+                    let mut call = self.clone();
+                    if let Call::Feed { chunk, .. } = &mut call {
+                        *chunk = bytes.to_vec();
+                    }
+                    call
+                };
+                *chunk = smallest(chunk, |bytes| fails(with(bytes)));
+            }
+            Call::Encode { scalars, .. } => {
+                let with = |numbers: &[u32]| {
+                    let mut call = self.clone();
+                    if let Call::Encode { scalars, .. } = &mut call {
+                        *scalars = numbers.to_vec();
+                    }
+                    call
+                };
+                *scalars = smallest(scalars, |numbers| fails(with(numbers)));
+            }
+            Call::Open { .. } | Call::Finish { .. } => {}
+        }
+        call
     }
 }
 
@@ -620,7 +642,7 @@ pub fn calls(published: &Published, number: usize, seed: u64) -> Result<String, 
         let error = lists.run(&list, &mut Counts::default());
         let shown: Vec<String> = list.iter().map(|call| format!("  {call}\n")).collect();
         return Err(format!(
-            "seed {seed}, after {} calls:\n{}{}",
+            "seed {seed}, after {} calls; no call, byte or scalar can be left out of\n{}  {}",
             counts.calls,
             shown.concat(),
             error.err().unwrap_or_default()

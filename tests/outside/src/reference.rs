@@ -1012,7 +1012,6 @@ pub fn encode(encoding: u8, mode: u8, scalars: &[u32], tables: Tables, room: usi
 }
 
 /// What an index line answers; the table is filled.
-#[derive(Debug, PartialEq, Eq)]
 pub struct Entered {
     pub refusal: u8,
     pub entry: u8,

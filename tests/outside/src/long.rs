@@ -1,0 +1,138 @@
+//! Long texts beside the reference: most of their sequences are good, so that the library reads them in runs.
+
+use crate::compare;
+use crate::data::{name, Published};
+use crate::differences::smallest_case;
+use crate::exhaustive::alphabet;
+use crate::random::{Lists, Random, VARIANTS};
+use crate::reference::{self, Tables};
+
+/// Bytes that may be a sequence of the encoding.
+fn candidate(encoding: u8, random: &mut Random) -> Vec<u8> {
+    let mut between = |low: usize, high: usize| (low + random.below(high + 1 - low)) as u8;
+    match encoding {
+        0 => {
+            let scalar = match between(0, 3) {
+                0 => u32::from(between(0x80, 0xFF)),
+                1 => 0x400 + u32::from(between(0, 0x5F)),
+                2 => 0x3000 + 0x100 * u32::from(between(0, 0x7F)) + u32::from(between(0, 0xFF)),
+                _ => 0x1F600 + u32::from(between(0, 0x3F)),
+            };
+            char::from_u32(scalar).map_or(vec![], |scalar| scalar.to_string().into_bytes())
+        }
+        29 | 30 if between(0, 2) == 0 => {
+            let first = if between(0, 1) == 0 { 0x81 } else { 0x90 };
+            vec![
+                between(first, first + 3),
+                between(0x30, 0x39),
+                between(0x81, 0xFE),
+                between(0x30, 0x39),
+            ]
+        }
+        32 if between(0, 3) == 0 => vec![0x8F, between(0xA1, 0xFE), between(0xA1, 0xFE)],
+        34 if between(0, 3) == 0 => vec![between(0xA1, 0xDF)],
+        29..=32 | 34 | 35 => vec![between(0x81, 0xFE), between(0x40, 0xFE)],
+        33 if between(0, 9) == 0 => match between(0, 3) {
+            0 => b"\x1B(B".to_vec(),
+            1 => b"\x1B(J".to_vec(),
+            2 => b"\x1B(I".to_vec(),
+            _ => b"\x1B$B".to_vec(),
+        },
+        33 => vec![between(0x21, 0x7E), between(0x21, 0x7E)],
+        37 if between(0, 9) == 0 => vec![between(0xD8, 0xDB), 0x3D, between(0xDC, 0xDF), 0x00],
+        38 if between(0, 9) == 0 => vec![0x3D, between(0xD8, 0xDB), 0x00, between(0xDC, 0xDF)],
+        37 => vec![between(0, 0xD7), between(0, 0xFF)],
+        38 => vec![between(0, 0xFF), between(0, 0xD7)],
+        _ => vec![between(0x80, 0xFF)],
+    }
+}
+
+/// Does a decoder that refuses errors take the bytes and hold none?
+fn good(encoding: u8, bytes: &[u8], tables: Tables) -> bool {
+    let record = reference::open(encoding, 1, 1).record;
+    let answer = reference::feed(record, bytes, tables, bytes.len());
+    answer.refusal == 0 && answer.record.held == 0
+}
+
+/// A text of at least so many bytes: stretches of ASCII, good sequences and, where errors are wanted, other bytes.
+fn text(encoding: u8, length: usize, errors: bool, tables: Tables, random: &mut Random) -> Vec<u8> {
+    let mut bytes = Vec::new();
+    while bytes.len() < length {
+        match random.below(8) {
+            0 | 1 => {
+                for _ in 0..1 + random.below(40) {
+                    let byte = 0x20 + random.below(0x5F) as u8;
+                    match encoding {
+                        37 => bytes.extend([0, byte]),
+                        38 => bytes.extend([byte, 0]),
+                        _ => bytes.push(byte),
+                    }
+                }
+            }
+            2 if errors => bytes.push(random.pick(alphabet(encoding))),
+            _ => {
+                for _ in 0..1 + random.below(40) {
+                    let sequence = candidate(encoding, random);
+                    if errors || good(encoding, &sequence, tables) {
+                        bytes.extend(sequence);
+                    }
+                }
+            }
+        }
+    }
+    bytes
+}
+
+/// The text in one chunk or in two, and the finish.
+fn compare_text(
+    encoding: u8,
+    mode: u8,
+    tables: Tables,
+    bytes: &[u8],
+    cut: usize,
+) -> Result<(), String> {
+    let mut record = compare::open(encoding, mode, 0)?.record;
+    for chunk in [
+        &bytes[..cut.min(bytes.len())],
+        &bytes[cut.min(bytes.len())..],
+    ] {
+        let room = chunk.len() + usize::from(record.held);
+        record = compare::feed(record, chunk, tables, room)?.record;
+        if record.ended == 1 {
+            return Ok(());
+        }
+    }
+    compare::finish(record, record.held.into()).map(drop)
+}
+
+pub fn texts(published: &Published, seed: u64) -> Result<String, String> {
+    let mut random = Random(seed);
+    let lists = Lists::new(published, &mut random);
+    let (mut count, mut total) = (0, 0);
+    for encoding in 0..40 {
+        for variant in 0..VARIANTS {
+            let tables = lists.tables(encoding, variant, 0);
+            for turn in 0..8 {
+                let mode = turn % 2;
+                let length = random.pick(&[300, 600, 1500, 5000]);
+                let bytes = text(encoding, length, turn < 4, tables, &mut random);
+                let cut = if turn % 4 < 2 {
+                    0
+                } else {
+                    random.below(bytes.len())
+                };
+                let compared = |bytes: &[u8]| compare_text(encoding, mode, tables, bytes, cut);
+                if compared(&bytes).is_err() {
+                    let (bytes, error) = smallest_case(&bytes, compared);
+                    return Err(format!(
+                        "seed {seed}, {} in mode {mode} with the tables {variant}, cut at {cut}; no byte can be left out of\n  {bytes:02X?}\n  {error}",
+                        name(encoding)
+                    ));
+                }
+                count += 1;
+                total += bytes.len();
+            }
+        }
+    }
+    Ok(format!("{count} texts with {total} bytes, seed {seed}"))
+}
