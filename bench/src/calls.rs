@@ -1,0 +1,122 @@
+//! The cost of single calls: an empty feed, a label, the lines of an index file.
+
+use crate::data::{self, Indexes, ENCODINGS};
+use crate::decoders::{Decoder, Host, Ours};
+use crate::ffi;
+use crate::measure::{self, nanoseconds};
+use crate::simple::Simple;
+use crate::table::{rate, Counts};
+use std::hint::black_box;
+use std::time::Instant;
+
+fn empty<D: Decoder>(mut decoder: D, rounds: usize) -> f64 {
+    let mut room = vec![D::Unit::default(); measure::room(0)];
+    nanoseconds(rounds, || {
+        black_box(decoder.feed(black_box(&[]), &mut room));
+    })
+}
+
+/// A feed of an empty chunk.
+pub fn empty_feeds(indexes: &Indexes) -> Result<(), String> {
+    let rounds = 200;
+    println!();
+    println!("Feed of an empty chunk, in nanoseconds");
+    println!(
+        "{:<24} {:>7} {:>7} {:>7}",
+        "encoding", "ours", "simple", "iconv"
+    );
+    for encoding in ENCODINGS {
+        let tables = indexes.tables(encoding);
+        println!(
+            "{:<24} {:>7.1} {:>7.1} {:>7.1}",
+            encoding.name(),
+            empty(Ours::open(encoding, tables), rounds),
+            empty(Simple::open(encoding, tables), rounds),
+            empty(Host::open(encoding)?, rounds),
+        );
+    }
+    Ok(())
+}
+
+/// The label that takes longest, and its nanoseconds.
+fn slowest(labels: &[String], rounds: usize, refusal: u8) -> (&str, f64) {
+    let mut slowest = ("", 0.0);
+    for label in labels {
+        let found = unsafe { ffi::hamvukile_label(label.as_ptr(), label.len()) };
+        assert_eq!(found.refusal, refusal, "{label}");
+        let time = nanoseconds(rounds, || {
+            let bytes = black_box(label.as_bytes());
+            black_box(unsafe { ffi::hamvukile_label(bytes.as_ptr(), bytes.len()) });
+        });
+        if time > slowest.1 {
+            slowest = (label, time);
+        }
+    }
+    slowest
+}
+
+/// Every label, and every label with another last character.
+pub fn labels(counts: &mut Counts) -> Result<(), String> {
+    let text = data::read("vectors/labels.txt")?;
+    let fields = text.lines().filter(|line| !line.starts_with('#'));
+    let hits: Vec<String> = fields
+        .filter_map(|line| line.split('\t').nth(2))
+        .map(str::to_string)
+        .collect();
+    let misses: Vec<String> = hits
+        .iter()
+        .map(|label| format!("{}~", &label[..label.len() - 1]))
+        .collect();
+    let rounds = 10;
+    println!();
+    println!("Label look-up, in nanoseconds");
+    let (label, time) = slowest(&hits, rounds, 0);
+    println!(
+        "{:<24} {time:>7.0}   {label}",
+        format!("slowest of {} hits", hits.len())
+    );
+    let (label, time) = slowest(&misses, rounds, 1);
+    let remarks = counts.limit(time < 1000.0, "above 1000 ns");
+    println!(
+        "{:<24} {time:>7.0}   {label} {remarks}",
+        format!("slowest of {} misses", misses.len())
+    );
+    Ok(())
+}
+
+/// The lines of an index file, already cut at their line feeds, into a table of zeros.
+fn index(name: &str, length: usize, rounds: usize, counts: &mut Counts) -> Result<(), String> {
+    let text = data::read(&format!("indexes/{name}"))?;
+    let lines: Vec<&str> = text.split('\n').collect();
+    let mut least = f64::INFINITY;
+    for _ in 0..rounds.max(5) {
+        let mut table = vec![0; length];
+        table.fill(0);
+        let start = Instant::now();
+        for line in &lines {
+            let answer = unsafe {
+                ffi::hamvukile_index_line(line.as_ptr(), line.len(), table.as_mut_ptr(), length)
+            };
+            assert_eq!(answer.refusal, 0, "{line}");
+        }
+        least = least.min(start.elapsed().as_secs_f64());
+    }
+    let rate = rate(text.len(), least);
+    let remarks = counts.limit(rate >= 50.0, "below 50 MB/s");
+    println!("{name:<24} {rate:>7.0}   {remarks}");
+    Ok(())
+}
+
+pub fn indexes(rounds: usize, counts: &mut Counts) -> Result<(), String> {
+    println!();
+    println!("Index file loaded line by line, in MB/s, best round");
+    for (name, length) in [
+        ("index-jis0208.txt", 11280),
+        ("index-gb18030.txt", 23940),
+        ("index-big5.txt", 19782),
+        ("index-windows-1251.txt", 128),
+    ] {
+        index(name, length, rounds, counts)?;
+    }
+    Ok(())
+}

@@ -1,0 +1,113 @@
+//! The writer beside iconv.
+
+use crate::data::{Encoding, Indexes, Tables};
+use crate::decoders::Ours;
+use crate::ffi;
+use crate::iconv::Iconv;
+use crate::measure::{rounds, whole, Run};
+use crate::table::{ratio, row, Bar, Counts};
+use std::time::Instant;
+
+/// The most scalars that a call takes.
+pub const SCALARS: usize = 16384;
+
+/// The most bytes of a scalar: `&#1114111;`.
+const BYTES: usize = 10;
+
+fn ours(encoding: Encoding, tables: Tables, scalars: &[u32], room: &mut [u8]) -> usize {
+    let answer = unsafe {
+        ffi::hamvukile_encode(
+            encoding.number(),
+            0,
+            scalars.as_ptr(),
+            scalars.len(),
+            tables.first.as_ptr(),
+            tables.first.len(),
+            tables.second.as_ptr(),
+            tables.second.len(),
+            room.as_mut_ptr(),
+            room.len(),
+        )
+    };
+    assert_eq!(answer.refusal, 0);
+    answer.written
+}
+
+/// A timed run. Behind the clock the number of bytes and those of the last chunk are compared with what was read.
+fn writing<'a>(
+    scalars: &'a [u32],
+    expected: &'a [u8],
+    mut write: impl FnMut(&[u32], &mut [u8]) -> usize + 'a,
+) -> Run<'a> {
+    let mut room = vec![0; SCALARS * BYTES];
+    room.fill(0);
+    Box::new(move || {
+        let mut written = 0;
+        let mut last = 0;
+        let start = Instant::now();
+        for part in scalars.chunks(SCALARS) {
+            last = write(part, &mut room);
+            written += last;
+        }
+        let seconds = start.elapsed().as_secs_f64();
+        let same = written == expected.len() && expected.ends_with(&room[..last]);
+        assert!(same, "two runs of one writer differ");
+        seconds
+    })
+}
+
+/// What a writer writes for all scalars.
+fn all(scalars: &[u32], mut write: impl FnMut(&[u32], &mut [u8]) -> usize) -> Vec<u8> {
+    let mut room = vec![0; SCALARS * BYTES];
+    let mut bytes = Vec::new();
+    for part in scalars.chunks(SCALARS) {
+        let written = write(part, &mut room);
+        bytes.extend_from_slice(&room[..written]);
+    }
+    bytes
+}
+
+/// Reads bytes, and measures how fast they are written again.
+pub fn measure(
+    name: &str,
+    encoding: Encoding,
+    bytes: &[u8],
+    indexes: &Indexes,
+    number: usize,
+    counts: &mut Counts,
+) -> Result<(), String> {
+    let tables = indexes.tables(encoding);
+    let scalars = whole(Ours::open(encoding, tables), bytes, 65536);
+    let mut converter = Iconv::open("UTF-32LE", encoding.iconv())?;
+    let mut iconv = |scalars: &[u32], room: &mut [u8]| {
+        let (read, written, _) = converter.encode(scalars, room);
+        assert_eq!(read, scalars.len());
+        written
+    };
+    let mut notes = Vec::new();
+    if all(&scalars, |part, room| ours(encoding, tables, part, room)) != bytes {
+        notes.push("ours differs from the input".to_string());
+    }
+    if all(&scalars, &mut iconv) != bytes {
+        notes.push("iconv differs".to_string());
+    }
+    let differ = !notes.is_empty();
+    let measured = {
+        let mut runs = [
+            writing(&scalars, bytes, |part, room| {
+                ours(encoding, tables, part, room)
+            }),
+            writing(&scalars, bytes, &mut iconv),
+        ];
+        rounds(number, &mut runs)
+    };
+    let bar = Bar {
+        of: "iconv",
+        ratio: ratio(measured[0], measured[1]),
+        least: 1.0,
+    };
+    let remarks = counts.remarks(&[bar], &notes, differ);
+    let times = [Some(measured[0]), None, Some(measured[1]), None];
+    row(name, bytes.len(), &times, &remarks);
+    Ok(())
+}
