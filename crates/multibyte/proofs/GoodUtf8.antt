@@ -1,16 +1,17 @@
--- Whole sequences of UTF-8. Assumes nothing.
+-- Whole sequences of UTF-8, and errors of one byte. Assumes nothing.
 use mathlib.Core.Path.{_≡_, refl, _∙_}
 use mathlib.Core.Bool.{true, false}
 use mathlib.Core.List.{List, _∷_}
 use Prim.Native.Nat.{ℕ, _+_, _-_, _*_, _≤_, _<_}
 use native.Mathlib.Omega.{arith}
-use borrow.Author.Tests.{lt-ltb, le-ltb}
-use Rattle.standard.specs.Base.{_then_else_, within}
-use Rattle.standard.specs.Encodings.{family, Tables, lent}
-use Rattle.standard.specs.Sequence.{Next, more, item, plain, scalar}
+use lib.Dec.{leb}
+use borrow.Author.Tests.{lt-ltb, le-ltb, leb-true, leb-false, ne-eqb}
+use Rattle.standard.specs.Base.{within}
+use Rattle.standard.specs.Encodings.{family, lent}
+use Rattle.standard.specs.Sequence.{Next, more, item, plain, scalar, bad}
 use Rattle.standard.specs.Next.{next, unmarked}
 use Rattle.standard.specs.Sequences.Utf8.{utf8, utf8Low, utf8High}
-use Rattle.standard.proofs.Tests.{above}
+use Rattle.standard.proofs.Tests.{split, under, above}
 use Rattle.sequences.proofs.Leaves.{in-range}
 use Rattle.multibyte.proofs.Dispatch.{is-utf8}
 
@@ -27,6 +28,34 @@ module _ (b c : ℕ) (xs : List ℕ) where
       utf8 (b ∷ c ∷ d ∷ e ∷ xs) ≡ scalar 4 ((b - 0xF0) * 262144 + (c - 0x80) * 4096 + (d - 0x80) * 64 + (e - 0x80))
   unfolding utf8
   good-four d e h k i j l = rw (le-ltb b 0x80 (omega arith), above 0xC2 b 0xDF (omega arith), above 0xE0 b 0xEF (omega arith), in-range 0xF0 b 0xF4 h k, i, j, l)
+
+  -- a first byte that begins nothing, and a second one that does not follow
+  pub bad-low : 0x80 ≤ b → b < 0xC2 → utf8 (b ∷ c ∷ xs) ≡ bad 1
+  unfolding utf8
+  bad-low h k = rw (le-ltb b 0x80 h, under 0xC2 b 0xDF k, under 0xE0 b 0xEF (omega arith), under 0xF0 b 0xF4 (omega arith))
+
+  pub bad-high : 0xF4 < b → utf8 (b ∷ c ∷ xs) ≡ bad 1
+  unfolding utf8
+  bad-high h = rw (le-ltb b 0x80 (omega arith), above 0xC2 b 0xDF (omega arith), above 0xE0 b 0xEF (omega arith), above 0xF0 b 0xF4 h)
+
+  bad-two : 0xC2 ≤ b → b ≤ 0xDF → within (utf8Low b) c (utf8High b) ≡ false → utf8 (b ∷ c ∷ xs) ≡ bad 1
+  unfolding utf8 utf8Low utf8High
+  bad-two h k i =
+      let j = rw (ne-eqb b 0xE0 (λ z. omega arith), ne-eqb b 0xF0 (λ z. omega arith), ne-eqb b 0xED (λ z. omega arith), ne-eqb b 0xF4 (λ z. omega arith)) at i in
+      rw (le-ltb b 0x80 (omega arith), in-range 0xC2 b 0xDF h k, j)
+
+  bad-three : 0xE0 ≤ b → b ≤ 0xEF → within (utf8Low b) c (utf8High b) ≡ false → utf8 (b ∷ c ∷ xs) ≡ bad 1
+  unfolding utf8
+  bad-three h k i = rw (le-ltb b 0x80 (omega arith), above 0xC2 b 0xDF (omega arith), in-range 0xE0 b 0xEF h k, i)
+
+  bad-four : 0xF0 ≤ b → b ≤ 0xF4 → within (utf8Low b) c (utf8High b) ≡ false → utf8 (b ∷ c ∷ xs) ≡ bad 1
+  unfolding utf8
+  bad-four h k i = rw (le-ltb b 0x80 (omega arith), above 0xC2 b 0xDF (omega arith), above 0xE0 b 0xEF (omega arith), in-range 0xF0 b 0xF4 h k, i)
+
+  pub bad-second : 0xC2 ≤ b → b ≤ 0xF4 → within (utf8Low b) c (utf8High b) ≡ false → utf8 (b ∷ c ∷ xs) ≡ bad 1
+  bad-second h k i =
+      split (leb b 0xDF) (λ t. bad-two h (leb-true b 0xDF t) i)
+      (λ t. split (leb b 0xEF) (λ u. bad-three (leb-false b 0xDF t) (leb-true b 0xEF u) i) (λ u. bad-four (leb-false b 0xEF u) k i))
 
 -- no mark is to be dropped
 pub plain-utf8 : (t1 t2 xs : List ℕ) → next (lent t1 t2) (family 0) plain xs ≡ utf8 xs

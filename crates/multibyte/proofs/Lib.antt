@@ -1,7 +1,8 @@
 pub mod Dispatch
 pub mod Scalars
+pub mod Or
 pub mod Stretches
-pub mod GoodPairs
+pub mod Pairing
 pub mod GoodUtf8
 pub mod GbRuns
 pub mod RangeSearch

@@ -1,11 +1,11 @@
 -- A sequence that gives one scalar, by its fields. Assumes nothing.
-use mathlib.Core.Path.{_≡_, refl, subst}
+use mathlib.Core.Path.{_≡_, refl, subst, _∙_}
 use mathlib.Core.List.{[], _∷_}
 use Prim.Native.Nat.{ℕ}
 use native.Mathlib.Omega.{arith}
 use lib.Dec.{eqb}
 use borrow.Author.Tests.{ne-eqb}
-use Rattle.standard.specs.Sequence.{Shift, text, error, item, shift, plain}
+use Rattle.standard.specs.Sequence.{Shift, Next, text, error, item, shift, plain, bad}
 use Rattle.sequences.specs.Code.{nextOf}
 use Rattle.sequences.specs.declared.Sequence.{Sequence}
 use Rattle.runs.specs.Run.{Gives}
@@ -33,3 +33,11 @@ module _ (m : ℕ) (q : Sequence) (w : q .width ≡ 0 → ⊥) where
 
     pub gives-error-plain : q .count ≡ 3 → (m ≡ 1 → ⊥) → Gives m (nextOf q) (q .width) plain 0xFFFD
     gives-error-plain h n = subst (λ (x : Shift). Gives m (nextOf q) (q .width) x 0xFFFD) left-plain (gives-error h n)
+
+-- an error, which is replaced
+pub gives-bad : (m : ℕ) {a : Next} {k : ℕ} → a ≡ bad k → (m ≡ 1 → ⊥) → Gives m a k plain 0xFFFD
+gives-bad m e h = record { out = error; is = e; gives = refl; allowed = λ z o. h z }
+
+-- the same sequence by other words
+pub gives-same : {m : ℕ} {a a′ : Next} {k : ℕ} {s : Shift} {c : ℕ} → a ≡ a′ → Gives m a′ k s c → Gives m a k s c
+gives-same e g = record { out = g .out; is = e ∙ g .is; gives = g .gives; allowed = g .allowed }

@@ -16,8 +16,8 @@ use Rattle.standard.specs.Decode.{put, decode, shown, broken}
 use Rattle.standard.proofs.Tests.{split, T-true}
 use Rattle.standard.proofs.FamilyLaws.{keeps, next-laws}
 use Rattle.standard.proofs.Walk.{decode-item}
-use Rattle.runs.specs.Run.{patch, puts, Ran, Runs}
-use Rattle.multibyte.specs.Stretch.{eight, Copied}
+use Rattle.runs.specs.Run.{patch, puts, Ran}
+use Rattle.multibyte.specs.Stretch.{four, Copied}
 use Rattle.runs.proofs.Patches.{patch-sets, patch-none, patch-patch}
 use Rattle.runs.proofs.Fronts.{byte-at, four-at}
 use Rattle.runs.proofs.Running.{ran-on, Going, going-inside, going-space}
@@ -26,20 +26,34 @@ use Rattle.runs.proofs.Running.{ran-on, Going, going-inside, going-space}
 pub copied-none : (chunk : List ℕ) (from w : ℕ) (room : List ℕ) → from ≤ length chunk → Copied chunk from 0 w room room
 copied-none chunk from w room h = record { inside = omega arith; ascii = λ j l. absurd (omega arith); size = refl; wrote = patch-none room w }
 
--- one stretch after another
-pub copied-on : (chunk : List ℕ) (from j k w : ℕ) {r r′ r″ : List ℕ} → w + j ≤ length r → Copied chunk from j w r r′ → Copied chunk (from + j) k (w + j) r′ r″ → Copied chunk from (j + k) w r r″
-copied-on chunk from j k w {r} {r′} {r″} h a b =
-    let l : length (take j (drop from chunk)) ≡ j = length-take-le j (drop from chunk) (omega (arith, length-drop from chunk, a .inside)) in
+-- bytes below 80 after others
+pub low-on : (chunk : List ℕ) (from j k : ℕ) → ((i : ℕ) → i < j → getD chunk (from + i) 0 < 0x80) → ((i : ℕ) → i < k → getD chunk (from + j + i) 0 < 0x80) → (i : ℕ) → i < j + k → getD chunk (from + i) 0 < 0x80
+low-on chunk from j k a b i h =
+    split (ltb i j) (λ t. a i (ltb-true i j t))
+    (λ t. let z : from + j + (i - j) ≡ from + i = omega (arith, ltb-false i j t) in subst (λ (x : ℕ). getD chunk x 0 < 0x80) z (b (i - j) (omega (arith, ltb-false i j t))))
+
+-- bytes written after others
+pub wrote-on : (chunk : List ℕ) (from j k w : ℕ) (r : List ℕ) {r′ r″ : List ℕ} → from + j ≤ length chunk → w + j ≤ length r → r′ ≡ patch w (take j (drop from chunk)) r → r″ ≡ patch (w + j) (take k (drop (from + j) chunk)) r′ →
+    r″ ≡ patch w (take (j + k) (drop from chunk)) r
+wrote-on chunk from j k w r {r′} {r″} inside h a b =
+    let l : length (take j (drop from chunk)) ≡ j = length-take-le j (drop from chunk) (omega (arith, length-drop from chunk)) in
     let d : drop (from + j) chunk ≡ drop j (drop from chunk) = sym (drop-drop j from chunk) in
     let us = take j (drop from chunk) in
     let n : w + j ≡ w + length us = omega (arith, l) in
-    let q : patch (w + j) (take k (drop (from + j) chunk)) r′ ≡ patch (w + length us) (take k (drop j (drop from chunk))) (patch w us r) = λ i. patch (n i) (take k (d i)) (a .wrote i) in
-    record {
-      inside = omega (arith, b .inside);
-      ascii = λ i q. split (ltb i j) (λ t. a .ascii i (ltb-true i j t)) (λ t. let z : from + j + (i - j) ≡ from + i = omega (arith, ltb-false i j t) in subst (λ (x : ℕ). getD chunk x 0 < 0x80) z (b .ascii (i - j) (omega (arith, ltb-false i j t))));
-      size = b .size ∙ a .size;
-      wrote = b .wrote ∙ q ∙ patch-patch w us (take k (drop j (drop from chunk))) r (omega (arith, l)) ∙ ap (λ (cs : List ℕ). patch w cs r) (sym (take-add j k (drop from chunk)));
-    }
+    let q : patch (w + j) (take k (drop (from + j) chunk)) r′ ≡ patch (w + length us) (take k (drop j (drop from chunk))) (patch w us r) = λ i. patch (n i) (take k (d i)) (a i) in
+    b ∙ q ∙ patch-patch w us (take k (drop j (drop from chunk))) r (omega (arith, l)) ∙ ap (λ (cs : List ℕ). patch w cs r) (sym (take-add j k (drop from chunk)))
+
+pub wrote-one : (chunk : List ℕ) (at w : ℕ) (room : List ℕ) → at < length chunk → w < length room → set room w (getD chunk at 0) ≡ patch w (take 1 (drop at chunk)) room
+wrote-one chunk at w room h l = patch-sets room w (getD chunk at 0 ∷ []) (omega arith) ∙ ap (λ (cs : List ℕ). patch w cs room) (sym (ap (take 1) (byte-at chunk at h)))
+
+-- one stretch after another
+pub copied-on : (chunk : List ℕ) (from j k w : ℕ) {r r′ r″ : List ℕ} → w + j ≤ length r → Copied chunk from j w r r′ → Copied chunk (from + j) k (w + j) r′ r″ → Copied chunk from (j + k) w r r″
+copied-on chunk from j k w {r} h a b = record {
+  inside = omega (arith, b .inside);
+  ascii = low-on chunk from j k (a .ascii) (b .ascii);
+  size = b .size ∙ a .size;
+  wrote = wrote-on chunk from j k w r (a .inside) h (a .wrote) (b .wrote);
+}
 
 -- one byte
 pub copied-one : (chunk : List ℕ) (at w : ℕ) (room : List ℕ) → at < length chunk → getD chunk at 0 < 0x80 → w < length room → Copied chunk at 1 w room (set room w (getD chunk at 0))
@@ -47,25 +61,16 @@ copied-one chunk at w room h b l = record {
   inside = omega arith;
   ascii = λ j q. let z : at ≡ at + j = omega arith in subst (λ (x : ℕ). getD chunk x 0 < 0x80) z b;
   size = length-set room w (getD chunk at 0);
-  wrote = patch-sets room w (getD chunk at 0 ∷ []) (omega arith) ∙ ap (λ (cs : List ℕ). patch w cs room) (sym (ap (take 1) (byte-at chunk at h)));
+  wrote = wrote-one chunk at w room h l;
 }
 
--- eight bytes
-eight-at : (chunk : List ℕ) (at : ℕ) → at + 8 ≤ length chunk → take 8 (drop at chunk) ≡ eight chunk at
-eight-at chunk at h =
-    let n : at + 4 + 1 ≡ at + 5 = omega arith in
-    let n2 : at + 4 + 2 ≡ at + 6 = omega arith in
-    let n3 : at + 4 + 3 ≡ at + 7 = omega arith in
-    let e = four-at chunk (at + 4) (omega arith) in
-    let f = rw (n, n2, n3) at e in
-    ap (take 8) (four-at chunk at (omega arith) ∙ ap (λ (l : List ℕ). getD chunk at 0 ∷ getD chunk (at + 1) 0 ∷ getD chunk (at + 2) 0 ∷ getD chunk (at + 3) 0 ∷ l) f)
-
-pub copied-eight : (chunk : List ℕ) (at w : ℕ) (room : List ℕ) → at + 8 ≤ length chunk → ((j : ℕ) → j < 8 → getD chunk (at + j) 0 < 0x80) → w + 8 ≤ length room → Copied chunk at 8 w room (sets room w (eight chunk at))
-copied-eight chunk at w room h b l = record {
+-- four bytes
+pub copied-four : (chunk : List ℕ) (at w : ℕ) (room : List ℕ) → at + 4 ≤ length chunk → ((j : ℕ) → j < 4 → getD chunk (at + j) 0 < 0x80) → w + 4 ≤ length room → Copied chunk at 4 w room (sets room w (four chunk at))
+copied-four chunk at w room h b l = record {
   inside = h;
   ascii = b;
-  size = length-sets room w (eight chunk at);
-  wrote = patch-sets room w (eight chunk at) l ∙ ap (λ (cs : List ℕ). patch w cs room) (sym (eight-at chunk at h));
+  size = length-sets room w (four chunk at);
+  wrote = patch-sets room w (four chunk at) l ∙ ap (λ (cs : List ℕ). patch w cs room) (sym (ap (take 4) (four-at chunk at (omega arith))));
 }
 
 -- a stretch on its way
@@ -95,38 +100,28 @@ pub some-copied : (chunk : List ℕ) (from k j : ℕ) → (from + k < length chu
 some-copied chunk from zero j h l q = omega (arith, h (omega arith) (subst (λ (n : ℕ). getD chunk n 0 < 0x80) (sym (add-zero from)) q))
 some-copied chunk from (suc k) j h l q = omega arith
 
--- eight stores
-pub eight-sets : (r : List ℕ) (o a b c d e f g h : ℕ) →
-    set (set (set (set (set (set (set (set r o a) (o + 1) b) (o + 2) c) (o + 3) d) (o + 4) e) (o + 5) f) (o + 6) g) (o + 7) h ≡ sets r o (a ∷ b ∷ c ∷ d ∷ e ∷ f ∷ g ∷ h ∷ [])
-eight-sets r o a b c d e f g h =
+-- four stores
+pub four-sets : (r : List ℕ) (o a b c d : ℕ) → set (set (set (set r o a) (o + 1) b) (o + 2) c) (o + 3) d ≡ sets r o (a ∷ b ∷ c ∷ d ∷ [])
+four-sets r o a b c d =
     let p1 : o + 1 ≡ suc o = omega arith in
     let p2 : o + 2 ≡ suc (suc o) = omega arith in
     let p3 : o + 3 ≡ suc (suc (suc o)) = omega arith in
-    let p4 : o + 4 ≡ suc (suc (suc (suc o))) = omega arith in
-    let p5 : o + 5 ≡ suc (suc (suc (suc (suc o)))) = omega arith in
-    let p6 : o + 6 ≡ suc (suc (suc (suc (suc (suc o))))) = omega arith in
-    let p7 : o + 7 ≡ suc (suc (suc (suc (suc (suc (suc o)))))) = omega arith in
-    rw (p1, p2, p3, p4, p5, p6, p7)
+    rw (p1, p2, p3)
 
 pub not-false : (b : Bool) → not b ≡ false → T b
 not-false true h = tt
 not-false false h = absurd (subst T h tt)
 
--- eight tests
-below-eight : (P : ℕ → Type 0) → P 0 → P 1 → P 2 → P 3 → P 4 → P 5 → P 6 → P 7 → (j : ℕ) → j < 8 → P j
-below-eight P a b c d e f g h zero l = a
-below-eight P a b c d e f g h (suc zero) l = b
-below-eight P a b c d e f g h (suc (suc zero)) l = c
-below-eight P a b c d e f g h (suc (suc (suc zero))) l = d
-below-eight P a b c d e f g h (suc (suc (suc (suc zero)))) l = e
-below-eight P a b c d e f g h (suc (suc (suc (suc (suc zero))))) l = f
-below-eight P a b c d e f g h (suc (suc (suc (suc (suc (suc zero)))))) l = g
-below-eight P a b c d e f g h (suc (suc (suc (suc (suc (suc (suc zero))))))) l = h
-below-eight P a b c d e f g h (suc (suc (suc (suc (suc (suc (suc (suc j)))))))) l = absurd (omega arith)
+-- four tests
+below-four : (P : ℕ → Type 0) → P 0 → P 1 → P 2 → P 3 → (j : ℕ) → j < 4 → P j
+below-four P a b c d zero l = a
+below-four P a b c d (suc zero) l = b
+below-four P a b c d (suc (suc zero)) l = c
+below-four P a b c d (suc (suc (suc zero))) l = d
+below-four P a b c d (suc (suc (suc (suc j)))) l = absurd (omega arith)
 
-pub eight-low : (chunk : List ℕ) (at : ℕ) → getD chunk at 0 < 0x80 → getD chunk (at + 1) 0 < 0x80 → getD chunk (at + 2) 0 < 0x80 → getD chunk (at + 3) 0 < 0x80 → getD chunk (at + 4) 0 < 0x80 → getD chunk (at + 5) 0 < 0x80 →
-    getD chunk (at + 6) 0 < 0x80 → T (ltb (getD chunk (at + 7) 0) 0x80) → (j : ℕ) → j < 8 → getD chunk (at + j) 0 < 0x80
-eight-low chunk at a b c d e f g h = below-eight (λ j. getD chunk (at + j) 0 < 0x80) (subst (λ (n : ℕ). getD chunk n 0 < 0x80) (sym (add-zero at)) a) b c d e f g (ltb-true (getD chunk (at + 7) 0) 0x80 (T-true (ltb (getD chunk (at + 7) 0) 0x80) h))
+pub four-low : (chunk : List ℕ) (at : ℕ) → getD chunk at 0 < 0x80 → getD chunk (at + 1) 0 < 0x80 → getD chunk (at + 2) 0 < 0x80 → T (ltb (getD chunk (at + 3) 0) 0x80) → (j : ℕ) → j < 4 → getD chunk (at + j) 0 < 0x80
+four-low chunk at a b c d = below-four (λ j. getD chunk (at + j) 0 < 0x80) (subst (λ (n : ℕ). getD chunk n 0 < 0x80) (sym (add-zero at)) a) b c (ltb-true (getD chunk (at + 3) 0) 0x80 (T-true (ltb (getD chunk (at + 3) 0) 0x80) d))
 
 -- each byte as a sequence
 singles : List ℕ → List Out

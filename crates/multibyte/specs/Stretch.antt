@@ -5,9 +5,9 @@ use Prim.Native.Nat.{ℕ, _+_, _≤_, _<_}
 use lib.ListN.{length, take, drop, getD}
 use Rattle.runs.specs.Run.{patch}
 
--- the eight bytes at a place
-abbrev pub eight : List ℕ → ℕ → List ℕ
-eight xs i = getD xs i 0 ∷ getD xs (i + 1) 0 ∷ getD xs (i + 2) 0 ∷ getD xs (i + 3) 0 ∷ getD xs (i + 4) 0 ∷ getD xs (i + 5) 0 ∷ getD xs (i + 6) 0 ∷ getD xs (i + 7) 0 ∷ []
+-- the four bytes at a place
+abbrev pub four : List ℕ → ℕ → List ℕ
+four xs i = getD xs i 0 ∷ getD xs (i + 1) 0 ∷ getD xs (i + 2) 0 ∷ getD xs (i + 3) 0 ∷ []
 
 -- A stretch of k bytes below 80, copied into the room from place w on.
 pub record Copied (chunk : List ℕ) (from k w : ℕ) (room room′ : List ℕ) : Type 0 where

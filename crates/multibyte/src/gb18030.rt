@@ -1,159 +1,36 @@
-// Runs of gb18030, and of GBK, which is decoded the same way.
+// The sequences of four bytes of gb18030 and GBK.
 
-use crate::ascii::copy_ascii;
-use crate::next_at;
-use crate::scalar_of;
-use index::cell;
 use index::mapped;
-use runs::Place;
 use sequences::within;
 ghost use mathlib.Core.Path.{_≡_};
 ghost use mathlib.Core.Bool.{true, false, _||_};
 ghost use mathlib.Core.List.{List};
 ghost use Prim.Native.Nat.{ℕ, _+_, _-_, _*_, _/_, _≤_, _<_};
-ghost use lib.Dec.{ltb, eqb};
+ghost use lib.Dec.{ltb};
 ghost use lib.ListN.{length, drop, getD};
 ghost use Rattle.standard.specs.Base.{within, mapped};
 ghost use Rattle.standard.specs.Encodings.{Tables, GB18030, lent};
-ghost use Rattle.standard.specs.Sequence.{code, scalar, shift, plain};
+ghost use Rattle.standard.specs.Sequence.{code, scalar, plain};
 ghost use Rattle.standard.specs.Sequences.Gb18030.{gb18030, gbRange, gbFourCode};
 ghost use Rattle.standard.specs.Next.{next};
 ghost use Rattle.sequences.specs.Code.{front};
-ghost use Rattle.runs.specs.Run.{Runs};
 ghost use Rattle.multibyte.specs.Ranges.{Ascending};
 
-// Sequence after sequence. The ranges are searched in long stretches only.
-pub(crate) fn gb18030_run(
-    mode: u8,
-    chunk: &[u8],
-    t1: &[u32],
-    t2: &[u32],
-    from: usize,
-    room: &mut [u32],
-    place: usize,
-) -> Place
-    requires { ⌜ (from ≤ length (now chunk)) × (length (now chunk) ≤ 65536) × (place + (length (now chunk) - from) ≤ length (now room)) ⌝ }
-    ensures { λ r. ⌜ Runs (next (lent (now (t1 .entry)) (now (t2 .entry))) GB18030) mode (now (chunk .entry)) from (r .at) plain (shift (r .state) (eqb (r .flag) 1)) place (r .written) (now (room .entry)) (now (room .exit)) ⌝ }
-{
-    if chunk.len() - from < 1024 {
-        let mut none = [0u16; 1];
-        return sequences(mode, chunk, t1, t2, false, &mut none, from, room, place);
-    }
-    let mut last = [0u16; 512];
-    sequences(
-        mode,
-        chunk,
-        t1,
-        t2,
-        in_order(t2),
-        &mut last,
-        from,
-        room,
-        place,
-    )
-}
-
-// Sequence after sequence, while four bytes are left. `last` has the pair last used, by pointer.
-fn sequences(
-    mode: u8,
-    chunk: &[u8],
-    t1: &[u32],
-    t2: &[u32],
+// The scalar of the four bytes at a place; 0 for none, and where the ranges are not in order.
+pub(crate) fn four_at(
+    ranges: &[u32],
     ordered: bool,
     last: &mut [u16],
-    from: usize,
-    room: &mut [u32],
-    place: usize,
-) -> Place
-    requires { ⌜ (from ≤ length (now chunk)) × (length (now chunk) ≤ 65536) × (place + (length (now chunk) - from) ≤ length (now room)) × (ordered ≡ true → Ascending (now t2)) ⌝ }
-    ensures { λ r. ⌜ Runs (next (lent (now (t1 .entry)) (now (t2 .entry))) GB18030) mode (now (chunk .entry)) from (r .at) plain (shift (r .state) (eqb (r .flag) 1)) place (r .written) (now (room .entry)) (now (room .exit)) ⌝ }
-{
-    let n = chunk.len();
-    let mut i = from;
-    let mut o = place;
-    while 4 <= n - i {
-        let b = chunk[i];
-        if b < 0x80 {
-            let k = copy_ascii(chunk, i, room, o);
-            i += k;
-            o += k;
-            continue;
-        }
-        let c = pair_at(t1, chunk, i);
-        if c != 0 {
-            room[o] = c;
-            i += 2;
-            o += 1;
-            continue;
-        }
-        let u = four_at(t2, ordered, last, chunk, i);
-        if u != 0 {
-            room[o] = u;
-            i += 4;
-            o += 1;
-            continue;
-        }
-        let q = next_at(t1, t2, 30, 0, 0, chunk, i);
-        let v = scalar_of(mode, q);
-        if v == 0 {
-            return plain_place(i, o);
-        }
-        room[o] = v;
-        i += q.width as usize;
-        o += 1;
-    }
-    plain_place(i, o)
-}
-
-// A place that has no shift.
-fn plain_place(at: usize, written: usize) -> Place
-    ensures { λ r. ⌜ (r .at ≡ at) × (r .written ≡ written) × (r .state ≡ 0) × (r .flag ≡ 0) ⌝ }
-{
-    Place {
-        at,
-        written,
-        state: 0,
-        flag: 0,
-    }
-}
-
-// The scalar of the pair at a place, 0 for none.
-fn pair_at(index: &[u32], chunk: &[u8], i: usize) -> u32
-    requires { ⌜ i + 4 ≤ length (now chunk) ⌝ }
-    ensures { λ r. ⌜ ((r ≡ 0 → ⊥) → (second : List ℕ) → next (lent (now (index .entry)) second) GB18030 plain (drop i (now (chunk .entry))) ≡ scalar 2 r) ⌝ }
-{
-    pair_code(index, chunk[i], chunk[i + 1])
-}
-
-// The code point of a pair, 0 for none.
-fn pair_code(index: &[u32], lead: u8, trail: u8) -> u32
-    ensures { λ r. ⌜ ((r ≡ 0 → ⊥) → (second : List ℕ) (d e : ℕ) → gb18030 (lent (now (index .entry)) second) (front 4 lead trail d e) ≡ scalar 2 r) ⌝ }
-{
-    if lead < 0x81 {
-        return 0;
-    }
-    if 0xFE < lead {
-        return 0;
-    }
-    if trail < 0x40 {
-        return 0;
-    }
-    if trail == 0x7F {
-        return 0;
-    }
-    if 0xFE < trail {
-        return 0;
-    }
-    let row = ((lead - 0x81) as usize) * 190;
-    cell(index, row + ((trail - 0x40 - trail / 128) as usize))
-}
-
-// The scalar of the four bytes at a place; 0 for none, and where the ranges are not in order.
-fn four_at(ranges: &[u32], ordered: bool, last: &mut [u16], chunk: &[u8], i: usize) -> u32
-    requires { ⌜ (i + 4 ≤ length (now chunk)) × (ordered ≡ true → Ascending (now ranges)) ⌝ }
-    ensures { λ r. ⌜ ((r ≡ 0 → ⊥) → (first : List ℕ) → next (lent first (now (ranges .entry))) GB18030 plain (drop i (now (chunk .entry))) ≡ scalar 4 r) ⌝ }
+    chunk: &[u8],
+    i: usize,
+) -> u32
+    requires { ⌜ (i ≤ length (now chunk)) × (ordered ≡ true → Ascending (now ranges)) ⌝ }
+    ensures { λ r. ⌜ ((r ≡ 0 → ⊥) → (ordered ≡ true) × (i + 4 ≤ length (now (chunk .entry))) × ((first : List ℕ) → next (lent first (now (ranges .entry))) GB18030 plain (drop i (now (chunk .entry))) ≡ scalar 4 r)) ⌝ }
 {
     if !ordered {
+        return 0;
+    }
+    if chunk.len() - i < 4 {
         return 0;
     }
     let p = four_pointer(chunk[i], chunk[i + 1], chunk[i + 2], chunk[i + 3]);
@@ -301,7 +178,7 @@ fn not_above(q: u32, p: u32) -> usize
 }
 
 // Are the pointers of the pairs in ascending order?
-fn in_order(ranges: &[u32]) -> bool
+pub(crate) fn in_order(ranges: &[u32]) -> bool
     ensures { λ r. ⌜ (r ≡ true → Ascending (now (ranges .entry))) ⌝ }
 {
     if 65536 < ranges.len() {

@@ -3,6 +3,7 @@
 mod ascii;
 mod gb18030;
 mod iso_2022_jp;
+mod layout;
 mod pairs;
 mod utf8;
 
@@ -238,10 +239,10 @@ fn go(
             flag,
         );
     }
-    if encoding <= 30 {
-        return gb18030::gb18030_run(mode, chunk, t1, t2, from, room, place);
-    }
     if encoding <= 35 {
+        if 32768 < t1.len() {
+            return still(from, place, state, flag);
+        }
         return pairs::pairs_run(encoding, mode, chunk, t1, t2, from, room, place);
     }
     runs::run(

@@ -1,141 +1,177 @@
-// The encodings of one and two bytes: Big5, EUC-JP, Shift_JIS and EUC-KR.
+// The encodings of one and two bytes, and of four in gb18030: GBK, gb18030, Big5, EUC-JP, Shift_JIS and EUC-KR.
 
 use crate::ascii::copy_ascii;
+use crate::gb18030::four_at;
+use crate::gb18030::in_order;
+use crate::layout::lay_out;
+use crate::layout::pointer;
+use crate::layout::pointer_laid;
+use crate::layout::row;
+use crate::layout::row_laid;
 use crate::next_at;
 use crate::scalar_of;
 use index::cell;
 use runs::Place;
 use sequences::within;
 ghost use mathlib.Core.Path.{_≡_};
-ghost use mathlib.Core.List.{List, [], _∷_};
-ghost use Prim.Native.Nat.{ℕ, _+_, _-_, _≤_};
-ghost use lib.Dec.{eqb};
+ghost use mathlib.Core.Bool.{true, false};
+ghost use mathlib.Core.List.{List, _∷_};
+ghost use Prim.Native.Nat.{ℕ, _+_, _-_, _≤_, _<_};
+ghost use lib.Dec.{ltb, eqb};
 ghost use lib.ListN.{length};
+ghost use Rattle.standard.specs.Base.{_then_else_, within};
 ghost use Rattle.standard.specs.Encodings.{family, lent};
-ghost use Rattle.standard.specs.Sequence.{plain, shift, scalar};
-ghost use Rattle.standard.specs.Sequences.Big5.{big5};
-ghost use Rattle.standard.specs.Sequences.EucJp.{eucJp};
-ghost use Rattle.standard.specs.Sequences.EucKr.{eucKr};
-ghost use Rattle.standard.specs.Sequences.ShiftJis.{shiftJis};
+ghost use Rattle.standard.specs.Sequence.{plain, shift, scalar, cell};
 ghost use Rattle.standard.specs.Next.{next};
-ghost use Rattle.runs.specs.Run.{Runs};
+ghost use Rattle.runs.specs.Run.{Runs, Gives};
+ghost use Rattle.multibyte.specs.Layout.{row, column, Laid};
+ghost use Rattle.multibyte.specs.Ranges.{Ascending};
 
-// The scalar of two bytes, 0 if they are no pair with a code point. In Shift_JIS the row and the column are found without a branch.
-fn shift_jis_pair(t1: &[u32], lead: u8, trail: u8) -> u32
-    ensures { λ r. ⌜ ((r ≡ 0 → ⊥) → (xs : List ℕ) → shiftJis (lent (now (t1 .entry)) []) (lead ∷ trail ∷ xs) ≡ scalar 2 r) ⌝ }
+// The cell of a pair, by the table of rows and columns if there is one.
+fn cell_of(encoding: u8, layout: &[u16], t1: &[u32], lead: u8, trail: u8) -> u32
+    requires { ⌜ (length (now layout) ≡ 512 → Laid encoding (now layout)) ⌝ }
+    ensures { λ r. ⌜ r ≡ cell (now (t1 .entry)) (row encoding lead + column encoding trail) ⌝ }
 {
-    if trail < 0x40 {
-        return 0;
+    if layout.len() == 512 {
+        return cell(t1, pointer_laid(layout, lead, trail));
     }
-    if trail == 0x7F {
-        return 0;
-    }
-    if 0xFC < trail {
-        return 0;
-    }
-    if lead < 0x81 {
-        return 0;
-    }
-    if 0xFC < lead {
-        return 0;
-    }
-    if within(0xA0, lead, 0xDF) {
-        return 0;
-    }
-    cell(
-        t1,
-        ((lead % 64 - 1) as usize) * 188 + ((trail - 0x40 - trail / 128) as usize),
-    )
+    cell(t1, pointer(encoding, lead, trail))
 }
 
-// In EUC-JP.
-fn euc_jp_pair(t1: &[u32], lead: u8, trail: u8) -> u32
-    ensures { λ r. ⌜ ((r ≡ 0 → ⊥) → (second xs : List ℕ) → eucJp (lent (now (t1 .entry)) second) (lead ∷ trail ∷ xs) ≡ scalar 2 r) ⌝ }
+// The scalar of a pair, 0 for none. EUC-JP has half-width katakana after 8E.
+fn pair(encoding: u8, layout: &[u16], t1: &[u32], lead: u8, trail: u8) -> u32
+    requires { ⌜ (29 ≤ encoding) × (encoding ≤ 35) × (encoding ≡ 33 → ⊥) × (length (now t1) ≤ 32768) × (length (now layout) ≡ 512 → Laid encoding (now layout)) ⌝ }
+    ensures { λ r. ⌜ ((r ≡ 0 → ⊥) → (second xs : List ℕ) → next (lent (now (t1 .entry)) second) (family encoding) plain (lead ∷ trail ∷ xs) ≡ scalar 2 r)
+        × (r ≡ 0 → cell (now (t1 .entry)) (row encoding lead + column encoding trail) ≡ 0) ⌝ }
 {
-    if lead < 0xA1 {
+    let c = cell_of(encoding, layout, t1, lead, trail);
+    if c != 0 {
+        return c;
+    }
+    if lead != 0x8E {
         return 0;
     }
-    if 0xFE < lead {
+    if encoding != 32 {
         return 0;
     }
-    if trail < 0xA1 {
-        return 0;
-    }
-    if 0xFE < trail {
-        return 0;
-    }
-    cell(
-        t1,
-        ((lead - 0xA1) as usize) * 94 + ((trail - 0xA1) as usize),
-    )
-}
-
-// In EUC-KR.
-fn euc_kr_pair(t1: &[u32], lead: u8, trail: u8) -> u32
-    ensures { λ r. ⌜ ((r ≡ 0 → ⊥) → (xs : List ℕ) → eucKr (lent (now (t1 .entry)) []) (lead ∷ trail ∷ xs) ≡ scalar 2 r) ⌝ }
-{
-    if lead < 0x81 {
-        return 0;
-    }
-    if 0xFE < lead {
-        return 0;
-    }
-    if trail < 0x41 {
-        return 0;
-    }
-    if 0xFE < trail {
-        return 0;
-    }
-    cell(
-        t1,
-        ((lead - 0x81) as usize) * 190 + ((trail - 0x41) as usize),
-    )
-}
-
-// In Big5. The pairs of two scalars have the lead 88.
-fn big5_pair(t1: &[u32], lead: u8, trail: u8) -> u32
-    ensures { λ r. ⌜ ((r ≡ 0 → ⊥) → (xs : List ℕ) → big5 (lent (now (t1 .entry)) []) (lead ∷ trail ∷ xs) ≡ scalar 2 r) ⌝ }
-{
-    if lead < 0x89 {
-        return 0;
-    }
-    if 0xFE < lead {
-        return 0;
-    }
-    if trail < 0x40 {
-        return 0;
-    }
-    if 0xFE < trail {
-        return 0;
-    }
-    if within(0x7F, trail, 0xA0) {
-        return 0;
-    }
-    cell(
-        t1,
-        ((lead - 0x81) as usize) * 157 + ((trail - 0x40 - trail / 128 * 34) as usize),
-    )
-}
-
-fn pair(encoding: u8, t1: &[u32], lead: u8, trail: u8) -> u32
-    ensures { λ r. ⌜ ((r ≡ 0 → ⊥) → (second xs : List ℕ) → next (lent (now (t1 .entry)) second) (family encoding) plain (lead ∷ trail ∷ xs) ≡ scalar 2 r) ⌝ }
-{
-    if encoding == 34 {
-        return shift_jis_pair(t1, lead, trail);
-    }
-    if encoding == 32 {
-        return euc_jp_pair(t1, lead, trail);
-    }
-    if encoding == 35 {
-        return euc_kr_pair(t1, lead, trail);
-    }
-    if encoding == 31 {
-        return big5_pair(t1, lead, trail);
+    if within(0xA1, trail, 0xDF) {
+        return (0xFF61 - 0xA1) + (trail as u32);
     }
     0
 }
 
-// A run: ASCII, pairs, and anything else that gives one scalar.
+// What an error gives: U+FFFD, and 0 in mode 1.
+fn replaced(mode: u8) -> u32
+    ensures { λ r. ⌜ ((r ≡ 0 → ⊥) → (r ≡ 0xFFFD) × (mode ≡ 1 → ⊥)) ⌝ }
+{
+    if mode == 1 {
+        return 0;
+    }
+    0xFFFD
+}
+
+// The scalar of a single byte of Shift_JIS, 0 for none.
+fn shift_jis_single(mode: u8, b: u8) -> u32
+    requires { ⌜ 0x80 ≤ b ⌝ }
+    ensures { λ r. ⌜ ((r ≡ 0 → ⊥) → (t1 t2 xs : List ℕ) → Gives mode (next (lent t1 t2) (family 34) plain (b ∷ xs)) 1 plain r) ⌝ }
+{
+    if within(0xA1, b, 0xDF) {
+        return (0xFF61 - 0xA1) + (b as u32);
+    }
+    if b == 0x80 {
+        return 0x80;
+    }
+    if b == 0xA0 {
+        return replaced(mode);
+    }
+    if 0xFC < b {
+        return replaced(mode);
+    }
+    0
+}
+
+// Of EUC-JP, where it is an error.
+fn euc_jp_single(mode: u8, b: u8) -> u32
+    requires { ⌜ 0x80 ≤ b ⌝ }
+    ensures { λ r. ⌜ ((r ≡ 0 → ⊥) → (t1 t2 xs : List ℕ) → Gives mode (next (lent t1 t2) (family 32) plain (b ∷ xs)) 1 plain r) ⌝ }
+{
+    if within(0xA1, b, 0xFE) {
+        return 0;
+    }
+    if b == 0x8E {
+        return 0;
+    }
+    if b == 0x8F {
+        return 0;
+    }
+    replaced(mode)
+}
+
+// Of the other encodings.
+fn single(encoding: u8, mode: u8, b: u8) -> u32
+    requires { ⌜ (29 ≤ encoding) × (encoding ≤ 35) × (encoding ≡ 33 → ⊥) × (0x80 ≤ b) ⌝ }
+    ensures { λ r. ⌜ ((r ≡ 0 → ⊥) → (t1 t2 xs : List ℕ) → Gives mode (next (lent t1 t2) (family encoding) plain (b ∷ xs)) 1 plain r) ⌝ }
+{
+    if encoding == 34 {
+        return shift_jis_single(mode, b);
+    }
+    if encoding == 32 {
+        return euc_jp_single(mode, b);
+    }
+    if within(0x81, b, 0xFE) {
+        return 0;
+    }
+    if b == 0xFF {
+        return replaced(mode);
+    }
+    if encoding <= 30 {
+        return 0x20AC;
+    }
+    replaced(mode)
+}
+
+// The width of a pair that is an error if it has no code point; 0 in mode 1, and where four bytes may begin.
+fn bad_width(encoding: u8, mode: u8, layout: &[u16], lead: u8, trail: u8) -> usize
+    requires { ⌜ (length (now layout) ≡ 512 → Laid encoding (now layout)) ⌝ }
+    ensures { λ r. ⌜ ((r ≡ 0 → ⊥) → (mode ≡ 1 → ⊥) × (row encoding lead < 32768) × (within 0x30 trail 0x39 ≡ false) × (r ≡ (ltb trail 0x80 then 1 else 2))) ⌝ }
+{
+    if mode == 1 {
+        return 0;
+    }
+    if within(0x30, trail, 0x39) {
+        return 0;
+    }
+    if 32768 <= row_of(encoding, layout, lead) {
+        return 0;
+    }
+    if trail < 0x80 {
+        return 1;
+    }
+    2
+}
+
+// The row of a lead, by the table of rows and columns if there is one.
+fn row_of(encoding: u8, layout: &[u16], lead: u8) -> u16
+    requires { ⌜ (length (now layout) ≡ 512 → Laid encoding (now layout)) ⌝ }
+    ensures { λ r. ⌜ r ≡ row encoding lead ⌝ }
+{
+    if layout.len() == 512 {
+        return row_laid(layout, lead);
+    }
+    row(encoding, lead)
+}
+
+// May the ranges be searched?
+fn searched(encoding: u8, t2: &[u32]) -> bool
+    ensures { λ r. ⌜ (r ≡ true → (encoding ≤ 30) × Ascending (now (t2 .entry))) ⌝ }
+{
+    if 30 < encoding {
+        return false;
+    }
+    in_order(t2)
+}
+
+// A run: ASCII, pairs, and anything else that gives one scalar. Tables are made in long stretches only.
 pub(crate) fn pairs_run(
     encoding: u8,
     mode: u8,
@@ -146,12 +182,65 @@ pub(crate) fn pairs_run(
     room: &mut [u32],
     place: usize,
 ) -> Place
-    requires { ⌜ (31 ≤ encoding) × (encoding ≤ 35) × (encoding ≡ 33 → ⊥) × (from ≤ length (now chunk)) × (length (now chunk) ≤ 65536) × (place + (length (now chunk) - from) ≤ length (now room)) ⌝ }
+    requires { ⌜ (29 ≤ encoding) × (encoding ≤ 35) × (encoding ≡ 33 → ⊥) × (length (now t1) ≤ 32768) × (from ≤ length (now chunk)) × (length (now chunk) ≤ 65536) × (place + (length (now chunk) - from) ≤ length (now room)) ⌝ }
+    ensures { λ r. ⌜ Runs (next (lent (now (t1 .entry)) (now (t2 .entry))) (family encoding)) mode (now (chunk .entry)) from (r .at) plain (shift (r .state) (eqb (r .flag) 1)) place (r .written) (now (room .entry)) (now (room .exit)) ⌝ }
+{
+    if chunk.len() - from < 4096 {
+        let layout = [0u16; 1];
+        let mut last = [0u16; 1];
+        return items(
+            encoding,
+            mode,
+            chunk,
+            t1,
+            t2,
+            &layout,
+            false,
+            &mut last,
+            from,
+            room,
+            place,
+        );
+    }
+    let mut layout = [0u16; 512];
+    lay_out(encoding, &mut layout);
+    let mut last = [0u16; 512];
+    items(
+        encoding,
+        mode,
+        chunk,
+        t1,
+        t2,
+        &layout,
+        searched(encoding, t2),
+        &mut last,
+        from,
+        room,
+        place,
+    )
+}
+
+// Item after item, while two bytes are left. `layout` may have the rows and columns, `last` the range last used, by pointer.
+fn items(
+    encoding: u8,
+    mode: u8,
+    chunk: &[u8],
+    t1: &[u32],
+    t2: &[u32],
+    layout: &[u16],
+    ordered: bool,
+    last: &mut [u16],
+    from: usize,
+    room: &mut [u32],
+    place: usize,
+) -> Place
+    requires { ⌜ (29 ≤ encoding) × (encoding ≤ 35) × (encoding ≡ 33 → ⊥) × (length (now t1) ≤ 32768) × (length (now layout) ≡ 512 → Laid encoding (now layout)) × (ordered ≡ true → (encoding ≤ 30) × Ascending (now t2))
+        × (from ≤ length (now chunk)) × (length (now chunk) ≤ 65536) × (place + (length (now chunk) - from) ≤ length (now room)) ⌝ }
     ensures { λ r. ⌜ Runs (next (lent (now (t1 .entry)) (now (t2 .entry))) (family encoding)) mode (now (chunk .entry)) from (r .at) plain (shift (r .state) (eqb (r .flag) 1)) place (r .written) (now (room .entry)) (now (room .exit)) ⌝ }
 {
     let mut i = from;
     let mut o = place;
-    while chunk.len() - i >= 4 {
+    while 2 <= chunk.len() - i {
         let b = chunk[i];
         if b < 0x80 {
             let k = copy_ascii(chunk, i, room, o);
@@ -159,12 +248,42 @@ pub(crate) fn pairs_run(
             o += k;
             continue;
         }
-        let c = pair(encoding, t1, b, chunk[i + 1]);
+        let c = pair(encoding, layout, t1, b, chunk[i + 1]);
         if c != 0 {
             room[o] = c;
             i += 2;
             o += 1;
             continue;
+        }
+        let f = four_at(t2, ordered, last, chunk, i);
+        if f != 0 {
+            room[o] = f;
+            i += 4;
+            o += 1;
+            continue;
+        }
+        let s = single(encoding, mode, b);
+        if s != 0 {
+            room[o] = s;
+            i += 1;
+            o += 1;
+            continue;
+        }
+        let w = bad_width(encoding, mode, layout, b, chunk[i + 1]);
+        if w == 1 {
+            room[o] = 0xFFFD;
+            i += 1;
+            o += 1;
+            continue;
+        }
+        if w == 2 {
+            room[o] = 0xFFFD;
+            i += 2;
+            o += 1;
+            continue;
+        }
+        if chunk.len() - i < 4 {
+            break;
         }
         let q = next_at(t1, t2, encoding, 0, 0, chunk, i);
         let u = scalar_of(mode, q);

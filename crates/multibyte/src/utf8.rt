@@ -15,7 +15,7 @@ ghost use lib.Dec.{eqb};
 ghost use lib.ListN.{length};
 ghost use Rattle.standard.specs.Base.{within};
 ghost use Rattle.standard.specs.Encodings.{family, lent};
-ghost use Rattle.standard.specs.Sequence.{plain, shift, scalar};
+ghost use Rattle.standard.specs.Sequence.{plain, shift, scalar, bad};
 ghost use Rattle.standard.specs.Sequences.Utf8.{utf8};
 ghost use Rattle.standard.specs.Next.{next};
 ghost use Rattle.runs.specs.Run.{Runs};
@@ -86,6 +86,23 @@ fn four_end(b0: u8, b1: u8, b2: u8, b3: u8) -> u32
     0
 }
 
+// Is the first of two bytes alone an error, which is replaced?
+fn is_bad(mode: u8, b: u8, c: u8) -> bool
+    requires { ⌜ 0x80 ≤ b ⌝ }
+    ensures { λ r. ⌜ (r ≡ true → (mode ≡ 1 → ⊥) × ((xs : List ℕ) → utf8 (b ∷ c ∷ xs) ≡ bad 1)) ⌝ }
+{
+    if mode == 1 {
+        return false;
+    }
+    if b < 0xC2 {
+        return true;
+    }
+    if 0xF4 < b {
+        return true;
+    }
+    !within(low(b), c, high(b))
+}
+
 // A run: ASCII, sequences of two to four bytes, and errors where they are replaced.
 pub(crate) fn utf8_run(
     mode: u8,
@@ -127,6 +144,12 @@ pub(crate) fn utf8_run(
         if c4 != 0 {
             room[o] = c4;
             i += 4;
+            o += 1;
+            continue;
+        }
+        if is_bad(mode, b, chunk[i + 1]) {
+            room[o] = 0xFFFD;
+            i += 1;
             o += 1;
             continue;
         }

@@ -1,10 +1,10 @@
 -- Scalars written into the room from a place on. Assumes nothing.
 use mathlib.Core.Path.{_≡_, sym, ap, _∙_}
-use mathlib.Core.List.{List, [], _++_, append-assoc, append-nil}
-use Prim.Native.Nat.{ℕ, _+_, _≤_}
+use mathlib.Core.List.{List, [], _∷_, _++_, append-assoc, append-nil}
+use Prim.Native.Nat.{ℕ, suc, _+_, _≤_}
 use native.Mathlib.Omega.{arith}
 use native.Mathlib.Nat.{add-zero}
-use lib.ListN.{length, take, drop, length-append, take-append-drop}
+use lib.ListN.{length, take, drop, set, length-append, take-append-drop}
 use lib.Seq.{sets, sets-eq, length-take-le, length-sets, drop-drop, take-at, drop-at}
 use Rattle.runs.specs.Run.{patch}
 
@@ -25,3 +25,16 @@ patch-patch w us vs room h =
     sym (drop-drop (length vs) (w + length us) (patch w us room)) ∙ ap (drop (length vs)) (drop-at (take w room ++ us) (drop (w + length us) room) (w + length us) k) ∙ drop-drop (length vs) (w + length us) room in
     let z : w + length us + length vs ≡ w + (length us + length vs) = omega arith in
     rw (a, b, length-append us vs, append-assoc (take w room) us vs, z)
+
+-- eight stores
+pub eight-sets : (r : List ℕ) (o a b c d e f g h : ℕ) →
+    set (set (set (set (set (set (set (set r o a) (o + 1) b) (o + 2) c) (o + 3) d) (o + 4) e) (o + 5) f) (o + 6) g) (o + 7) h ≡ sets r o (a ∷ b ∷ c ∷ d ∷ e ∷ f ∷ g ∷ h ∷ [])
+eight-sets r o a b c d e f g h =
+    let p1 : o + 1 ≡ suc o = omega arith in
+    let p2 : o + 2 ≡ suc (suc o) = omega arith in
+    let p3 : o + 3 ≡ suc (suc (suc o)) = omega arith in
+    let p4 : o + 4 ≡ suc (suc (suc (suc o))) = omega arith in
+    let p5 : o + 5 ≡ suc (suc (suc (suc (suc o)))) = omega arith in
+    let p6 : o + 6 ≡ suc (suc (suc (suc (suc (suc o))))) = omega arith in
+    let p7 : o + 7 ≡ suc (suc (suc (suc (suc (suc (suc o)))))) = omega arith in
+    rw (p1, p2, p3, p4, p5, p6, p7)

@@ -1,13 +1,15 @@
 -- Values written into the room one after another. Assumes nothing.
-use mathlib.Core.Path.{_≡_, refl, sym, ap, _∙_}
+use mathlib.Core.Path.{_≡_, refl, sym, ap, _∙_, subst}
 use mathlib.Core.Bool.{Bool, true, false}
-use mathlib.Core.List.{List, [], _∷_, _++_, append-assoc}
-use Prim.Native.Nat.{ℕ, zero, suc, _+_, _≤_, _<_}
+use mathlib.Core.List.{List, [], _∷_, _++_, append-assoc, append-nil}
+use Prim.Native.Nat.{ℕ, zero, suc, _+_, _-_, _≤_, _<_}
 use native.Mathlib.Omega.{arith}
-use lib.Dec.{eqb}
+use native.Mathlib.Nat.{add-zero}
+use lib.Dec.{eqb, ltb}
 use lib.ListN.{length, take, drop, getD, set, length-append, List·getD-append}
-use lib.Seq.{length-take-le, take-at, drop-at, getD-append-add, getD-drop}
-use borrow.Author.Tests.{eqb-true, eqb-false}
+use lib.Seq.{sets, length-take-le, take-at, drop-at, getD-append-add, getD-drop}
+use borrow.Author.Tests.{eqb-true, eqb-false, ltb-true, ltb-false}
+use Rattle.standard.proofs.Tests.{split}
 use Rattle.runs.specs.Run.{patch}
 use Rattle.runs.specs.Units.{values}
 use Rattle.runs.proofs.Patches.{patch-sets, patch-length, patch-patch}
@@ -35,7 +37,24 @@ values-at f (suc n) k h = go (eqb k n) refl (values-at f n k)
         let p : k < n = omega (arith, eqb-false k n e) in
         List·getD-append (values f n) (f n ∷ []) 0 k (omega (arith, values-length f n)) ∙ q p
 
+-- some values, and the ones after them
+pub values-add : (f : ℕ → ℕ) (k n : ℕ) → values f (k + n) ≡ values f k ++ values (λ (j : ℕ). f (k + j)) n
+unfolding values
+values-add f k zero = rw (add-zero k, append-nil (values f k))
+values-add f k (suc n) =
+    let e : k + suc n ≡ suc (k + n) = omega arith in
+    ap (values f) e ∙ ap (λ (l : List ℕ). l ++ (f (k + n) ∷ [])) (values-add f k n) ∙ append-assoc (values f k) (values (λ (j : ℕ). f (k + j)) n) (f (k + n) ∷ [])
+
+-- what holds below a number, and of as many from it on
+pub below-add : (P : ℕ → Type 0) (k n : ℕ) → ((j : ℕ) → j < k → P j) → ((j : ℕ) → j < n → P (k + j)) → (j : ℕ) → j < k + n → P j
+below-add P k n a b j l = split (ltb j k) (λ t. a j (ltb-true j k t)) (λ t. let z : k + (j - k) ≡ j = omega (arith, ltb-false j k t) in subst P z (b (j - k) (omega (arith, ltb-false j k t))))
+
 module _ (room : List ℕ) (w : ℕ) where
+  -- eight values, each by its equation
+  pub values-eight : (f : ℕ → ℕ) {a b c d e g h i : ℕ} → w + 8 ≤ length room → a ≡ f 0 → b ≡ f 1 → c ≡ f 2 → d ≡ f 3 → e ≡ f 4 → g ≡ f 5 → h ≡ f 6 → i ≡ f 7 → sets room w (a ∷ b ∷ c ∷ d ∷ e ∷ g ∷ h ∷ i ∷ []) ≡ patch w (values f 8) room
+  unfolding values
+  values-eight f l p0 p1 p2 p3 p4 p5 p6 p7 = rw (p0, p1, p2, p3, p4, p5, p6, p7) (patch-sets room w (f 0 ∷ f 1 ∷ f 2 ∷ f 3 ∷ f 4 ∷ f 5 ∷ f 6 ∷ f 7 ∷ []) l)
+
   -- one value more
   pub values-more : (f : ℕ → ℕ) (k : ℕ) → w + k < length room → set (patch w (values f k) room) (w + k) (f k) ≡ patch w (values f (k + 1)) room
   unfolding values
@@ -76,3 +95,11 @@ module _ (room₀ room : List ℕ) (w : ℕ) (f : ℕ → ℕ) (k : ℕ) (e : ro
       let z : w + length (values f k) + 0 ≡ w + k = omega (arith, values-length f k) in
       let p = patch-after room₀ w (values f k) (omega (arith, values-length f k)) 0 in
       rw e (rw z at p)
+
+-- and one that wrote so many more
+pub wrote-on : (room₀ room room′ : List ℕ) (w : ℕ) (f g : ℕ → ℕ) (k n : ℕ) → room ≡ patch w (values f k) room₀ → room′ ≡ patch (w + k) (values g n) room → ((j : ℕ) → j < n → g j ≡ f (k + j)) → w + k ≤ length room₀ → room′ ≡ patch w (values f (k + n)) room₀
+wrote-on room₀ room room′ w f g k n e p q h =
+    let l : w + k ≡ w + length (values f k) = omega (arith, values-length f k) in
+    let v : values g n ≡ values (λ (j : ℕ). f (k + j)) n = values-same g (λ (j : ℕ). f (k + j)) n q in
+    let s : patch (w + k) (values g n) room ≡ patch (w + length (values f k)) (values (λ (j : ℕ). f (k + j)) n) (patch w (values f k) room₀) = λ i. patch (l i) (v i) (e i) in
+    p ∙ s ∙ patch-patch w (values f k) (values (λ (j : ℕ). f (k + j)) n) room₀ (omega (arith, values-length f k)) ∙ ap (λ (cs : List ℕ). patch w cs room₀) (sym (values-add f k n))

@@ -4,9 +4,11 @@ use crate::Place;
 use index::IRREGULAR;
 use index::mapped;
 ghost use mathlib.Core.Path.{_≡_};
+ghost use mathlib.Core.List.{_∷_, []};
 ghost use Prim.Native.Nat.{ℕ, _+_, _-_, _≤_, _<_};
 ghost use lib.Dec.{ltb, eqb};
 ghost use lib.ListN.{length, getD};
+ghost use lib.Seq.{sets};
 ghost use Rattle.standard.specs.Base.{_then_else_};
 ghost use Rattle.standard.specs.Encodings.{Tables, lent, single-byte, windows-1252};
 ghost use Rattle.standard.specs.Indexes.{irregular};
@@ -97,6 +99,51 @@ fn place_of(b: u8) -> usize
     b as usize
 }
 
+fn put_eight(
+    room: &mut [u32],
+    o: usize,
+    c0: u32,
+    c1: u32,
+    c2: u32,
+    c3: u32,
+    c4: u32,
+    c5: u32,
+    c6: u32,
+    c7: u32,
+)
+    requires { ⌜ o + 8 ≤ length (now room) ⌝ }
+    ensures { λ r. ⌜ now (room .exit) ≡ sets (now (room .entry)) o (c0 ∷ c1 ∷ c2 ∷ c3 ∷ c4 ∷ c5 ∷ c6 ∷ c7 ∷ []) ⌝ }
+{
+    room[o] = c0;
+    room[o + 1] = c1;
+    room[o + 2] = c2;
+    room[o + 3] = c3;
+    room[o + 4] = c4;
+    room[o + 5] = c5;
+    room[o + 6] = c6;
+    room[o + 7] = c7;
+}
+
+// Eight bytes through a table.
+fn look_up_eight(table: &[u32], chunk: &[u8], at: usize, room: &mut [u32], o: usize)
+    requires { ⌜ (length (now table) ≡ 256) × (at + 8 ≤ length (now chunk)) × (o + 8 ≤ length (now room)) ⌝ }
+    ensures { λ r. ⌜ ((j : ℕ) → j < 8 → getD (now (chunk .entry)) (at + j) 0 < 256)
+        × (now (room .exit) ≡ patch o (values (λ (j : ℕ). getD (now (table .entry)) (getD (now (chunk .entry)) (at + j) 0) 0) 8) (now (room .entry))) ⌝ }
+{
+    put_eight(
+        room,
+        o,
+        table[place_of(chunk[at])],
+        table[place_of(chunk[at + 1])],
+        table[place_of(chunk[at + 2])],
+        table[place_of(chunk[at + 3])],
+        table[place_of(chunk[at + 4])],
+        table[place_of(chunk[at + 5])],
+        table[place_of(chunk[at + 6])],
+        table[place_of(chunk[at + 7])],
+    );
+}
+
 // Each byte through a table.
 fn look_up(table: &[u32], chunk: &[u8], from: usize, room: &mut [u32], place: usize)
     requires { ⌜ (length (now table) ≡ 256) × (from ≤ length (now chunk)) × (place + (length (now chunk) - from) ≤ length (now room)) ⌝ }
@@ -105,6 +152,10 @@ fn look_up(table: &[u32], chunk: &[u8], from: usize, room: &mut [u32], place: us
 {
     let n = chunk.len() - from;
     let mut k: usize = 0;
+    while n - k >= 8 {
+        look_up_eight(table, chunk, from + k, room, place + k);
+        k += 8;
+    }
     while k < n {
         room[place + k] = table[place_of(chunk[from + k])];
         k += 1;

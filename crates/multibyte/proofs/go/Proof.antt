@@ -1,9 +1,9 @@
-use Rattle.runs.proofs.Families.{family-gb, family-iso}
-use Rattle.runs.proofs.Running.{runs-none}
-use Rattle.standard.specs.Sequence.{shift}
-use Rattle.standard.specs.Encodings.{family, lent}
-use lib.Dec.{eqb}
 use mathlib.Core.Path.{_≡_}
+use lib.Dec.{eqb}
+use Rattle.standard.specs.Encodings.{family, lent}
+use Rattle.standard.specs.Sequence.{shift}
+use Rattle.runs.proofs.Running.{runs-none}
+use Rattle.runs.proofs.Families.{family-iso}
 use native.Mathlib.Omega.{arith}
 use borrow.Author.Needs.{needs}
 use Rattle.multibyte.proofs.go.Statement.{statement}
@@ -49,8 +49,7 @@ returns-4 c =
     let at-utf8-run = c .before .before .utf8-run in
     let s0 : args .state ≡ 0 = omega arith in
     let f0 : args .flag ≡ 0 = omega arith in
-    let e0 : args .encoding ≡ 0 = omega arith in
-    rw (s0, f0, e0) (at-utf8-run .ensures)
+    let e0 : args .encoding ≡ 0 = omega arith in rw (s0, f0, e0) (at-utf8-run .ensures)
 
 run-requires : tie.Need-run-requires
 run-requires c κs = search needs
@@ -59,44 +58,41 @@ same-length-3 : tie.Need-same-length-3
 same-length-3 c = search needs
 
 returns-5 : tie.Need-returns-5
-returns-5 c = c .before .before .run .ensures
+returns-5 c =
+    let at-run = c .before .before .run in
+    at-run .ensures
 
-gb18030-run-requires : tie.Need-gb18030-run-requires
-gb18030-run-requires c κs = search needs
-
-same-length-4 : tie.Need-same-length-4
-same-length-4 c = search needs
+still-requires-3 : tie.Need-still-requires-3
+still-requires-3 c κs = search needs
 
 returns-6 : tie.Need-returns-6
 returns-6 c =
-    let args = c .before .before .before .before .before .before .before .before .before .before .before .before .before .before .args in
-    let at-gb18030-run = c .before .before .gb18030-run in
-    let s0 : args .state ≡ 0 = omega arith in
-    let f0 : args .flag ≡ 0 = omega arith in
-    rw (s0, f0, family-gb (args .encoding) (omega arith) (omega arith)) (at-gb18030-run .ensures)
+    let args = c .before .before .before .before .before .before .before .before .before .before .before .before .args in
+    rw (c .still3 .ensures) (runs-none (lent (args .t1 .now) (args .t2 .now)) (family (args .encoding)) (args .mode) (args .chunk .now) (args .from) (shift (args .state) (eqb (args .flag) 1)) (args .place) (args .room .now))
 
 pairs-run-requires : tie.Need-pairs-run-requires
-pairs-run-requires c κs = search needs
+pairs-run-requires c κs = (omega arith, omega arith, omega arith, omega arith, omega arith, omega arith, omega arith)
 
-same-length-5 : tie.Need-same-length-5
-same-length-5 c = search needs
+same-length-4 : tie.Need-same-length-4
+same-length-4 c = search needs
 
 returns-7 : tie.Need-returns-7
 returns-7 c =
     let args = c .before .before .before .before .before .before .before .before .before .before .before .before .before .before .before .args in
     let at-pairs-run = c .before .before .pairs-run in
     let s0 : args .state ≡ 0 = omega arith in
-    let f0 : args .flag ≡ 0 = omega arith in
-    rw (s0, f0) (at-pairs-run .ensures)
+    let f0 : args .flag ≡ 0 = omega arith in rw (s0, f0) (at-pairs-run .ensures)
 
 run-requires-2 : tie.Need-run-requires-2
 run-requires-2 c κs = search needs
 
-same-length-6 : tie.Need-same-length-6
-same-length-6 c = search needs
+same-length-5 : tie.Need-same-length-5
+same-length-5 c = search needs
 
 returns-8 : tie.Need-returns-8
-returns-8 c = c .before .before .run2 .ensures
+returns-8 c =
+    let at-run2 = c .before .before .run2 in
+    at-run2 .ensures
 
 pub go-spec : {M : Type 1} → statement M
 go-spec =
@@ -115,12 +111,11 @@ go-spec =
     run-requires
     same-length-3
     returns-5
-    gb18030-run-requires
-    same-length-4
+    still-requires-3
     returns-6
     pairs-run-requires
-    same-length-5
+    same-length-4
     returns-7
     run-requires-2
-    same-length-6
+    same-length-5
     returns-8)

@@ -1,5 +1,5 @@
+use Rattle.multibyte.proofs.Stretches.{four-low}
 use native.Mathlib.Omega.{arith}
-use Rattle.multibyte.proofs.Stretches.{eight-low}
 use borrow.Author.Needs.{needs}
 use Rattle.multibyte.proofs.ascii.are_ascii.Statement.{statement}
 use Rattle.multibyte.proofs.ascii.are_ascii.Tie as tie
@@ -28,52 +28,16 @@ shared-slice-read-if3 c = search needs
 returns-3 : tie.Need-returns-3
 returns-3 c = search needs
 
-add-if4 : tie.Need-add-if4
-add-if4 c = search needs
-
-shared-slice-read-if4 : tie.Need-shared-slice-read-if4
-shared-slice-read-if4 c = search needs
-
-returns-4 : tie.Need-returns-4
-returns-4 c = search needs
-
-add-if5 : tie.Need-add-if5
-add-if5 c = search needs
-
-shared-slice-read-if5 : tie.Need-shared-slice-read-if5
-shared-slice-read-if5 c = search needs
-
-returns-5 : tie.Need-returns-5
-returns-5 c = search needs
-
-add-if6 : tie.Need-add-if6
-add-if6 c = search needs
-
-shared-slice-read-if6 : tie.Need-shared-slice-read-if6
-shared-slice-read-if6 c = search needs
-
-returns-6 : tie.Need-returns-6
-returns-6 c = search needs
-
-add-if7 : tie.Need-add-if7
-add-if7 c = search needs
-
-shared-slice-read-if7 : tie.Need-shared-slice-read-if7
-shared-slice-read-if7 c = search needs
-
-returns-7 : tie.Need-returns-7
-returns-7 c = search needs
-
 add-result : tie.Need-add-result
 add-result c = search needs
 
 shared-slice-read-result : tie.Need-shared-slice-read-result
 shared-slice-read-result c = search needs
 
-returns-8 : tie.Need-returns-8
-returns-8 c =
-    let args = c .before .before .before .before .before .before .before .before .before .before .before .before .before .before .before .args in
-    λ z. eight-low (args .chunk .now) (args .at) (omega arith) (omega arith) (omega arith) (omega arith) (omega arith) (omega arith) (omega arith) z
+returns-4 : tie.Need-returns-4
+returns-4 c =
+    let args = c .before .before .before .before .before .before .before .args in
+    λ z. four-low (args .chunk .now) (args .at) (omega arith) (omega arith) (omega arith) z
 
 pub are-ascii-spec : {M : Type 1} → statement M
 are-ascii-spec =
@@ -87,18 +51,6 @@ are-ascii-spec =
     add-if3
     shared-slice-read-if3
     returns-3
-    add-if4
-    shared-slice-read-if4
-    returns-4
-    add-if5
-    shared-slice-read-if5
-    returns-5
-    add-if6
-    shared-slice-read-if6
-    returns-6
-    add-if7
-    shared-slice-read-if7
-    returns-7
     add-result
     shared-slice-read-result
-    returns-8)
+    returns-4)

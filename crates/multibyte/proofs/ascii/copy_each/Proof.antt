@@ -1,8 +1,5 @@
-use Prim.Native.Nat.{_+_}
-use Rattle.multibyte.proofs.Stretches.{first-copied}
-use Prim.Native.Nat.{_≤_, _-_}
-use lib.ListN.{length, getD}
-use Rattle.multibyte.proofs.Stretches.{Copying, copying-start, copying-on, copied-one}
+use Prim.Native.Nat.{_+_, _-_}
+use Rattle.multibyte.proofs.Stretches.{Copying, copying-start, copying-on, copied-one, first-copied}
 use borrow.Author.Needs.{needs}
 use native.Mathlib.Omega.{arith}
 use Rattle.multibyte.proofs.ascii.copy_each.Statement.{statement}

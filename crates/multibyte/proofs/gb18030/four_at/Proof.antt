@@ -1,9 +1,9 @@
-use Rattle.multibyte.proofs.GbRuns.{at-front, four-told}
-use Rattle.standard.specs.Encodings.{lent}
-use lib.ListN.{getD}
-use Prim.Native.Nat.{_+_}
-use borrow.Author.Tests.{not-false}
 use mathlib.Core.Path.{refl, sym, _∙_}
+use borrow.Author.Tests.{not-false}
+use Prim.Native.Nat.{_+_}
+use lib.ListN.{getD}
+use Rattle.standard.specs.Encodings.{lent}
+use Rattle.multibyte.proofs.GbRuns.{at-front, four-told}
 use native.Mathlib.Omega.{arith}
 use borrow.Author.Needs.{needs}
 use Rattle.multibyte.proofs.gb18030.four_at.Statement.{statement}
@@ -11,6 +11,12 @@ use Rattle.multibyte.proofs.gb18030.four_at.Tie as tie
 
 returns : tie.Need-returns
 returns c = λ z. absurd (z refl)
+
+sub-if2 : tie.Need-sub-if2
+sub-if2 c = search needs
+
+returns-2 : tie.Need-returns-2
+returns-2 c = λ z. absurd (z refl)
 
 shared-slice-read-four-pointer : tie.Need-shared-slice-read-four-pointer
 shared-slice-read-four-pointer c = search needs
@@ -39,35 +45,37 @@ four-pointer-requires c κs = search needs
 gap-requires : tie.Need-gap-requires
 gap-requires c κs = search needs
 
-returns-2 : tie.Need-returns-2
-returns-2 c = λ z. absurd (z refl)
+returns-3 : tie.Need-returns-3
+returns-3 c = λ z. absurd (z refl)
 
 four-scalar-requires : tie.Need-four-scalar-requires
 four-scalar-requires c κs =
-    let at-pre = c .before .before .before .before .before .before .before .before .before .before .before .before .pre in
-    let at-if1 = c .before .before .before .before .before .before .before .before .if1 in
-    at-pre .1 (not-false _ (at-if1 .left))
+    let pre = c .before .before .before .before .before .before .before .before .before .before .before .before .before .pre in
+    let at-if1 = c .before .before .before .before .before .before .before .before .before .if1 in
+    pre .1 (not-false _ (at-if1 .left))
 
 same-length : tie.Need-same-length
 same-length c = search needs
 
-returns-3 : tie.Need-returns-3
-returns-3 c =
-    let args = c .before .before .before .before .before .before .before .before .before .before .before .before .before .before .before .args in
+returns-4 : tie.Need-returns-4
+returns-4 c =
+    let args = c .before .before .before .before .before .before .before .before .before .before .before .before .before .before .before .before .args in
+    let at-if1 = c .before .before .before .before .before .before .before .before .before .before .before .before .if1 in
+    let at-four-pointer = c .before .before .before .before .before .before .four-pointer in
+    let at-gap = c .before .before .before .before .before .gap in
+    let at-if3 = c .before .before .before .before .if3 in
+    let at-four-scalar = c .before .before .four-scalar in
     let chunk = args .chunk .now in
     let i = args .i in
-    let told = c .before .before .before .before .before .gap .ensures (c .before .before .before .before .if2 .left) in
-    λ z first.
-    let r = c .before .before .four-scalar .ensures z in
-    sym (at-front (lent first (args .ranges .now)) chunk i (omega arith)) ∙
-    four-told (args .ranges .now) (c .before .before .before .before .before .before .four-pointer .result) (c .before .before .four-scalar .result) (getD chunk i 0) (getD chunk (i + 1) 0) (getD chunk (i + 2) 0) (getD chunk (i + 3) 0)
-    (c .before .before .before .before .before .before .four-pointer .ensures (told .2)) (told .0) (told .1) (r .0) (r .1) z first
+    let told = at-gap .ensures (at-if3 .left) in λ z. let r = at-four-scalar .ensures z in (not-false _ (at-if1 .left), omega arith, λ first. sym (at-front (lent first (args .ranges .now)) chunk i (omega arith)) ∙ four-told (args .ranges .now) (at-four-pointer .result) (at-four-scalar .result) (getD chunk i 0) (getD chunk (i + 1) 0) (getD chunk (i + 2) 0) (getD chunk (i + 3) 0) (at-four-pointer .ensures (told .2)) (told .0) (told .1) (r .0) (r .1) z first)
 
 pub four-at-spec : {M : Type 1} → statement M
 four-at-spec =
     tie.close
     (tie.spec
     returns
+    sub-if2
+    returns-2
     shared-slice-read-four-pointer
     add-four-pointer
     shared-slice-read-four-pointer-2
@@ -77,7 +85,7 @@ four-at-spec =
     shared-slice-read-four-pointer-4
     four-pointer-requires
     gap-requires
-    returns-2
+    returns-3
     four-scalar-requires
     same-length
-    returns-3)
+    returns-4)

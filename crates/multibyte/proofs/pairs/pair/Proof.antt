@@ -1,57 +1,65 @@
-use Rattle.multibyte.proofs.Dispatch.{is-shift-jis, is-euc-jp, is-euc-kr, is-big5}
-use Rattle.standard.specs.Sequence.{plain}
-use mathlib.Core.Path.{refl, _∙_}
-use mathlib.Core.List.{_∷_}
+use Rattle.multibyte.proofs.Pairing.{found-pair, kana-pair}
+use mathlib.Core.Path.{refl, sym, _≡_, _∙_}
 use native.Mathlib.Omega.{arith}
 use borrow.Author.Needs.{needs}
 use Rattle.multibyte.proofs.pairs.pair.Statement.{statement}
 use Rattle.multibyte.proofs.pairs.pair.Tie as tie
 
-shift-jis-pair-requires : tie.Need-shift-jis-pair-requires
-shift-jis-pair-requires c κs = search needs
+cell-of-requires : tie.Need-cell-of-requires
+cell-of-requires c κs = search needs
 
 returns : tie.Need-returns
 returns c =
-    let args = c .before .before .before .args in
-    λ n second xs. is-shift-jis (args .t1 .now) second (args .encoding) plain (args .lead ∷ args .trail ∷ xs) (omega arith) ∙ c .shift-jis-pair .ensures n xs
-
-euc-jp-pair-requires : tie.Need-euc-jp-pair-requires
-euc-jp-pair-requires c κs = search needs
+    let args = c .before .before .before .before .args in
+    let pre = c .before .before .before .before .pre in
+    let at-cell-of = c .before .cell-of in
+    (λ n second xs. found-pair (args .t1 .now) second (args .encoding) (pre .0) (pre .1) (pre .2) (pre .3) (args .lead) (args .trail) (at-cell-of .result) (at-cell-of .ensures) n xs, λ z. absurd (c .if1 .taken z))
 
 returns-2 : tie.Need-returns-2
 returns-2 c =
-    let args = c .before .before .before .before .args in
-    λ n second xs. is-euc-jp (args .t1 .now) second (args .encoding) plain (args .lead ∷ args .trail ∷ xs) (omega arith) ∙ c .euc-jp-pair .ensures n second xs
-
-euc-kr-pair-requires : tie.Need-euc-kr-pair-requires
-euc-kr-pair-requires c κs = search needs
+    let at-cell-of = c .before .before .cell-of in
+    let at-if1 = c .before .if1 in
+    (λ n. absurd (n refl), λ z. omega (arith, at-cell-of .ensures, at-if1 .left))
 
 returns-3 : tie.Need-returns-3
 returns-3 c =
-    let args = c .before .before .before .before .before .args in
-    λ n second xs. is-euc-kr (args .t1 .now) second (args .encoding) plain (args .lead ∷ args .trail ∷ xs) (omega arith) ∙ c .euc-kr-pair .ensures n xs
+    let at-cell-of = c .before .before .before .cell-of in
+    let at-if1 = c .before .before .if1 in
+    (λ n. absurd (n refl), λ z. omega (arith, at-cell-of .ensures, at-if1 .left))
 
-big5-pair-requires : tie.Need-big5-pair-requires
-big5-pair-requires c κs = search needs
+within-requires : tie.Need-within-requires
+within-requires c κs = search needs
+
+sub-result : tie.Need-sub-result
+sub-result c = search needs
+
+add-result : tie.Need-add-result
+add-result c = search needs
 
 returns-4 : tie.Need-returns-4
 returns-4 c =
-    let args = c .before .before .before .before .before .before .args in
-    λ n second xs. is-big5 (args .t1 .now) second (args .encoding) plain (args .lead ∷ args .trail ∷ xs) (omega arith) ∙ c .big5-pair .ensures n xs
+    let args = c .before .before .before .before .before .before .before .before .args in
+    let at-cell-of = c .before .before .before .before .before .cell-of in
+    let at-if1 = c .before .before .before .before .if1 in
+    let at-within = c .before .within in
+    (λ n second xs. let e : args .encoding ≡ 32 = omega arith in rw e (kana-pair (args .t1 .now) second (args .lead) xs (args .trail) (omega arith) (sym (at-within .ensures) ∙ c .if4 .taken)), λ z. omega (arith, at-cell-of .ensures, at-if1 .left))
 
 returns-5 : tie.Need-returns-5
-returns-5 c = λ n. absurd (n refl)
+returns-5 c =
+    let at-cell-of = c .before .before .before .before .before .cell-of in
+    let at-if1 = c .before .before .before .before .if1 in
+    (λ n. absurd (n refl), λ z. omega (arith, at-cell-of .ensures, at-if1 .left))
 
 pub pair-spec : {M : Type 1} → statement M
 pair-spec =
     tie.close
     (tie.spec
-    shift-jis-pair-requires
+    cell-of-requires
     returns
-    euc-jp-pair-requires
     returns-2
-    euc-kr-pair-requires
     returns-3
-    big5-pair-requires
+    within-requires
+    sub-result
+    add-result
     returns-4
     returns-5)

@@ -1,13 +1,14 @@
-use Rattle.runs.proofs.Fronts.{two-at, three-at, four-at}
 use Rattle.multibyte.proofs.GoodUtf8.{plain-utf8, self-utf8}
-use Rattle.standard.specs.Sequences.Utf8.{utf8}
-use Rattle.runs.proofs.Running.{Going, going-start, gives-scalar}
-use Rattle.runs.proofs.Steps.{at-place, going-one, found-gives, found-width}
 use Rattle.multibyte.proofs.Stretches.{going-copied}
+use Rattle.multibyte.proofs.Scalars.{gives-bad}
+use Rattle.runs.proofs.Steps.{at-place, going-one, found-gives, found-width}
+use Rattle.runs.proofs.Running.{Going, going-start, gives-scalar}
+use Rattle.runs.proofs.Fronts.{two-at, three-at, four-at}
+use Rattle.standard.specs.Sequences.Utf8.{utf8}
 use Rattle.standard.specs.Sequence.{plain}
 use Rattle.standard.specs.Encodings.{family, lent}
-use Prim.Native.Nat.{_+_, _-_, _*_, _<_}
 use lib.ListN.{length, drop}
+use Prim.Native.Nat.{_+_, _-_, _*_, _<_}
 use mathlib.Core.Path.{ap, _∙_}
 use borrow.Author.Needs.{needs}
 use native.Mathlib.Omega.{arith}
@@ -34,7 +35,7 @@ shared-slice-read-b c = omega arith
 copy-ascii-requires : tie.Need-copy-ascii-requires Inv-loop μ-loop
 copy-ascii-requires c κs =
     let at-loop = c .before .before .before .before .loop in
-    (at-place (at-loop .inv .0) .0, at-loop .inv .0 .short, at-place (at-loop .inv .0) .1)
+    (omega arith, omega arith, at-loop .inv .0 .short, at-place (at-loop .inv .0) .1)
 
 add-i : tie.Need-add-i Inv-loop μ-loop
 add-i c =
@@ -51,7 +52,7 @@ add-o c =
 loop-less : tie.Need-loop-less Inv-loop μ-loop
 loop-less c =
     let at-copy-ascii = c .before .before .copy-ascii in
-    omega (arith, at-copy-ascii .ensures .1 (omega arith) (omega arith), at-copy-ascii .ensures .0 .inside)
+    omega (arith, at-copy-ascii .ensures .1, at-copy-ascii .ensures .0 .inside)
 
 loop-again : tie.Need-loop-again Inv-loop μ-loop
 loop-again c =
@@ -61,16 +62,18 @@ loop-again c =
     (going-copied (lent (args .t1 .now) (args .t2 .now)) (family 0) (args .mode) (self-utf8 (args .t1 .now) (args .t2 .now)) (at-loop .inv .0) (at-copy-ascii .ensures .0), at-loop .inv .1)
 
 add-two : tie.Need-add-two Inv-loop μ-loop
-add-two c = search needs
+add-two c = omega arith
 
 shared-slice-read-two : tie.Need-shared-slice-read-two Inv-loop μ-loop
-shared-slice-read-two c = search needs
+shared-slice-read-two c = omega arith
 
 two-requires : tie.Need-two-requires Inv-loop μ-loop
 two-requires c κs = search needs
 
 mul-room : tie.Need-mul-room Inv-loop μ-loop
-mul-room c = search needs
+mul-room c =
+    let at-loop = c .before .before .before .before .before .before .loop in
+    omega (arith, at-place (at-loop .inv .0) .1, at-loop .inv .0 .runs .size, at-loop .inv .1)
 
 slice-write-room : tie.Need-slice-write-room Inv-loop μ-loop
 slice-write-room c =
@@ -78,10 +81,14 @@ slice-write-room c =
     omega (arith, at-place (at-loop .inv .0) .1)
 
 add-i-2 : tie.Need-add-i-2 Inv-loop μ-loop
-add-i-2 c = omega (arith, c .before .before .before .before .before .before .loop .inv .0 .short)
+add-i-2 c =
+    let at-loop = c .before .before .before .before .before .before .loop in
+    omega (arith, at-loop .inv .0 .short)
 
 add-o-2 : tie.Need-add-o-2 Inv-loop μ-loop
-add-o-2 c = omega (arith, at-place (c .before .before .before .before .before .before .loop .inv .0) .1)
+add-o-2 c =
+    let at-loop = c .before .before .before .before .before .before .loop in
+    omega (arith, at-place (at-loop .inv .0) .1, at-loop .inv .0 .runs .size, at-loop .inv .1)
 
 loop-less-2 : tie.Need-loop-less-2 Inv-loop μ-loop
 loop-less-2 c = omega arith
@@ -94,22 +101,24 @@ loop-again-2 c =
     (going-one (at-loop .inv .0) (gives-scalar (args .mode) (plain-utf8 (args .t1 .now) (args .t2 .now) (drop (at-loop .i) (args .chunk .now)) ∙ ap utf8 (two-at (args .chunk .now) (at-loop .i) (omega arith)) ∙ at-two .ensures (c .if2 .taken) (drop (at-loop .i + 2) (args .chunk .now)))), at-loop .inv .1)
 
 add-three : tie.Need-add-three Inv-loop μ-loop
-add-three c = search needs
+add-three c = omega arith
 
 shared-slice-read-three : tie.Need-shared-slice-read-three Inv-loop μ-loop
-shared-slice-read-three c = search needs
+shared-slice-read-three c = omega arith
 
 add-three-2 : tie.Need-add-three-2 Inv-loop μ-loop
-add-three-2 c = search needs
+add-three-2 c = omega arith
 
 shared-slice-read-three-2 : tie.Need-shared-slice-read-three-2 Inv-loop μ-loop
-shared-slice-read-three-2 c = search needs
+shared-slice-read-three-2 c = omega arith
 
 three-requires : tie.Need-three-requires Inv-loop μ-loop
 three-requires c κs = search needs
 
 mul-room-2 : tie.Need-mul-room-2 Inv-loop μ-loop
-mul-room-2 c = search needs
+mul-room-2 c =
+    let at-loop = c .before .before .before .before .before .before .before .before .before .before .loop in
+    omega (arith, at-place (at-loop .inv .0) .1, at-loop .inv .0 .runs .size, at-loop .inv .1)
 
 slice-write-room-2 : tie.Need-slice-write-room-2 Inv-loop μ-loop
 slice-write-room-2 c =
@@ -124,7 +133,7 @@ add-i-3 c =
 add-o-3 : tie.Need-add-o-3 Inv-loop μ-loop
 add-o-3 c =
     let at-loop = c .before .before .before .before .before .before .before .before .before .before .loop in
-    omega (arith, at-place (at-loop .inv .0) .1)
+    omega (arith, at-place (at-loop .inv .0) .1, at-loop .inv .0 .runs .size, at-loop .inv .1)
 
 loop-less-3 : tie.Need-loop-less-3 Inv-loop μ-loop
 loop-less-3 c = omega arith
@@ -137,28 +146,30 @@ loop-again-3 c =
     (going-one (at-loop .inv .0) (gives-scalar (args .mode) (plain-utf8 (args .t1 .now) (args .t2 .now) (drop (at-loop .i) (args .chunk .now)) ∙ ap utf8 (three-at (args .chunk .now) (at-loop .i) (omega arith)) ∙ at-three .ensures (c .if3 .taken) (drop (at-loop .i + 3) (args .chunk .now)))), at-loop .inv .1)
 
 add-four : tie.Need-add-four Inv-loop μ-loop
-add-four c = search needs
+add-four c = omega arith
 
 shared-slice-read-four : tie.Need-shared-slice-read-four Inv-loop μ-loop
-shared-slice-read-four c = search needs
+shared-slice-read-four c = omega arith
 
 add-four-2 : tie.Need-add-four-2 Inv-loop μ-loop
-add-four-2 c = search needs
+add-four-2 c = omega arith
 
 shared-slice-read-four-2 : tie.Need-shared-slice-read-four-2 Inv-loop μ-loop
-shared-slice-read-four-2 c = search needs
+shared-slice-read-four-2 c = omega arith
 
 add-four-3 : tie.Need-add-four-3 Inv-loop μ-loop
-add-four-3 c = search needs
+add-four-3 c = omega arith
 
 shared-slice-read-four-3 : tie.Need-shared-slice-read-four-3 Inv-loop μ-loop
-shared-slice-read-four-3 c = search needs
+shared-slice-read-four-3 c = omega arith
 
 four-requires : tie.Need-four-requires Inv-loop μ-loop
 four-requires c κs = search needs
 
 mul-room-3 : tie.Need-mul-room-3 Inv-loop μ-loop
-mul-room-3 c = search needs
+mul-room-3 c =
+    let at-loop = c .before .before .before .before .before .before .before .before .before .before .before .before .before .before .before .loop in
+    omega (arith, at-place (at-loop .inv .0) .1, at-loop .inv .0 .runs .size, at-loop .inv .1)
 
 slice-write-room-3 : tie.Need-slice-write-room-3 Inv-loop μ-loop
 slice-write-room-3 c =
@@ -173,7 +184,7 @@ add-i-4 c =
 add-o-4 : tie.Need-add-o-4 Inv-loop μ-loop
 add-o-4 c =
     let at-loop = c .before .before .before .before .before .before .before .before .before .before .before .before .before .before .before .loop in
-    omega (arith, at-place (at-loop .inv .0) .1)
+    omega (arith, at-place (at-loop .inv .0) .1, at-loop .inv .0 .runs .size, at-loop .inv .1)
 
 loop-less-4 : tie.Need-loop-less-4 Inv-loop μ-loop
 loop-less-4 c = omega arith
@@ -185,11 +196,14 @@ loop-again-4 c =
     let at-four = c .before .four in
     (going-one (at-loop .inv .0) (gives-scalar (args .mode) (plain-utf8 (args .t1 .now) (args .t2 .now) (drop (at-loop .i) (args .chunk .now)) ∙ ap utf8 (four-at (args .chunk .now) (at-loop .i) (omega arith)) ∙ at-four .ensures (c .if4 .taken) (drop (at-loop .i + 4) (args .chunk .now)))), at-loop .inv .1)
 
-next-at-requires : tie.Need-next-at-requires Inv-loop μ-loop
-next-at-requires c κs = omega arith
+add-is-bad : tie.Need-add-is-bad Inv-loop μ-loop
+add-is-bad c = omega arith
 
-scalar-of-requires : tie.Need-scalar-of-requires Inv-loop μ-loop
-scalar-of-requires c κs = search needs
+shared-slice-read-is-bad : tie.Need-shared-slice-read-is-bad Inv-loop μ-loop
+shared-slice-read-is-bad c = omega arith
+
+is-bad-requires : tie.Need-is-bad-requires Inv-loop μ-loop
+is-bad-requires c κs = c .before .before .before .before .before .before .before .before .before .before .before .before .before .if1 .left
 
 mul-room-4 : tie.Need-mul-room-4 Inv-loop μ-loop
 mul-room-4 c =
@@ -201,37 +215,73 @@ slice-write-room-4 c =
     let at-loop = c .before .before .before .before .before .before .before .before .before .before .before .before .before .before .before .before .before .before .loop in
     omega (arith, at-place (at-loop .inv .0) .1)
 
+add-i-5 : tie.Need-add-i-5 Inv-loop μ-loop
+add-i-5 c =
+    let at-loop = c .before .before .before .before .before .before .before .before .before .before .before .before .before .before .before .before .before .before .loop in
+    omega (arith, at-loop .inv .0 .short)
+
 add-o-5 : tie.Need-add-o-5 Inv-loop μ-loop
 add-o-5 c =
     let at-loop = c .before .before .before .before .before .before .before .before .before .before .before .before .before .before .before .before .before .before .loop in
     omega (arith, at-place (at-loop .inv .0) .1, at-loop .inv .0 .runs .size, at-loop .inv .1)
 
-cast-i : tie.Need-cast-i Inv-loop μ-loop
-cast-i c = search needs
-
-add-i-5 : tie.Need-add-i-5 Inv-loop μ-loop
-add-i-5 c =
-    let at-loop = c .before .before .before .before .before .before .before .before .before .before .before .before .before .before .before .before .before .before .before .loop in
-    let at-next-at = c .before .before .before .next-at in
-    let at-scalar-of = c .before .before .scalar-of in
-    let at-if5 = c .before .if5 in
-    omega (arith, at-loop .inv .0 .short, found-width (at-loop .inv .0) (at-next-at .result) (at-next-at .ensures) (at-scalar-of .ensures (at-if5 .left) .is) .1)
-
 loop-less-5 : tie.Need-loop-less-5 Inv-loop μ-loop
-loop-less-5 c =
-    let at-loop = c .before .before .before .before .before .before .before .before .before .before .before .before .before .before .before .before .before .before .before .loop in
-    let at-next-at = c .before .before .before .next-at in
-    let at-scalar-of = c .before .before .scalar-of in
-    let at-if5 = c .before .if5 in
-    omega (arith, found-width (at-loop .inv .0) (at-next-at .result) (at-next-at .ensures) (at-scalar-of .ensures (at-if5 .left) .is))
+loop-less-5 c = omega arith
 
 loop-again-5 : tie.Need-loop-again-5 Inv-loop μ-loop
 loop-again-5 c =
-    let at-loop = c .before .before .before .before .before .before .before .before .before .before .before .before .before .before .before .before .before .before .before .loop in
+    let args = c .before .before .before .before .before .before .before .before .before .before .before .before .before .before .before .before .before .before .before .before .before .before .before .args in
+    let at-loop = c .before .before .before .before .before .before .before .before .before .before .before .before .before .before .before .before .before .before .loop in
+    let is-bad = c .before .is-bad .ensures (c .if5 .taken) in
+    (going-one (at-loop .inv .0) (gives-bad (args .mode) (plain-utf8 (args .t1 .now) (args .t2 .now) (drop (at-loop .i) (args .chunk .now)) ∙ ap utf8 (two-at (args .chunk .now) (at-loop .i) (omega arith)) ∙ is-bad .1 (drop (at-loop .i + 2) (args .chunk .now))) (is-bad .0)), at-loop .inv .1)
+
+next-at-requires : tie.Need-next-at-requires Inv-loop μ-loop
+next-at-requires c κs = omega arith
+
+scalar-of-requires : tie.Need-scalar-of-requires Inv-loop μ-loop
+scalar-of-requires c κs = search needs
+
+mul-room-5 : tie.Need-mul-room-5 Inv-loop μ-loop
+mul-room-5 c =
+    let at-loop = c .before .before .before .before .before .before .before .before .before .before .before .before .before .before .before .before .before .before .before .before .before .loop in
+    omega (arith, at-place (at-loop .inv .0) .1, at-loop .inv .0 .runs .size, at-loop .inv .1)
+
+slice-write-room-5 : tie.Need-slice-write-room-5 Inv-loop μ-loop
+slice-write-room-5 c =
+    let at-loop = c .before .before .before .before .before .before .before .before .before .before .before .before .before .before .before .before .before .before .before .before .before .loop in
+    omega (arith, at-place (at-loop .inv .0) .1)
+
+add-o-6 : tie.Need-add-o-6 Inv-loop μ-loop
+add-o-6 c =
+    let at-loop = c .before .before .before .before .before .before .before .before .before .before .before .before .before .before .before .before .before .before .before .before .before .loop in
+    omega (arith, at-place (at-loop .inv .0) .1, at-loop .inv .0 .runs .size, at-loop .inv .1)
+
+cast-i : tie.Need-cast-i Inv-loop μ-loop
+cast-i c = search needs
+
+add-i-6 : tie.Need-add-i-6 Inv-loop μ-loop
+add-i-6 c =
+    let at-loop = c .before .before .before .before .before .before .before .before .before .before .before .before .before .before .before .before .before .before .before .before .before .before .loop in
     let at-next-at = c .before .before .before .next-at in
     let at-scalar-of = c .before .before .scalar-of in
-    let at-if5 = c .before .if5 in
-    (found-gives (at-loop .inv .0) (at-next-at .result) (at-next-at .ensures) (at-scalar-of .ensures (at-if5 .left)), at-loop .inv .1)
+    let at-if6 = c .before .if6 in
+    omega (arith, at-loop .inv .0 .short, found-width (at-loop .inv .0) (at-next-at .result) (at-next-at .ensures) (at-scalar-of .ensures (at-if6 .left) .is) .1)
+
+loop-less-6 : tie.Need-loop-less-6 Inv-loop μ-loop
+loop-less-6 c =
+    let at-loop = c .before .before .before .before .before .before .before .before .before .before .before .before .before .before .before .before .before .before .before .before .before .before .loop in
+    let at-next-at = c .before .before .before .next-at in
+    let at-scalar-of = c .before .before .scalar-of in
+    let at-if6 = c .before .if6 in
+    omega (arith, found-width (at-loop .inv .0) (at-next-at .result) (at-next-at .ensures) (at-scalar-of .ensures (at-if6 .left) .is))
+
+loop-again-6 : tie.Need-loop-again-6 Inv-loop μ-loop
+loop-again-6 c =
+    let at-loop = c .before .before .before .before .before .before .before .before .before .before .before .before .before .before .before .before .before .before .before .before .before .before .loop in
+    let at-next-at = c .before .before .before .next-at in
+    let at-scalar-of = c .before .before .scalar-of in
+    let at-if6 = c .before .if6 in
+    (found-gives (at-loop .inv .0) (at-next-at .result) (at-next-at .ensures) (at-scalar-of .ensures (at-if6 .left)), at-loop .inv .1)
 
 same-length : tie.Need-same-length Inv-loop μ-loop
 same-length c = c .before .loop .inv .0 .runs .size
@@ -240,14 +290,10 @@ returns : tie.Need-returns Inv-loop μ-loop
 returns c = c .before .loop .inv .0 .runs
 
 same-length-2 : tie.Need-same-length-2 Inv-loop μ-loop
-same-length-2 c =
-    let at-loop = c .before .before .before .before .before .before .before .before .before .before .before .before .before .before .before .before .before .before .loop in
-    at-loop .inv .0 .runs .size
+same-length-2 c = c .before .before .before .before .before .before .before .before .before .before .before .before .before .before .before .before .before .before .before .before .before .loop .inv .0 .runs .size
 
 returns-2 : tie.Need-returns-2 Inv-loop μ-loop
-returns-2 c =
-    let at-loop = c .before .before .before .before .before .before .before .before .before .before .before .before .before .before .before .before .before .before .loop in
-    at-loop .inv .0 .runs
+returns-2 c = c .before .before .before .before .before .before .before .before .before .before .before .before .before .before .before .before .before .before .before .before .before .loop .inv .0 .runs
 
 pub utf8-run-spec : {M : Type 1} → statement M
 utf8-run-spec =
@@ -296,15 +342,24 @@ utf8-run-spec =
     add-o-4
     loop-less-4
     loop-again-4
-    next-at-requires
-    scalar-of-requires
+    add-is-bad
+    shared-slice-read-is-bad
+    is-bad-requires
     mul-room-4
     slice-write-room-4
-    add-o-5
-    cast-i
     add-i-5
+    add-o-5
     loop-less-5
     loop-again-5
+    next-at-requires
+    scalar-of-requires
+    mul-room-5
+    slice-write-room-5
+    add-o-6
+    cast-i
+    add-i-6
+    loop-less-6
+    loop-again-6
     same-length
     returns
     same-length-2

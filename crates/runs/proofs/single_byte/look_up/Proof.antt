@@ -1,77 +1,135 @@
 use borrow.Author.Needs.{needs}
 use native.Mathlib.Omega.{arith}
-use mathlib.Core.Path.{_≡_, refl, ap, _∙_}
+use mathlib.Core.Path.{_≡_, refl, sym, ap, _∙_, subst}
+use mathlib.Core.List.{List}
 use Prim.Native.Nat.{ℕ, _+_, _-_, _≤_, _<_}
 use lib.ListN.{length, getD, length-set}
 use Rattle.runs.specs.Run.{patch}
 use Rattle.runs.specs.Units.{values}
-use Rattle.runs.proofs.Values.{wrote-more}
+use Rattle.runs.proofs.Values.{below-add, wrote-more, wrote-on}
 use Rattle.runs.proofs.Patches.{patch-none}
 use borrow.Author.Count.{below-more}
 use Rattle.runs.proofs.single_byte.look_up.Statement.{statement}
 use Rattle.runs.proofs.single_byte.look_up.Tie as tie
 
+-- the cell of a byte
+abbrev cell : List ℕ → List ℕ → ℕ → ℕ → ℕ
+cell table chunk from j = getD table (getD chunk (from + j) 0) 0
+
+-- so many bytes looked up
+abbrev Looked : List ℕ → List ℕ → ℕ → ℕ → List ℕ → ℕ → List ℕ → Type 0
+Looked table chunk from place room₀ k room = ((j : ℕ) → j < k → getD chunk (from + j) 0 < 256) × (room ≡ patch place (values (cell table chunk from) k) room₀)
+
 abbrev Inv-loop : tie.InvT-loop
-Inv-loop table chunk from room₀ place n k₀ room k = (k ≤ n) × (length room ≡ length room₀) × ((j : ℕ) → j < k → getD chunk (from + j) 0 < 256) × (room ≡ patch place (values (λ (j : ℕ). getD table (getD chunk (from + j) 0) 0) k) room₀)
+Inv-loop table chunk from room₀ place n k₀ room k = (k ≤ n) × (length room ≡ length room₀) × Looked table chunk from place room₀ k room
 
 abbrev μ-loop : tie.MeasureT-loop
 μ-loop table chunk from room₀ place n k₀ room k = n - k
 
-sub-n : tie.Need-sub-n Inv-loop μ-loop
+-- Its first room is the one the first loop left: r is the one before both.
+abbrev Inv-loop2 : tie.InvT-loop2
+Inv-loop2 table chunk from room₀ place n k₀ room k = (k ≤ n) × (length room ≡ length room₀) × ((r : List ℕ) → length r ≡ length room₀ → Looked table chunk from place r k₀ room₀ → Looked table chunk from place r k room)
+
+abbrev μ-loop2 : tie.MeasureT-loop2
+μ-loop2 table chunk from room₀ place n k₀ room k = n - k
+
+sub-n : tie.Need-sub-n Inv-loop μ-loop Inv-loop2 μ-loop2
 sub-n c = search needs
 
-loop-holds : tie.Need-loop-holds Inv-loop μ-loop
+loop-holds : tie.Need-loop-holds Inv-loop μ-loop Inv-loop2 μ-loop2
 unfolding values
 loop-holds c =
     let args = c .before .before .before .args in
-    (omega arith, refl, λ j l. absurd (omega arith), patch-none (args .room .now) (args .place))
+    (omega arith, refl, (λ j l. absurd (omega arith), patch-none (args .room .now) (args .place)))
 
-add-place-of : tie.Need-add-place-of Inv-loop μ-loop
-add-place-of c = search needs
+sub-loop : tie.Need-sub-loop Inv-loop μ-loop Inv-loop2 μ-loop2
+sub-loop c = search needs
 
-shared-slice-read-place-of : tie.Need-shared-slice-read-place-of Inv-loop μ-loop
-shared-slice-read-place-of c = search needs
+add-look-up-eight : tie.Need-add-look-up-eight Inv-loop μ-loop Inv-loop2 μ-loop2
+add-look-up-eight c = search needs
 
-place-of-requires : tie.Need-place-of-requires Inv-loop μ-loop
-place-of-requires c κs = search needs
+add-look-up-eight-2 : tie.Need-add-look-up-eight-2 Inv-loop μ-loop Inv-loop2 μ-loop2
+add-look-up-eight-2 c = search needs
 
-mul-room : tie.Need-mul-room Inv-loop μ-loop
-mul-room c = search needs
+look-up-eight-requires : tie.Need-look-up-eight-requires Inv-loop μ-loop Inv-loop2 μ-loop2
+look-up-eight-requires c κs = search needs
 
-shared-slice-read-room : tie.Need-shared-slice-read-room Inv-loop μ-loop
-shared-slice-read-room c = search needs
-
-add-room : tie.Need-add-room Inv-loop μ-loop
-add-room c = search needs
-
-mul-room-2 : tie.Need-mul-room-2 Inv-loop μ-loop
-mul-room-2 c = search needs
-
-slice-write-room : tie.Need-slice-write-room Inv-loop μ-loop
-slice-write-room c = search needs
-
-add-k : tie.Need-add-k Inv-loop μ-loop
+add-k : tie.Need-add-k Inv-loop μ-loop Inv-loop2 μ-loop2
 add-k c = search needs
 
-loop-less : tie.Need-loop-less Inv-loop μ-loop
+loop-less : tie.Need-loop-less Inv-loop μ-loop Inv-loop2 μ-loop2
 loop-less c = search needs
 
-loop-again : tie.Need-loop-again Inv-loop μ-loop
+loop-again : tie.Need-loop-again Inv-loop μ-loop Inv-loop2 μ-loop2
 loop-again c =
-    let args = c .before .before .before .before .before .before .before .before .args in
-    let at-loop = c .before .before .before .before .loop in
-    let f : ℕ → ℕ = λ (j : ℕ). getD (args .table .now) (getD (args .chunk .now) (args .from + j) 0) 0 in
-    (omega arith, simp length-set (at-loop .inv .1), below-more _ _ (at-loop .inv .2) (c .before .place-of .ensures .1), wrote-more (args .room .now) (at-loop .room) (args .place) f (at-loop .k) (at-loop .inv .3) (omega arith) (getD (args .table .now) (c .before .place-of .result) 0) (ap (λ (j : ℕ). getD (args .table .now) j 0) (c .before .place-of .ensures .0)))
+    let args = c .before .before .before .before .before .before .before .before .before .args in
+    let at-loop = c .before .before .before .before .before .loop in
+    let at-eight = c .before .before .look-up-eight in
+    let chunk = args .chunk .now in
+    let f = cell (args .table .now) chunk (args .from) in
+    let g = cell (args .table .now) chunk (args .from + at-loop .k) in
+    let on : (j : ℕ) → args .from + at-loop .k + j ≡ args .from + (at-loop .k + j) = λ j. omega arith in
+    let low = below-add (λ (j : ℕ). getD chunk (args .from + j) 0 < 256) (at-loop .k) 8 (at-loop .inv .2 .0) (λ j l. subst (λ (n : ℕ). getD chunk n 0 < 256) (on j) (at-eight .ensures .0 j l)) in
+    let wrote = wrote-on (args .room .now) (at-loop .room) _ (args .place) f g (at-loop .k) 8 (at-loop .inv .2 .1) (at-eight .ensures .1) (λ j l. ap (λ (n : ℕ). getD (args .table .now) (getD chunk n 0) 0) (on j)) (omega arith) in
+    (omega arith, omega arith, (low, wrote))
 
-same-length : tie.Need-same-length Inv-loop μ-loop
-same-length c = c .before .loop .inv .1
+loop2-holds : tie.Need-loop2-holds Inv-loop μ-loop Inv-loop2 μ-loop2
+loop2-holds c = (c .before .loop .inv .0, refl, λ r e q. q)
 
-returns : tie.Need-returns Inv-loop μ-loop
+add-place-of : tie.Need-add-place-of Inv-loop μ-loop Inv-loop2 μ-loop2
+add-place-of c = search needs
+
+shared-slice-read-place-of : tie.Need-shared-slice-read-place-of Inv-loop μ-loop Inv-loop2 μ-loop2
+shared-slice-read-place-of c = search needs
+
+place-of-requires : tie.Need-place-of-requires Inv-loop μ-loop Inv-loop2 μ-loop2
+place-of-requires c κs = search needs
+
+mul-room : tie.Need-mul-room Inv-loop μ-loop Inv-loop2 μ-loop2
+mul-room c = search needs
+
+shared-slice-read-room : tie.Need-shared-slice-read-room Inv-loop μ-loop Inv-loop2 μ-loop2
+shared-slice-read-room c = search needs
+
+add-room : tie.Need-add-room Inv-loop μ-loop Inv-loop2 μ-loop2
+add-room c = search needs
+
+mul-room-2 : tie.Need-mul-room-2 Inv-loop μ-loop Inv-loop2 μ-loop2
+mul-room-2 c = search needs
+
+slice-write-room : tie.Need-slice-write-room Inv-loop μ-loop Inv-loop2 μ-loop2
+slice-write-room c = search needs
+
+add-k-2 : tie.Need-add-k-2 Inv-loop μ-loop Inv-loop2 μ-loop2
+add-k-2 c = search needs
+
+loop2-less : tie.Need-loop2-less Inv-loop μ-loop Inv-loop2 μ-loop2
+loop2-less c = search needs
+
+loop2-again : tie.Need-loop2-again Inv-loop μ-loop Inv-loop2 μ-loop2
+loop2-again c =
+    let args = c .before .before .before .before .before .before .before .before .before .before .args in
+    let at-loop2 = c .before .before .before .before .loop2 in
+    let at-place-of = c .before .place-of in
+    let f = cell (args .table .now) (args .chunk .now) (args .from) in (
+      omega arith,
+      simp length-set (at-loop2 .inv .1),
+      λ r e q.
+          let h = at-loop2 .inv .2 r e q in
+          (below-more _ _ (h .0) (at-place-of .ensures .1), wrote-more r (at-loop2 .room) (args .place) f (at-loop2 .k) (h .1) (omega (arith, e)) (getD (args .table .now) (at-place-of .result) 0) (ap (λ (j : ℕ). getD (args .table .now) j 0) (at-place-of .ensures .0))),
+    )
+
+same-length : tie.Need-same-length Inv-loop μ-loop Inv-loop2 μ-loop2
+same-length c = c .before .loop2 .inv .1 ∙ c .before .before .before .loop .inv .1
+
+returns : tie.Need-returns Inv-loop μ-loop Inv-loop2 μ-loop2
 returns c =
-    let args = c .before .before .before .before .before .args in
-    let at-loop = c .before .loop in
-    let all : at-loop .k ≡ length (args .chunk .now) - args .from = omega arith in
-    (λ j l. at-loop .inv .2 j (omega arith), at-loop .inv .3 ∙ ap (λ (n : ℕ). patch (args .place) (values (λ (j : ℕ). getD (args .table .now) (getD (args .chunk .now) (args .from + j) 0) 0) n) (args .room .now)) all)
+    let args = c .before .before .before .before .before .before .before .args in
+    let at-loop = c .before .before .before .loop in
+    let at-loop2 = c .before .loop2 in
+    let h = at-loop2 .inv .2 (args .room .now) (sym (at-loop .inv .1)) (at-loop .inv .2) in
+    let all : at-loop2 .k ≡ length (args .chunk .now) - args .from = omega arith in
+    (λ j l. h .0 j (omega arith), h .1 ∙ ap (λ (n : ℕ). patch (args .place) (values (cell (args .table .now) (args .chunk .now) (args .from)) n) (args .room .now)) all)
 
 pub look-up-spec : {M : Type 1} → statement M
 look-up-spec =
@@ -79,8 +137,18 @@ look-up-spec =
     (tie.spec
     Inv-loop
     μ-loop
+    Inv-loop2
+    μ-loop2
     sub-n
     loop-holds
+    sub-loop
+    add-look-up-eight
+    add-look-up-eight-2
+    look-up-eight-requires
+    add-k
+    loop-less
+    loop-again
+    loop2-holds
     add-place-of
     shared-slice-read-place-of
     place-of-requires
@@ -89,8 +157,8 @@ look-up-spec =
     add-room
     mul-room-2
     slice-write-room
-    add-k
-    loop-less
-    loop-again
+    add-k-2
+    loop2-less
+    loop2-again
     same-length
     returns)
