@@ -2,6 +2,7 @@ pub mod Dispatch
 pub mod Scalars
 pub mod Or
 pub mod Stretches
+pub mod Layouts
 pub mod Pairing
 pub mod GoodUtf8
 pub mod GbRuns

@@ -1,12 +1,11 @@
 -- Pairs by rows and columns, in the encodings of one and two bytes and in gb18030. Assumes nothing.
-use mathlib.Core.Path.{_≡_, refl, sym, ap, _∙_, subst}
-use mathlib.Core.Bool.{Bool, true, false, _&&_, _||_}
+use mathlib.Core.Path.{_≡_, refl, sym, ap, _∙_}
+use mathlib.Core.Bool.{Bool, true, false, _||_}
 use mathlib.Core.List.{List, [], _∷_}
 use Prim.Native.Nat.{ℕ, _+_, _-_, _*_, _/_, _%_, _≤_, _<_}
 use native.Mathlib.Omega.{arith}
 use lib.Dec.{ltb, leb, eqb}
-use lib.ListN.{length, getD, set, length-set}
-use lib.Seq.{getD-set-same, getD-set-other}
+use lib.ListN.{length}
 use borrow.Author.Tests.{lt-ltb, le-ltb, lt-leb, le-leb, ltb-true, ltb-false, leb-true, leb-false, ne-eqb, eqb-true, eqb-false}
 use Rattle.standard.specs.Base.{_then_else_, within}
 use Rattle.standard.specs.Encodings.{family, lent}
@@ -19,74 +18,25 @@ use Rattle.standard.specs.Sequences.Gb18030.{gb18030, gbCode, gbPointer}
 use Rattle.standard.specs.Sequences.ShiftJis.{shiftJis, shiftJisCode, shiftJisPointer}
 use Rattle.standard.proofs.Tests.{split, or-case, under, above, within-low, within-high}
 use Rattle.index.proofs.Cells.{cell-out}
-use Rattle.runs.proofs.ByteRuns.{filled-more}
 use Rattle.sequences.proofs.Leaves.{in-range, out-above, from-low, trailed-some}
-use Rattle.multibyte.specs.Layout.{none, rowFrom, big5Row, shiftJisRow, row, columnFrom, splitColumn, column, Laid}
+use Rattle.multibyte.specs.Layout.{none, rowFrom, big5Row, shiftJisRow, row, columnFrom, splitColumn, column}
+use Rattle.multibyte.proofs.Layouts.{row-31, row-32, row-34, row-other, row-gb, column-gb, column-31, column-32, column-34, column-other}
 use Rattle.multibyte.proofs.Dispatch.{beyond, is-gb, is-big5, is-euc-jp, is-shift-jis, is-euc-kr}
 
 -- a lead with a row
-pub lead-from : (low width b : ℕ) → rowFrom low width b < none → within low b 0xFE ≡ true
+lead-from : (low width b : ℕ) → rowFrom low width b < none → within low b 0xFE ≡ true
 unfolding rowFrom
 lead-from low width b h = split (within low b 0xFE) (λ t. t) (λ f. absurd (let z : rowFrom low width b ≡ none = rw f in omega (arith, z, h)))
 
-pub lead-big5 : (b : ℕ) → big5Row b < none → (b ≡ 0x88 → ⊥) × (within 0x81 b 0xFE ≡ true)
+lead-big5 : (b : ℕ) → big5Row b < none → (b ≡ 0x88 → ⊥) × (within 0x81 b 0xFE ≡ true)
 unfolding big5Row
 lead-big5 b h = split (eqb b 0x88) (λ t. absurd (let z : big5Row b ≡ none = rw t in omega (arith, z, h))) (λ f. let z : big5Row b ≡ rowFrom 0x81 157 b = rw f in (eqb-false b 0x88 f, lead-from 0x81 157 b (omega (arith, z, h))))
 
-pub lead-shift-jis : (b : ℕ) → shiftJisRow b < none → (within 0xA0 b 0xDF ≡ false) × (within 0x81 b 0xFC ≡ true)
+lead-shift-jis : (b : ℕ) → shiftJisRow b < none → (within 0xA0 b 0xDF ≡ false) × (within 0x81 b 0xFC ≡ true)
 unfolding shiftJisRow
 lead-shift-jis b h =
     split (within 0xA0 b 0xDF) (λ t. absurd (let z : shiftJisRow b ≡ none = rw t in omega (arith, z, h))) (λ f.
     split (within 0x81 b 0xFC) (λ t. (f, t)) (λ g. absurd (let z : shiftJisRow b ≡ none = rw (f, g) in omega (arith, z, h))))
-
--- its row number is not below 0
-pub row-above : (b : ℕ) → within 0x81 b 0xFC ≡ true → within 0xA0 b 0xDF ≡ false → 1 ≤ b % 64
-row-above b t f = let l = within-low 0x81 b 0xFC t in let h = within-high 0x81 b 0xFC t in split (ltb b 0xA0) (λ u. let m = ltb-true b 0xA0 u in omega arith) (λ u. let m = out-above 0xA0 b 0xDF f (ltb-false b 0xA0 u) in omega arith)
-
--- what is skipped is not more than a trail is above 40
-pub skipped : (c skip : ℕ) → c < 256 → skip ≤ 34 → (c / 128 * skip ≤ 34) × (0x40 ≤ c → c / 128 * skip ≤ c - 0x40)
-skipped c skip l h = split (ltb c 128) (λ t. let m = ltb-true c 128 t in let z : c / 128 ≡ 0 = omega arith in rw z (omega arith, λ k. omega arith)) (λ f. let m = ltb-false c 128 f in let z : c / 128 ≡ 1 = omega arith in rw z (omega arith, λ k. omega arith))
-
--- rows and columns by the encoding
-module _ (e b : ℕ) where
-  pub row-31 : e ≡ 31 → row e b ≡ big5Row b
-  unfolding row
-  row-31 k = rw k
-
-  pub row-32 : e ≡ 32 → row e b ≡ rowFrom 0xA1 94 b
-  unfolding row
-  row-32 k = rw k
-
-  pub row-34 : e ≡ 34 → row e b ≡ shiftJisRow b
-  unfolding row
-  row-34 k = rw k
-
-  pub row-other : (e ≡ 31 → ⊥) → (e ≡ 32 → ⊥) → (e ≡ 34 → ⊥) → row e b ≡ rowFrom 0x81 190 b
-  unfolding row
-  row-other f g h = rw (ne-eqb e 31 f, ne-eqb e 32 g, ne-eqb e 34 h)
-
-  pub row-gb : e ≤ 30 → row e b ≡ rowFrom 0x81 190 b
-  row-gb k = row-other (λ z. omega arith) (λ z. omega arith) (λ z. omega arith)
-
-  pub column-gb : e ≤ 30 → column e b ≡ splitColumn 0x7F 1 0xFE b
-  unfolding column
-  column-gb k = rw (le-leb e 30 k)
-
-  pub column-31 : e ≡ 31 → column e b ≡ splitColumn 0xA0 34 0xFE b
-  unfolding column
-  column-31 k = rw k
-
-  pub column-32 : e ≡ 32 → column e b ≡ columnFrom 0xA1 b
-  unfolding column
-  column-32 k = rw k
-
-  pub column-34 : e ≡ 34 → column e b ≡ splitColumn 0x7F 1 0xFC b
-  unfolding column
-  column-34 k = rw k
-
-  pub column-other : 30 < e → (e ≡ 31 → ⊥) → (e ≡ 32 → ⊥) → (e ≡ 34 → ⊥) → column e b ≡ columnFrom 0x41 b
-  unfolding column
-  column-other l f g h = rw (lt-leb e 30 l, ne-eqb e 31 f, ne-eqb e 32 g, ne-eqb e 34 h)
 
 -- the trails on both sides of a gap
 module _ (gap skip high : ℕ) (g : 0x7F ≤ gap) (k : gap < high) (m : high ≤ 0xFE) where
@@ -281,26 +231,3 @@ module _ (t1 t2 : List ℕ) (b : ℕ) (xs : List ℕ) where
   pub kana-pair : (c : ℕ) → b ≡ 0x8E → within 0xA1 c 0xDF ≡ true → next (lent t1 t2) (family 32) plain (b ∷ c ∷ xs) ≡ scalar 2 (0xFF61 - 0xA1 + c)
   unfolding eucJp
   kana-pair c h k = is-euc-jp t1 t2 32 plain (b ∷ c ∷ xs) refl ∙ rw (h, k) (trailed-some 1 2 c (0xFF61 - 0xA1 + c) (λ z. omega arith))
-
--- a table of rows and columns, filled up to a byte
-pub record Laying (e : ℕ) (layout : List ℕ) (n : ℕ) : Type 0 where
-  pub size : length layout ≡ 512
-  pub bound : n ≤ 256
-  pub rows : (b : ℕ) → b < n → getD layout b 0 ≡ row e b
-  pub columns : (c : ℕ) → c < n → getD layout (256 + c) 0 ≡ column e c
-
-pub laying-start : (e : ℕ) (layout : List ℕ) → length layout ≡ 512 → Laying e layout 0
-laying-start e layout h = record { size = h; bound = omega arith; rows = λ b l. absurd (omega arith); columns = λ c l. absurd (omega arith) }
-
-pub laying-on : {e : ℕ} {layout : List ℕ} {n : ℕ} {v w : ℕ} → Laying e layout n → n < 256 → v ≡ row e n → w ≡ column e n → Laying e (set (set layout n v) (256 + n) w) (n + 1)
-laying-on {e} {layout} {n} {v} {w} L h p q = record {
-  size = length-set (set layout n v) (256 + n) w ∙ length-set layout n v ∙ L .size;
-  bound = omega arith;
-  rows = λ b l. getD-set-other (set layout n v) (256 + n) b w 0 (λ z. omega arith) ∙ filled-more (row e) layout n v (omega (arith, L .size)) (L .rows) p b l;
-  columns = λ c l. split (eqb c n)
-      (λ t. let z = eqb-true c n t in rw z (getD-set-same (set layout n v) (256 + n) w 0 (omega (arith, L .size, length-set layout n v)) ∙ q))
-      (λ f. let z = eqb-false c n f in getD-set-other (set layout n v) (256 + n) (256 + c) w 0 (λ y. omega arith) ∙ getD-set-other layout n (256 + c) v 0 (λ y. omega arith) ∙ L .columns c (omega arith));
-}
-
-pub laying-done : {e : ℕ} {layout : List ℕ} {n : ℕ} → Laying e layout n → 256 ≤ n → Laid e layout
-laying-done L h = record { size = L .size; rows = λ b l. L .rows b (omega arith); columns = λ c l. L .columns c (omega arith) }

@@ -36,6 +36,31 @@ fn equal<T: PartialEq + Debug>(what: &str, library: T, reference: T) -> Result<(
     ))
 }
 
+/// Compares lists, and shows some of each from the first place on where they differ.
+fn lists<T: PartialEq + Debug>(what: &str, library: &[T], reference: &[T]) -> Result<(), String> {
+    let same = library
+        .iter()
+        .zip(reference)
+        .take_while(|(one, other)| one == other);
+    let place = same.count();
+    let some = |list: &[T]| {
+        list[place..]
+            .iter()
+            .take(16)
+            .map(|cell| format!("{cell:02X?}"))
+            .collect::<Vec<_>>()
+            .join(" ")
+    };
+    if place == library.len() && place == reference.len() {
+        return Ok(());
+    }
+    Err(format!(
+        "{what} from {place} on (hex): expected {}, came {}",
+        some(reference),
+        some(library)
+    ))
+}
+
 /// Compares what a call wrote to the front of its room, and what stood behind it.
 fn rooms<T: PartialEq + Debug + Copy>(
     what: &str,
@@ -44,7 +69,7 @@ fn rooms<T: PartialEq + Debug + Copy>(
     reference: &[T],
     before: fn(usize) -> T,
 ) -> Result<(), String> {
-    equal(what, &room[..written.min(room.len())], reference)?;
+    lists(what, &room[..written.min(room.len())], reference)?;
     numbers("written", written, reference.len())?;
     for (place, &cell) in room.iter().enumerate().skip(written) {
         if cell != before(place) {

@@ -54,13 +54,14 @@ fn good(encoding: u8, bytes: &[u8], tables: Tables) -> bool {
     answer.refusal == 0 && answer.record.held == 0
 }
 
-/// A text of at least so many bytes: stretches of ASCII, good sequences and, where errors are wanted, other bytes.
+/// A text of at least so many bytes: stretches of ASCII, short and long, good sequences and, where errors are wanted, other bytes.
 fn text(encoding: u8, length: usize, errors: bool, tables: Tables, random: &mut Random) -> Vec<u8> {
     let mut bytes = Vec::new();
     while bytes.len() < length {
         match random.below(8) {
             0 | 1 => {
-                for _ in 0..1 + random.below(40) {
+                let longest = random.pick(&[2, 40, 40, 400]);
+                for _ in 0..1 + random.below(longest) {
                     let byte = 0x20 + random.below(0x5F) as u8;
                     match encoding {
                         37 => bytes.extend([0, byte]),
@@ -105,6 +106,17 @@ fn compare_text(
     compare::finish(record, record.held.into()).map(drop)
 }
 
+/// All pairs with one of 16 leads, a separator behind each: long enough for the tables that a run makes.
+fn pairs(first: u8) -> Vec<u8> {
+    let mut bytes = Vec::new();
+    for lead in first..=first + 15 {
+        for trail in 0..=0xFF {
+            bytes.extend([lead, trail, b'\t']);
+        }
+    }
+    bytes
+}
+
 pub fn texts(published: &Published, seed: u64) -> Result<String, String> {
     let mut random = Random(seed);
     let lists = Lists::new(published, &mut random);
@@ -112,9 +124,20 @@ pub fn texts(published: &Published, seed: u64) -> Result<String, String> {
     for encoding in 0..40 {
         for variant in 0..VARIANTS {
             let tables = lists.tables(encoding, variant, 0);
+            for first in (0..16).map(|group| 16 * group) {
+                let bytes = pairs(first);
+                compare_text(encoding, 0, tables, &bytes, 0).map_err(|error| {
+                    format!(
+                        "{} with the tables {variant}, all pairs with the leads from {first:02X} on in one chunk\n  {error}",
+                        name(encoding)
+                    )
+                })?;
+                count += 1;
+                total += bytes.len();
+            }
             for turn in 0..8 {
                 let mode = turn % 2;
-                let length = random.pick(&[300, 600, 1500, 5000]);
+                let length = random.pick(&[300, 1500, 5000, 12000]);
                 let bytes = text(encoding, length, turn < 4, tables, &mut random);
                 let cut = if turn % 4 < 2 {
                     0

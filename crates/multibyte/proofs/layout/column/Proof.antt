@@ -1,4 +1,4 @@
-use Rattle.multibyte.proofs.Pairing.{column-gb, column-31, column-32, column-34, column-other}
+use Rattle.multibyte.proofs.Layouts.{column-gb, column-31, column-32, column-34, column-other}
 use mathlib.Core.Path.{sym, _∙_}
 use native.Mathlib.Omega.{arith}
 use borrow.Author.Needs.{needs}

@@ -1,4 +1,4 @@
-use Rattle.multibyte.proofs.Pairing.{Laying, laying-start, laying-on, laying-done}
+use Rattle.multibyte.proofs.Layouts.{Laying, laying-start, laying-on, laying-done}
 use Rattle.multibyte.specs.Layout.{row, column}
 use lib.ListN.{length-set}
 use mathlib.Core.Path.{sym, _∙_}

@@ -1,4 +1,4 @@
-use Rattle.multibyte.proofs.Pairing.{row-gb, row-31, row-32, row-34, row-other, column-gb, column-31, column-32, column-34, column-other}
+use Rattle.multibyte.proofs.Layouts.{row-gb, row-31, row-32, row-34, row-other, column-gb, column-31, column-32, column-34, column-other}
 use native.Mathlib.Omega.{arith}
 use borrow.Author.Needs.{needs}
 use Rattle.multibyte.proofs.layout.pointer.Statement.{statement}

@@ -1,4 +1,4 @@
-use Rattle.multibyte.proofs.Pairing.{row-31, row-32, row-34, row-other}
+use Rattle.multibyte.proofs.Layouts.{row-31, row-32, row-34, row-other}
 use mathlib.Core.Path.{sym, _∙_}
 use native.Mathlib.Omega.{arith}
 use borrow.Author.Needs.{needs}

@@ -1,4 +1,4 @@
-use Rattle.multibyte.proofs.Pairing.{row-above}
+use Rattle.multibyte.proofs.Layouts.{row-above}
 use Rattle.multibyte.specs.Layout.{shiftJisRow}
 use mathlib.Core.Path.{sym, _∙_}
 use borrow.Author.Needs.{needs}

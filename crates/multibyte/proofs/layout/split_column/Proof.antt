@@ -1,4 +1,4 @@
-use Rattle.multibyte.proofs.Pairing.{skipped}
+use Rattle.multibyte.proofs.Layouts.{skipped}
 use Rattle.multibyte.specs.Layout.{splitColumn}
 use Rattle.standard.proofs.Tests.{within-low}
 use mathlib.Core.Path.{sym, _∙_}
