@@ -1,4 +1,4 @@
-// Rows and columns of an index by the bytes of a pair.
+// Rows and columns of an index by the bytes of a pair. 32768 is none: it is past the end of every table.
 
 use sequences::within;
 ghost use mathlib.Core.Path.{_≡_};
@@ -6,6 +6,7 @@ ghost use Prim.Native.Nat.{_+_, _≤_, _<_};
 ghost use lib.ListN.{length, getD};
 ghost use Rattle.multibyte.specs.Layout.{rowFrom, big5Row, shiftJisRow, row, columnFrom, splitColumn, column, Laid};
 
+// A row of `width` cells for each lead from `low` to FE.
 fn row_from(low: u8, width: u16, lead: u8) -> u16
     requires { ⌜ width ≤ 190 ⌝ }
     ensures { λ r. ⌜ r ≡ rowFrom low width lead ⌝ }
@@ -16,6 +17,7 @@ fn row_from(low: u8, width: u16, lead: u8) -> u16
     32768
 }
 
+// In Big5 the lead 88, which has pairs of two scalars, has no row.
 fn big5_row(lead: u8) -> u16
     ensures { λ r. ⌜ r ≡ big5Row lead ⌝ }
 {
@@ -25,6 +27,7 @@ fn big5_row(lead: u8) -> u16
     row_from(0x81, 157, lead)
 }
 
+// In Shift_JIS the leads are in two halves; the row is found without a branch.
 fn shift_jis_row(lead: u8) -> u16
     ensures { λ r. ⌜ r ≡ shiftJisRow lead ⌝ }
 {
@@ -37,6 +40,7 @@ fn shift_jis_row(lead: u8) -> u16
     32768
 }
 
+// The row of a lead.
 pub(crate) fn row(encoding: u8, lead: u8) -> u16
     ensures { λ r. ⌜ r ≡ row encoding lead ⌝ }
 {
@@ -52,6 +56,7 @@ pub(crate) fn row(encoding: u8, lead: u8) -> u16
     row_from(0x81, 190, lead)
 }
 
+// A column for each trail from `low` to FE.
 fn column_from(low: u8, trail: u8) -> u16
     ensures { λ r. ⌜ r ≡ columnFrom low trail ⌝ }
 {
@@ -61,7 +66,7 @@ fn column_from(low: u8, trail: u8) -> u16
     32768
 }
 
-// Trails on both sides of a gap; above it without a branch.
+// A column for each trail from 40 to `high`, but for those from 7F to `gap`; above it they are `skip` fewer, without a branch.
 fn split_column(gap: u8, skip: u8, high: u8, trail: u8) -> u16
     requires { ⌜ skip ≤ 34 ⌝ }
     ensures { λ r. ⌜ r ≡ splitColumn gap skip high trail ⌝ }
@@ -75,6 +80,7 @@ fn split_column(gap: u8, skip: u8, high: u8, trail: u8) -> u16
     32768
 }
 
+// The column of a trail.
 fn column(encoding: u8, trail: u8) -> u16
     ensures { λ r. ⌜ r ≡ column encoding trail ⌝ }
 {

@@ -70,7 +70,7 @@ fn replaced(mode: u8) -> u32
     0xFFFD
 }
 
-// The scalar of a single byte of Shift_JIS, 0 for none.
+// The scalar of a single byte of Shift_JIS, 0 for none: a lead, or an error in mode 1.
 fn shift_jis_single(mode: u8, b: u8) -> u32
     requires { ⌜ 0x80 ≤ b ⌝ }
     ensures { λ r. ⌜ ((r ≡ 0 → ⊥) → (t1 t2 xs : List ℕ) → Gives mode (next (lent t1 t2) (family 34) plain (b ∷ xs)) 1 plain r) ⌝ }
@@ -90,7 +90,7 @@ fn shift_jis_single(mode: u8, b: u8) -> u32
     0
 }
 
-// Of EUC-JP, where it is an error.
+// Of EUC-JP, where every single byte is an error.
 fn euc_jp_single(mode: u8, b: u8) -> u32
     requires { ⌜ 0x80 ≤ b ⌝ }
     ensures { λ r. ⌜ ((r ≡ 0 → ⊥) → (t1 t2 xs : List ℕ) → Gives mode (next (lent t1 t2) (family 32) plain (b ∷ xs)) 1 plain r) ⌝ }
@@ -107,7 +107,7 @@ fn euc_jp_single(mode: u8, b: u8) -> u32
     replaced(mode)
 }
 
-// Of the other encodings.
+// Of any encoding with pairs.
 fn single(encoding: u8, mode: u8, b: u8) -> u32
     requires { ⌜ (29 ≤ encoding) × (encoding ≤ 35) × (encoding ≡ 33 → ⊥) × (0x80 ≤ b) ⌝ }
     ensures { λ r. ⌜ ((r ≡ 0 → ⊥) → (t1 t2 xs : List ℕ) → Gives mode (next (lent t1 t2) (family encoding) plain (b ∷ xs)) 1 plain r) ⌝ }
