@@ -240,6 +240,9 @@ fn go(
         );
     }
     if encoding <= 35 {
+        if chunk.len() - from < 2 {
+            return still(from, place, state, flag);
+        }
         if 32768 < t1.len() {
             return still(from, place, state, flag);
         }

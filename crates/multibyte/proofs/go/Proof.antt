@@ -62,6 +62,9 @@ returns-5 c =
     let at-run = c .before .before .run in
     at-run .ensures
 
+sub-if7 : tie.Need-sub-if7
+sub-if7 c = search needs
+
 still-requires-3 : tie.Need-still-requires-3
 still-requires-3 c κs = search needs
 
@@ -70,15 +73,23 @@ returns-6 c =
     let args = c .before .before .before .before .before .before .before .before .before .before .before .before .args in
     rw (c .still3 .ensures) (runs-none (lent (args .t1 .now) (args .t2 .now)) (family (args .encoding)) (args .mode) (args .chunk .now) (args .from) (shift (args .state) (eqb (args .flag) 1)) (args .place) (args .room .now))
 
+still-requires-4 : tie.Need-still-requires-4
+still-requires-4 c κs = search needs
+
+returns-7 : tie.Need-returns-7
+returns-7 c =
+    let args = c .before .before .before .before .before .before .before .before .before .before .before .before .before .args in
+    rw (c .still4 .ensures) (runs-none (lent (args .t1 .now) (args .t2 .now)) (family (args .encoding)) (args .mode) (args .chunk .now) (args .from) (shift (args .state) (eqb (args .flag) 1)) (args .place) (args .room .now))
+
 pairs-run-requires : tie.Need-pairs-run-requires
 pairs-run-requires c κs = (omega arith, omega arith, omega arith, omega arith, omega arith, omega arith, omega arith)
 
 same-length-4 : tie.Need-same-length-4
 same-length-4 c = search needs
 
-returns-7 : tie.Need-returns-7
-returns-7 c =
-    let args = c .before .before .before .before .before .before .before .before .before .before .before .before .before .before .before .args in
+returns-8 : tie.Need-returns-8
+returns-8 c =
+    let args = c .before .before .before .before .before .before .before .before .before .before .before .before .before .before .before .before .args in
     let at-pairs-run = c .before .before .pairs-run in
     let s0 : args .state ≡ 0 = omega arith in
     let f0 : args .flag ≡ 0 = omega arith in rw (s0, f0) (at-pairs-run .ensures)
@@ -89,8 +100,8 @@ run-requires-2 c κs = search needs
 same-length-5 : tie.Need-same-length-5
 same-length-5 c = search needs
 
-returns-8 : tie.Need-returns-8
-returns-8 c =
+returns-9 : tie.Need-returns-9
+returns-9 c =
     let at-run2 = c .before .before .run2 in
     at-run2 .ensures
 
@@ -111,11 +122,14 @@ go-spec =
     run-requires
     same-length-3
     returns-5
+    sub-if7
     still-requires-3
     returns-6
+    still-requires-4
+    returns-7
     pairs-run-requires
     same-length-4
-    returns-7
+    returns-8
     run-requires-2
     same-length-5
-    returns-8)
+    returns-9)
