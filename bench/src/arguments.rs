@@ -40,7 +40,7 @@ impl Arguments {
         let mut arguments = Arguments {
             only: Vec::new(),
             parts: Vec::new(),
-            rounds: 7,
+            rounds: 15,
             size: 16 << 20,
             chunk: 65536,
             save: false,
