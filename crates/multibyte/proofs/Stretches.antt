@@ -8,17 +8,18 @@ use native.Mathlib.Nat.{add-zero}
 use lib.Dec.{T, ltb}
 use lib.ListN.{length, take, drop, getD, set, length-drop, length-set, take-append-drop}
 use lib.Seq.{sets, drop-drop, length-take-le, length-sets, getD-take, getD-drop, take-add}
-use borrow.Author.Tests.{ltb-true, ltb-false}
+use borrow.Author.Tests.{ltb-true}
 use Rattle.standard.specs.Encodings.{Family, Tables}
 use Rattle.standard.specs.Sequence.{Shift, Out, text, plain, scalar}
 use Rattle.standard.specs.Next.{next}
 use Rattle.standard.specs.Decode.{put, decode, shown, broken}
-use Rattle.standard.proofs.Tests.{split, T-true}
+use Rattle.standard.proofs.Tests.{T-true}
 use Rattle.standard.proofs.FamilyLaws.{keeps, next-laws}
 use Rattle.standard.proofs.Walk.{decode-item}
 use Rattle.runs.specs.Run.{patch, puts, Ran}
 use Rattle.multibyte.specs.Stretch.{four, Copied}
 use Rattle.runs.proofs.Patches.{patch-sets, patch-none, patch-patch}
+use Rattle.runs.proofs.Values.{below-add}
 use Rattle.runs.proofs.Fronts.{byte-at, four-at}
 use Rattle.runs.proofs.Running.{ran-on, Going, going-inside, going-space}
 
@@ -28,9 +29,7 @@ copied-none chunk from w room h = record { inside = omega arith; ascii = λ j l.
 
 -- bytes below 80 after others
 pub low-on : (chunk : List ℕ) (from j k : ℕ) → ((i : ℕ) → i < j → getD chunk (from + i) 0 < 0x80) → ((i : ℕ) → i < k → getD chunk (from + j + i) 0 < 0x80) → (i : ℕ) → i < j + k → getD chunk (from + i) 0 < 0x80
-low-on chunk from j k a b i h =
-    split (ltb i j) (λ t. a i (ltb-true i j t))
-    (λ t. let z : from + j + (i - j) ≡ from + i = omega (arith, ltb-false i j t) in subst (λ (x : ℕ). getD chunk x 0 < 0x80) z (b (i - j) (omega (arith, ltb-false i j t))))
+low-on chunk from j k a b = below-add (λ i. getD chunk (from + i) 0 < 0x80) j k a (λ i h. let z : from + j + i ≡ from + (j + i) = omega arith in subst (λ (x : ℕ). getD chunk x 0 < 0x80) z (b i h))
 
 -- bytes written after others
 pub wrote-on : (chunk : List ℕ) (from j k w : ℕ) (r : List ℕ) {r′ r″ : List ℕ} → from + j ≤ length chunk → w + j ≤ length r → r′ ≡ patch w (take j (drop from chunk)) r → r″ ≡ patch (w + j) (take k (drop (from + j) chunk)) r′ →
