@@ -5,7 +5,7 @@ use crate::decoders::{Host, Ours};
 use crate::inputs::{Input, Kind};
 use crate::measure::{compare, decoding, rounds, whole, Run};
 use crate::simple::Simple;
-use crate::table::{ratio, row, Bar, Counts};
+use crate::table::{row, Bar, Counts};
 
 /// The bars of a row.
 fn bars(input: &Input, chunk: usize, simple: f64, iconv: f64) -> Vec<Bar> {
@@ -98,10 +98,7 @@ pub fn measure(
     let mut differences = Differences::default();
     let tables = indexes.tables(job.input.encoding);
     let measured = rounds(number, &mut runs(job, tables, &mut differences)?);
-    let ratios: Vec<f64> = measured
-        .iter()
-        .map(|&other| ratio(measured[0], other))
-        .collect();
+    let ratios: Vec<f64> = measured.iter().map(|other| other.ratio).collect();
     let bars = bars(job.input, job.chunk, ratios[1], ratios[2]);
     if job.chunk == 65536 && job.input.kind != Kind::Ascii && ratios.len() > 3 {
         counts.aim(ratios[3]);

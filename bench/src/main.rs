@@ -59,7 +59,7 @@ fn about(arguments: &Arguments) {
         iconv::version()
     );
     println!(
-        "{} interleaved rounds; ratios by the best round. One output buffer for all chunks, cleared once before the clock starts.",
+        "{} interleaved rounds, there and back; a ratio is the median of the rounds' ratios. Before each clock starts the input is read once and the output buffer, one for all chunks, is cleared.",
         arguments.rounds
     );
     println!(

@@ -1,21 +1,31 @@
 //! Interleaved rounds, and the comparison of what was written.
 
 use crate::decoders::Decoder;
+use std::hint::black_box;
+use std::ops::BitXor;
 use std::time::Instant;
 
-/// The least and the median of the rounds, in seconds.
+/// The rounds of a run: its least and its median seconds, and the rate of the first run over its own, the median of
+/// the ratios of each round.
 #[derive(Clone, Copy)]
 pub struct Times {
     pub least: f64,
     pub median: f64,
+    pub ratio: f64,
+}
+
+fn median(mut numbers: Vec<f64>) -> f64 {
+    numbers.sort_by(f64::total_cmp);
+    numbers[numbers.len() / 2]
 }
 
 impl Times {
-    fn of(mut seconds: Vec<f64>) -> Times {
-        seconds.sort_by(f64::total_cmp);
+    fn of(seconds: &[f64], first: &[f64]) -> Times {
+        let ratios = seconds.iter().zip(first).map(|(own, first)| own / first);
         Times {
-            least: seconds[0],
-            median: seconds[seconds.len() / 2],
+            least: seconds.iter().copied().fold(f64::INFINITY, f64::min),
+            median: median(seconds.to_vec()),
+            ratio: median(ratios.collect()),
         }
     }
 }
@@ -23,15 +33,23 @@ impl Times {
 /// A run that is timed: it answers with its seconds.
 pub type Run<'a> = Box<dyn FnMut() -> f64 + 'a>;
 
-/// Runs all in turn, round by round.
+/// Runs all in turn, round by round: from the first to the last, then back, so that none always follows the same one.
 pub fn rounds(rounds: usize, runs: &mut [Run]) -> Vec<Times> {
     let mut seconds = vec![Vec::new(); runs.len()];
-    for _ in 0..rounds {
-        for (run, seconds) in runs.iter_mut().zip(&mut seconds) {
-            seconds.push(run());
+    for round in 0..rounds {
+        for turn in 0..runs.len() {
+            let place = if round % 2 == 0 {
+                turn
+            } else {
+                runs.len() - 1 - turn
+            };
+            seconds[place].push(runs[place]());
         }
     }
-    seconds.into_iter().map(Times::of).collect()
+    seconds
+        .iter()
+        .map(|own| Times::of(own, &seconds[0]))
+        .collect()
 }
 
 /// The nanoseconds of one call, the least of some rounds of many calls.
@@ -66,6 +84,17 @@ pub fn whole<D: Decoder>(mut decoder: D, input: &[u8], chunk: usize) -> Vec<D::U
     output
 }
 
+/// Reads an input and clears a room, so that every run begins with the same in the caches, whatever ran before it.
+pub fn warm<S, T>(input: &[S], room: &mut [T])
+where
+    S: Copy + Default + BitXor<Output = S>,
+    T: Copy + Default,
+{
+    black_box(input.iter().fold(S::default(), |all, &one| all ^ one));
+    room.fill(T::default());
+    black_box(room);
+}
+
 /// A timed run of a decoder over a whole input into one room. Behind the clock the number of scalars and those of the
 /// last chunk are compared with what the decoder wrote before.
 pub fn decoding<'a, D: Decoder + 'a>(
@@ -78,7 +107,6 @@ where
     D::Unit: PartialEq,
 {
     let mut room = vec![D::Unit::default(); room(chunk)];
-    room.fill(D::Unit::default());
     let mut end = vec![D::Unit::default(); room.len()];
     let total = expected.len();
     let tail = expected[total - total.min(2 * room.len())..].to_vec();
@@ -86,6 +114,7 @@ where
         let mut decoder = open();
         let mut written = 0;
         let mut last = 0;
+        warm(input, &mut room);
         let start = Instant::now();
         for part in input.chunks(chunk) {
             last = decoder.feed(part, &mut room);

@@ -57,10 +57,6 @@ impl Counts {
     }
 }
 
-pub fn ratio(ours: Times, other: Times) -> f64 {
-    other.least / ours.least
-}
-
 fn optional(number: Option<f64>, digits: usize) -> String {
     match number {
         Some(number) => format!("{number:.digits$}"),
@@ -70,11 +66,9 @@ fn optional(number: Option<f64>, digits: usize) -> String {
 
 /// A row of rates: ours first, then the others, each with its own bytes.
 pub fn row(name: &str, bytes: usize, times: &[Option<Times>; 4], remarks: &str) {
-    let [ours, others @ ..] = times;
-    let ours = ours.expect("the library is measured");
     let mut line = format!("{name:<24}");
-    for other in others {
-        let ratio = other.map(|other| ratio(ours, other));
+    for other in &times[1..] {
+        let ratio = other.map(|other| other.ratio);
         line += &format!(" {:>7}", optional(ratio, 2));
     }
     line += " |";

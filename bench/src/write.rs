@@ -4,8 +4,8 @@ use crate::data::{Encoding, Indexes, Tables};
 use crate::decoders::Ours;
 use crate::ffi;
 use crate::iconv::Iconv;
-use crate::measure::{rounds, whole, Run};
-use crate::table::{ratio, row, Bar, Counts};
+use crate::measure::{rounds, warm, whole, Run};
+use crate::table::{row, Bar, Counts};
 use std::time::Instant;
 
 /// The most scalars that a call takes.
@@ -40,10 +40,10 @@ fn writing<'a>(
     mut write: impl FnMut(&[u32], &mut [u8]) -> usize + 'a,
 ) -> Run<'a> {
     let mut room = vec![0; SCALARS * BYTES];
-    room.fill(0);
     Box::new(move || {
         let mut written = 0;
         let mut last = 0;
+        warm(scalars, &mut room);
         let start = Instant::now();
         for part in scalars.chunks(SCALARS) {
             last = write(part, &mut room);
@@ -103,7 +103,7 @@ pub fn measure(
     };
     let bar = Bar {
         of: "iconv",
-        ratio: ratio(measured[0], measured[1]),
+        ratio: measured[1].ratio,
         least: 1.0,
     };
     let remarks = counts.remarks(&[bar], &notes, differ);

@@ -1,12 +1,12 @@
 -- The single-byte encodings, byte by byte and by a table. Assumes nothing.
-use mathlib.Core.Path.{_≡_, refl, ap, _∙_}
+use mathlib.Core.Path.{_≡_, refl, ap, subst, _∙_}
 use mathlib.Core.Bool.{Bool, true, false}
 use mathlib.Core.List.{List, [], _∷_}
 use Prim.Native.Nat.{ℕ, _+_, _-_, _%_, _≤_, _<_}
 use native.Mathlib.Omega.{arith}
 use native.Mathlib.Nat.{add-zero}
 use lib.Dec.{ltb, eqb}
-use lib.ListN.{length, drop, getD, set}
+use lib.ListN.{length, drop, getD, set, length-set}
 use lib.Seq.{getD-set-same, getD-set-other}
 use borrow.Author.Tests.{eqb-true, eqb-false, ltb-true, ltb-false, lt-ltb, le-ltb, eq-eqb, ne-eqb}
 use Rattle.standard.specs.Base.{_then_else_, mapped}
@@ -56,6 +56,38 @@ pub filled-more : (f : ℕ → ℕ) (table : List ℕ) (b v : ℕ) → b < lengt
 filled-more f table b v h p e j l = split (eqb j b)
     (λ g. let z = eqb-true j b g in rw z (getD-set-same table b v 0 h ∙ e))
     (λ g. let z = eqb-false j b g in getD-set-other table b j v 0 z ∙ p j (omega arith))
+
+-- a table whose cells are its places, but so many from 128 on
+pub record Replaced (g : ℕ → ℕ) (k : ℕ) (table : List ℕ) : Type 0 where
+  pub long : length table ≡ 256
+  pub below : (j : ℕ) → j < 128 → getD table j 0 ≡ j
+  pub done : (j : ℕ) → j < k → getD table (j + 128) 0 ≡ g j
+  pub behind : (j : ℕ) → k ≤ j → j < 128 → getD table (j + 128) 0 ≡ j + 128
+
+module _ (g : ℕ → ℕ) (table : List ℕ) where
+  pub replaced-none : length table ≡ 256 → ((j : ℕ) → j < 256 → getD table j 0 ≡ j) → Replaced g 0 table
+  replaced-none l p = record { long = l; below = λ j h. p j (omega arith); done = λ j h. absurd (omega arith); behind = λ j h h′. p (j + 128) (omega arith) }
+
+  module _ (k : ℕ) (R : Replaced g k table) where
+    pub replaced-more : (v : ℕ) → k < 128 → v ≡ g k → Replaced g (k + 1) (set table (k + 128) v)
+    replaced-more v h e = record {
+      long = length-set table (k + 128) v ∙ R .long;
+      below = λ j l. getD-set-other table (k + 128) j v 0 (λ z. omega arith) ∙ R .below j l;
+      done = λ j l. split (eqb j k)
+          (λ t. let z = eqb-true j k t in rw z (getD-set-same table (k + 128) v 0 (omega (arith, R .long)) ∙ e))
+          (λ t. let z = eqb-false j k t in getD-set-other table (k + 128) (j + 128) v 0 (λ y. z (omega arith)) ∙ R .done j (omega arith));
+      behind = λ j l l′. getD-set-other table (k + 128) (j + 128) v 0 (λ z. omega arith) ∙ R .behind j (omega arith) l′;
+    }
+
+    pub replaced-all : (f : ℕ → ℕ) → ((j : ℕ) → j < 128 → j ≡ f j) → ((j : ℕ) → j < k → g j ≡ f (j + 128)) → ((j : ℕ) → k ≤ j → j < 128 → j + 128 ≡ f (j + 128)) → (j : ℕ) → j < 256 → getD table j 0 ≡ f j
+    replaced-all f low high rest j l = split (ltb j 128)
+        (λ t. let h = ltb-true j 128 t in R .below j h ∙ low j h)
+        (λ t.
+        let h = ltb-false j 128 t in
+        let z : j - 128 + 128 ≡ j = omega arith in
+        subst (λ (i : ℕ). getD table i 0 ≡ f i) z (split (ltb (j - 128) k)
+        (λ s. let q = ltb-true (j - 128) k s in R .done (j - 128) q ∙ high (j - 128) q)
+        (λ s. let q = ltb-false (j - 128) k s in R .behind (j - 128) q (omega arith) ∙ rest (j - 128) q (omega arith))))
 
 -- bytes in a row, each of one scalar
 module _ (t : Tables) (f : Family) (m : ℕ) (chunk : List ℕ) (from : ℕ) (v : ℕ → ℕ) (w : ℕ) (room room₁ : List ℕ) where
@@ -111,6 +143,22 @@ module _ (m : ℕ) (cells : List ℕ) (b : ℕ) where
         let e′ = rw z at e in
         rw (le-ltb b 0x80 h, cell-unmapped cells (b - 0x80) e′)
 
+-- and of a byte above 7F, by its cell
+pub byte-upper : (m : ℕ) (cells : List ℕ) (k : ℕ) → k < 128 → (mapped (getD cells k 0) then getD cells k 0 else unmapped m) ≡ byteScalar m cells (k + 128)
+byte-upper m cells k h = go (mapped (getD cells k 0)) refl
+  where
+    z : (k + 128) % 128 ≡ k
+    z = omega arith
+
+    go : (p : Bool) → mapped (getD cells k 0) ≡ p → (mapped (getD cells k 0) then getD cells k 0 else unmapped m) ≡ byteScalar m cells (k + 128)
+    go true e =
+        let e′ : mapped (getD cells ((k + 128) % 128) 0) ≡ true = rw z e in
+        let same : getD cells k 0 ≡ (ltb (k + 128) 0x80 then k + 128 else getD cells ((k + 128) % 128) 0) = rw (le-ltb (k + 128) 0x80 (omega arith), z) in
+        rw e (same ∙ byte-mapped m cells (k + 128) (omega arith) e′)
+    go false e =
+        let e′ : mapped (getD cells ((k + 128) % 128) 0) ≡ false = rw z e in
+        rw e (byte-unmapped m cells (k + 128) (omega arith) e′ (omega arith))
+
 -- the same in windows-1252
 module _ (b : ℕ) where
   pub windows-ascii : b < 0x80 → b ≡ windowsScalar b
@@ -123,6 +171,12 @@ module _ (b : ℕ) where
 
   pub windows-same : 0xA0 ≤ b → b ≡ windowsScalar b
   windows-same h = rw (le-ltb b 0x80 (omega arith), le-ltb b 0xA0 h)
+
+pub windows-upper : (cells : List ℕ) → cells ≡ irregular → (k : ℕ) → k < 32 → getD cells k 0 ≡ windowsScalar (k + 128)
+windows-upper cells e k h =
+    let z : (k + 128) % 32 ≡ k = omega arith in
+    let same : getD cells k 0 ≡ getD cells ((k + 128) % 32) 0 = rw z in
+    same ∙ windows-cell (k + 128) cells e (omega arith) (omega arith)
 
 pub irregular-length : length irregular ≡ 32
 unfolding irregular

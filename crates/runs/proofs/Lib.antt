@@ -5,5 +5,6 @@ pub mod Steps
 pub mod Values
 pub mod Rows
 pub mod Utf16Runs
+pub mod WordBytes
 pub mod ByteRuns
 pub mod Families

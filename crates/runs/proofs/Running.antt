@@ -1,11 +1,11 @@
 -- A run, sequence by sequence. Assumes nothing.
 use mathlib.Core.Path.{_≡_, refl, sym, ap, _∙_}
-use mathlib.Core.Bool.{Bool, true, false, _||_}
+use mathlib.Core.Bool.{false}
 use mathlib.Core.List.{List, [], _∷_, _++_, append-nil}
-use Prim.Native.Nat.{ℕ, suc, _+_, _-_, _≤_, _<_}
+use Prim.Native.Nat.{ℕ, _+_, _-_, _≤_}
 use native.Mathlib.Omega.{arith}
 use native.Mathlib.Nat.{add-zero}
-use lib.ListN.{length, take, drop, getD, set, length-append, length-drop, length-set}
+use lib.ListN.{length, drop, set, length-append, length-drop}
 use lib.Seq.{drop-drop}
 use Rattle.standard.specs.Encodings.{Family, Tables}
 use Rattle.standard.specs.Sequence.{Shift, Out, text, error, Next, item, plain, scalar}

@@ -6,8 +6,8 @@ use Prim.Native.Nat.{ℕ, zero, suc, _+_, _-_, _≤_, _<_}
 use native.Mathlib.Omega.{arith}
 use native.Mathlib.Nat.{add-zero}
 use lib.Dec.{eqb, ltb}
-use lib.ListN.{length, take, drop, getD, set, length-append, List·getD-append}
-use lib.Seq.{sets, length-take-le, take-at, drop-at, getD-append-add, getD-drop}
+use lib.ListN.{length, getD, set, length-append, List·getD-append}
+use lib.Seq.{getD-append-add}
 use borrow.Author.Tests.{eqb-true, eqb-false, ltb-true, ltb-false}
 use Rattle.standard.proofs.Tests.{split}
 use Rattle.runs.specs.Run.{patch}
@@ -50,11 +50,6 @@ pub below-add : (P : ℕ → Type 0) (k n : ℕ) → ((j : ℕ) → j < k → P 
 below-add P k n a b j l = split (ltb j k) (λ t. a j (ltb-true j k t)) (λ t. let z : k + (j - k) ≡ j = omega (arith, ltb-false j k t) in subst P z (b (j - k) (omega (arith, ltb-false j k t))))
 
 module _ (room : List ℕ) (w : ℕ) where
-  -- eight values, each by its equation
-  pub values-eight : (f : ℕ → ℕ) {a b c d e g h i : ℕ} → w + 8 ≤ length room → a ≡ f 0 → b ≡ f 1 → c ≡ f 2 → d ≡ f 3 → e ≡ f 4 → g ≡ f 5 → h ≡ f 6 → i ≡ f 7 → sets room w (a ∷ b ∷ c ∷ d ∷ e ∷ g ∷ h ∷ i ∷ []) ≡ patch w (values f 8) room
-  unfolding values
-  values-eight f l p0 p1 p2 p3 p4 p5 p6 p7 = rw (p0, p1, p2, p3, p4, p5, p6, p7) (patch-sets room w (f 0 ∷ f 1 ∷ f 2 ∷ f 3 ∷ f 4 ∷ f 5 ∷ f 6 ∷ f 7 ∷ []) l)
-
   -- one value more
   pub values-more : (f : ℕ → ℕ) (k : ℕ) → w + k < length room → set (patch w (values f k) room) (w + k) (f k) ≡ patch w (values f (k + 1)) room
   unfolding values
@@ -65,36 +60,10 @@ module _ (room : List ℕ) (w : ℕ) where
       let p = patch-sets (patch w (values f k) room) (w + k) (f k ∷ []) (omega (arith, patch-length room w (values f k) (omega arith))) in
       p ∙ rw (z, e) (patch-patch w (values f k) (f k ∷ []) room (omega arith))
 
-  -- as many others in their place
-  pub patch-again : (us vs : List ℕ) → length us ≡ length vs → w + length us ≤ length room → patch w vs (patch w us room) ≡ patch w vs room
-  patch-again us vs e h =
-      let l = length-take-le w room (omega arith) in
-      let a : take w (patch w us room) ≡ take w room = ap (take w) (append-assoc (take w room) us (drop (w + length us) room)) ∙ take-at (take w room) (us ++ drop (w + length us) room) w l in
-      let k : length (take w room ++ us) ≡ w + length vs = length-append (take w room) us ∙ omega (arith, l, e) in
-      let b : drop (w + length vs) (patch w us room) ≡ drop (w + length us) room = drop-at (take w room ++ us) (drop (w + length us) room) (w + length vs) k in
-      rw (a, b, e)
-
-  module _ (us : List ℕ) (h : w + length us ≤ length room) where
-    pub patch-at : (k : ℕ) → k < length us → getD (patch w us room) (w + k) 0 ≡ getD us k 0
-    patch-at k l =
-        let z : w + k ≡ length (take w room) + k = omega (arith, length-take-le w room (omega arith)) in
-        ap (λ (j : ℕ). getD (patch w us room) j 0) z ∙ ap (λ (l : List ℕ). getD l (length (take w room) + k) 0) (append-assoc (take w room) us (drop (w + length us) room)) ∙ getD-append-add (take w room) (us ++ drop (w + length us) room) k 0 ∙ List·getD-append us (drop (w + length us) room) 0 k l
-
-    pub patch-after : (k : ℕ) → getD (patch w us room) (w + length us + k) 0 ≡ getD room (w + length us + k) 0
-    patch-after k =
-        let z : length (take w room ++ us) ≡ w + length us = length-append (take w room) us ∙ omega (arith, length-take-le w room (omega arith)) in
-        sym (getD-drop (w + length us) (patch w us room) k 0) ∙ ap (λ (l : List ℕ). getD l k 0) (drop-at (take w room ++ us) (drop (w + length us) room) (w + length us) z) ∙ getD-drop (w + length us) room k 0
-
--- a loop that writes the values: one more, and what it has not yet written
+-- a loop that writes the values: one more
 module _ (room₀ room : List ℕ) (w : ℕ) (f : ℕ → ℕ) (k : ℕ) (e : room ≡ patch w (values f k) room₀) (h : w + k < length room₀) where
   pub wrote-more : (v : ℕ) → v ≡ f k → set room (w + k) v ≡ patch w (values f (k + 1)) room₀
   wrote-more v q = rw (e, q) (values-more room₀ w f k h)
-
-  pub not-yet : getD room (w + k) 0 ≡ getD room₀ (w + k) 0
-  not-yet =
-      let z : w + length (values f k) + 0 ≡ w + k = omega (arith, values-length f k) in
-      let p = patch-after room₀ w (values f k) (omega (arith, values-length f k)) 0 in
-      rw e (rw z at p)
 
 -- and one that wrote so many more
 pub wrote-on : (room₀ room room′ : List ℕ) (w : ℕ) (f g : ℕ → ℕ) (k n : ℕ) → room ≡ patch w (values f k) room₀ → room′ ≡ patch (w + k) (values g n) room → ((j : ℕ) → j < n → g j ≡ f (k + j)) → w + k ≤ length room₀ → room′ ≡ patch w (values f (k + n)) room₀

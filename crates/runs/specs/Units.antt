@@ -17,14 +17,14 @@ unfoldable pub values : (ℕ → ℕ) → ℕ → List ℕ
 values f zero = []
 values f (suc n) = values f n ++ (f n ∷ [])
 
--- a unit with its bytes the other way round
-abbrev pub swapped : ℕ → ℕ
-swapped u = u % 256 * 256 + u / 256
-
 -- the unit at a place, so many units on
 abbrev pub unitAt : Bool → List ℕ → ℕ → ℕ → ℕ
 unitAt be xs at k = unit be (getD xs (at + k * 2) 0) (getD xs (at + k * 2 + 1) 0)
 
--- not the upper byte of a surrogate
+-- a unit that is no surrogate
 abbrev pub NoSurrogate : ℕ → Type 0
-NoSurrogate b = (b < 0xD8) ⊎ (0xDF < b)
+NoSurrogate u = (u < 0xD800) ⊎ (0xDFFF < u)
+
+-- the unit of a word, whose second byte is the upper one
+abbrev pub oriented : Bool → ℕ → ℕ
+oriented be w = be then w % 256 * 256 + w / 256 else w

@@ -2,6 +2,7 @@
 
 mod single_byte;
 mod utf_16;
+mod words;
 
 ghost use mathlib.Core.Path.{_≡_};
 ghost use Prim.Native.Nat.{_+_, _-_, _≤_};

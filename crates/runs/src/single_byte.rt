@@ -1,22 +1,23 @@
 // Runs of the single-byte encodings: by a table of 256 scalars, or byte by byte.
 
 use crate::Place;
+use crate::words::read_words;
 use index::IRREGULAR;
 use index::mapped;
 ghost use mathlib.Core.Path.{_≡_};
 ghost use mathlib.Core.List.{_∷_, []};
-ghost use Prim.Native.Nat.{ℕ, _+_, _-_, _≤_, _<_};
+ghost use Prim.Native.Nat.{ℕ, _+_, _-_, _*_, _/_, _%_, _≤_, _<_};
 ghost use lib.Dec.{ltb, eqb};
 ghost use lib.ListN.{length, getD};
 ghost use lib.Seq.{sets};
-ghost use Rattle.standard.specs.Base.{_then_else_};
+ghost use Rattle.standard.specs.Base.{_then_else_, mapped};
 ghost use Rattle.standard.specs.Encodings.{Tables, lent, single-byte, windows-1252};
 ghost use Rattle.standard.specs.Indexes.{irregular};
 ghost use Rattle.standard.specs.Sequence.{plain, shift};
 ghost use Rattle.standard.specs.Next.{next};
 ghost use Rattle.runs.specs.Run.{Runs, patch};
 ghost use Rattle.runs.specs.Units.{values};
-ghost use Rattle.runs.specs.Bytes.{unmapped, byteScalar, windowsScalar};
+ghost use Rattle.runs.specs.Bytes.{unmapped, byteScalar, windowsScalar, Halves, Same, byteOf};
 
 // One of two scalars, by whether a byte is ASCII.
 fn choose(b: u8, ascii: u32, other: u32) -> u32
@@ -68,15 +69,39 @@ fn windows_scalar(cells: &[u32], b: u8) -> u32
     b as u32
 }
 
+// The scalar of a cell, or another where the cell is unmapped.
+fn mapped_or(c: u32, other: u32) -> u32
+    ensures { λ r. ⌜ r ≡ (mapped c then c else other) ⌝ }
+{
+    if mapped(c) {
+        return c;
+    }
+    other
+}
+
+// Each place of a table, as its cell.
+fn places(table: &mut [u32])
+    requires { ⌜ length (now table) ≡ 256 ⌝ }
+    ensures { λ r. ⌜ ((j : ℕ) → j < 256 → getD (now (table .exit)) j 0 ≡ j) ⌝ }
+{
+    let mut b: usize = 0;
+    while b < 256 {
+        table[b] = b as u32;
+        b += 1;
+    }
+}
+
 // The scalar of each byte, into a table.
 fn fill(mode: u8, cells: &[u32], table: &mut [u32])
     requires { ⌜ (128 ≤ length (now cells)) × (length (now table) ≡ 256) ⌝ }
     ensures { λ r. ⌜ ((j : ℕ) → j < 256 → getD (now (table .exit)) j 0 ≡ byteScalar mode (now (cells .entry)) j) ⌝ }
 {
-    let mut b: usize = 0;
-    while b < 256 {
-        table[b] = scalar(mode, cells, b as u8);
-        b += 1;
+    places(table);
+    let other = unmapped(mode);
+    let mut k: usize = 0;
+    while k < 128 {
+        table[k + 128] = mapped_or(cells[k], other);
+        k += 1;
     }
 }
 
@@ -85,10 +110,11 @@ fn fill_windows(cells: &[u32], table: &mut [u32])
     requires { ⌜ (now cells ≡ irregular) × (length (now table) ≡ 256) ⌝ }
     ensures { λ r. ⌜ ((j : ℕ) → j < 256 → getD (now (table .exit)) j 0 ≡ windowsScalar j) ⌝ }
 {
-    let mut b: usize = 0;
-    while b < 256 {
-        table[b] = windows_scalar(cells, b as u8);
-        b += 1;
+    places(table);
+    let mut k: usize = 0;
+    while k < 32 {
+        table[k + 128] = cells[k];
+        k += 1;
     }
 }
 
@@ -99,49 +125,59 @@ fn place_of(b: u8) -> usize
     b as usize
 }
 
-fn put_eight(
-    room: &mut [u32],
-    o: usize,
-    c0: u32,
-    c1: u32,
-    c2: u32,
-    c3: u32,
-    c4: u32,
-    c5: u32,
-    c6: u32,
-    c7: u32,
-)
-    requires { ⌜ o + 8 ≤ length (now room) ⌝ }
-    ensures { λ r. ⌜ now (room .exit) ≡ sets (now (room .entry)) o (c0 ∷ c1 ∷ c2 ∷ c3 ∷ c4 ∷ c5 ∷ c6 ∷ c7 ∷ []) ⌝ }
+// A cell as a wider number.
+fn wide(c: u32) -> u64
+    ensures { λ r. ⌜ (r ≡ c) × (c < 4294967296) ⌝ }
 {
-    room[o] = c0;
-    room[o + 1] = c1;
-    room[o + 2] = c2;
-    room[o + 3] = c3;
-    room[o + 4] = c4;
-    room[o + 5] = c5;
-    room[o + 6] = c6;
-    room[o + 7] = c7;
+    c as u64
 }
 
-// Eight bytes through a table.
-fn look_up_eight(table: &[u32], chunk: &[u8], at: usize, room: &mut [u32], o: usize)
-    requires { ⌜ (length (now table) ≡ 256) × (at + 8 ≤ length (now chunk)) × (o + 8 ≤ length (now room)) ⌝ }
-    ensures { λ r. ⌜ ((j : ℕ) → j < 8 → getD (now (chunk .entry)) (at + j) 0 < 256)
-        × (now (room .exit) ≡ patch o (values (λ (j : ℕ). getD (now (table .entry)) (getD (now (chunk .entry)) (at + j) 0) 0) 8) (now (room .entry))) ⌝ }
+// The scalars of a table as they are, and in the upper half of a number.
+fn halves(table: &[u32], low: &mut [u64], high: &mut [u64])
+    requires { ⌜ (length (now table) ≡ 256) × (length (now low) ≡ 256) × (length (now high) ≡ 256) ⌝ }
+    ensures { λ r. ⌜ Halves (now (low .exit)) (now (high .exit)) × Same (now (table .entry)) (now (low .exit)) ⌝ }
 {
-    put_eight(
-        room,
-        o,
-        table[place_of(chunk[at])],
-        table[place_of(chunk[at + 1])],
-        table[place_of(chunk[at + 2])],
-        table[place_of(chunk[at + 3])],
-        table[place_of(chunk[at + 4])],
-        table[place_of(chunk[at + 5])],
-        table[place_of(chunk[at + 6])],
-        table[place_of(chunk[at + 7])],
-    );
+    let mut b: usize = 0;
+    while b < 256 {
+        let c = wide(table[b]);
+        low[b] = c;
+        high[b] = c * 4294967296;
+        b += 1;
+    }
+}
+
+// The scalars of a word's two bytes. They make one number, which is stored at once.
+fn put_word(low: &[u64], high: &[u64], word: u16, room: &mut [u32], o: usize)
+    requires { ⌜ (length (now low) ≡ 256) × (length (now high) ≡ 256) × Halves (now low) (now high) × (o + 2 ≤ length (now room)) ⌝ }
+    ensures { λ r. ⌜ now (room .exit) ≡ sets (now (room .entry)) o (getD (now (low .entry)) (word % 256) 0 ∷ getD (now (low .entry)) (word / 256) 0 ∷ []) ⌝ }
+{
+    let w = word as usize;
+    let both = low[w % 256] + high[w / 256];
+    room[o] = (both % 4294967296) as u32;
+    room[o + 1] = (both / 4294967296) as u32;
+}
+
+// The scalars of four words.
+fn put_four(low: &[u64], high: &[u64], words: &[u16], j: usize, room: &mut [u32], o: usize)
+    requires { ⌜ (length (now low) ≡ 256) × (length (now high) ≡ 256) × Halves (now low) (now high) × (j + 4 ≤ length (now words)) × (o + 8 ≤ length (now room)) ⌝ }
+    ensures { λ r. ⌜ now (room .exit) ≡ patch o (values (λ (k : ℕ). getD (now (low .entry)) (byteOf (now (words .entry)) (j * 2 + k)) 0) 8) (now (room .entry)) ⌝ }
+{
+    put_word(low, high, words[j], room, o);
+    put_word(low, high, words[j + 1], room, o + 2);
+    put_word(low, high, words[j + 2], room, o + 4);
+    put_word(low, high, words[j + 3], room, o + 6);
+}
+
+// The scalars of 256 words.
+fn put_words(low: &[u64], high: &[u64], words: &[u16], room: &mut [u32], o: usize)
+    requires { ⌜ (length (now low) ≡ 256) × (length (now high) ≡ 256) × Halves (now low) (now high) × (length (now words) ≡ 256) × (o + 512 ≤ length (now room)) ⌝ }
+    ensures { λ r. ⌜ now (room .exit) ≡ patch o (values (λ (k : ℕ). getD (now (low .entry)) (byteOf (now (words .entry)) k) 0) 512) (now (room .entry)) ⌝ }
+{
+    let mut j: usize = 0;
+    while j < 256 {
+        put_four(low, high, words, j, room, o + j * 2);
+        j += 4;
+    }
 }
 
 // Each byte through a table.
@@ -151,10 +187,15 @@ fn look_up(table: &[u32], chunk: &[u8], from: usize, room: &mut [u32], place: us
         × (now (room .exit) ≡ patch place (values (λ (j : ℕ). getD (now (table .entry)) (getD (now (chunk .entry)) (from + j) 0) 0) (length (now (chunk .entry)) - from)) (now (room .entry))) ⌝ }
 {
     let n = chunk.len() - from;
+    let mut low = [0u64; 256];
+    let mut high = [0u64; 256];
+    halves(table, &mut low, &mut high);
+    let mut words = [0u16; 256];
     let mut k: usize = 0;
-    while n - k >= 8 {
-        look_up_eight(table, chunk, from + k, room, place + k);
-        k += 8;
+    while n - k >= 512 {
+        read_words(chunk, from + k, &mut words);
+        put_words(&low, &high, &words, room, place + k);
+        k += 512;
     }
     while k < n {
         room[place + k] = table[place_of(chunk[from + k])];

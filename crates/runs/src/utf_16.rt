@@ -1,18 +1,17 @@
 // A run of UTF-16BE or UTF-16LE: blocks of units without surrogates, and else sequence by sequence.
 
 use crate::Place;
+use crate::words::read_words;
 ghost use mathlib.Core.Path.{_≡_};
-ghost use mathlib.Core.Bool.{false};
-ghost use Prim.Native.Nat.{ℕ, _+_, _-_, _*_, _≤_, _<_};
+ghost use Prim.Native.Nat.{ℕ, _+_, _-_, _≤_, _<_};
 ghost use lib.Dec.{eqb};
 ghost use lib.ListN.{length, drop, getD};
-ghost use Rattle.standard.specs.Base.{_then_else_};
 ghost use Rattle.standard.specs.Encodings.{noTables};
 ghost use Rattle.standard.specs.Sequence.{plain, shift, bad};
 ghost use Rattle.standard.specs.Next.{next};
 ghost use Rattle.standard.specs.Sequences.Utf16.{utf16, utf16Pair, unit};
 ghost use Rattle.runs.specs.Run.{Runs, Gives, patch};
-ghost use Rattle.runs.specs.Units.{utf16Family, values, swapped, unitAt, NoSurrogate};
+ghost use Rattle.runs.specs.Units.{utf16Family, values, oriented, NoSurrogate};
 
 // A sequence of one scalar; width 0 says none.
 struct Scalar {
@@ -26,13 +25,6 @@ struct Reached {
     written: usize,
 }
 
-// A code unit whose second byte is the upper one.
-fn little(b: u8, c: u8) -> u32
-    ensures { λ r. ⌜ (r ≡ unit false b c) × (b < 256) × (c < 256) ⌝ }
-{
-    (c as u32) * 256 + (b as u32)
-}
-
 // A code unit; `be`: its first byte is the upper one.
 fn unit(be: bool, b: u8, c: u8) -> u32
     ensures { λ r. ⌜ r ≡ unit be b c ⌝ }
@@ -43,116 +35,86 @@ fn unit(be: bool, b: u8, c: u8) -> u32
     (c as u32) * 256 + (b as u32)
 }
 
-// A unit less D800, around the end: below 800 for a surrogate only.
-fn distance(b: u8, c: u8) -> u16
-    ensures { λ r. ⌜ (0x800 ≤ r → NoSurrogate c) ⌝ }
+// The unit of a word whose second byte is the upper one.
+fn oriented(be: bool, word: u16) -> u16
+    ensures { λ r. ⌜ r ≡ oriented be word ⌝ }
 {
-    let u = (c as u16) * 256 + (b as u16);
+    if be {
+        return word % 256 * 256 + word / 256;
+    }
+    word
+}
+
+// 1 for a surrogate, and else what was found before it.
+fn found(before: u16, u: u16) -> u16
+    ensures { λ r. ⌜ (r ≡ 0 → (before ≡ 0) × NoSurrogate u) ⌝ }
+{
     if u < 0xD800 {
-        return u + 0x2800;
+        return before;
     }
-    u - 0xD800
+    if 0xDFFF < u {
+        return before;
+    }
+    1
 }
 
-// The lesser of two numbers.
-fn least(x: u16, y: u16) -> u16
-    ensures { λ r. ⌜ (r ≤ x) × (r ≤ y) ⌝ }
+// 0 if no unit is a surrogate.
+fn surrogates(be: bool, words: &[u16]) -> u16
+    ensures { λ r. ⌜ (r ≡ 0 → (j : ℕ) → j < length (now (words .entry)) → NoSurrogate (oriented be (getD (now (words .entry)) j 0))) ⌝ }
 {
-    if x < y {
-        return x;
-    }
-    y
-}
-
-// The least distance of 32 units: below 800 if one is a surrogate.
-fn block(chunk: &[u8], at: usize) -> u16
-    requires { ⌜ at + 64 ≤ length (now chunk) ⌝ }
-    ensures { λ r. ⌜ (0x800 ≤ r → (j : ℕ) → j < 32 → NoSurrogate (getD (now (chunk .entry)) (at + j * 2 + 1) 0)) ⌝ }
-{
-    let mut x: u16 = 0xFFFF;
-    for k in 0..32 {
-        x = least(x, distance(chunk[at + k * 2], chunk[at + k * 2 + 1]));
+    let n = words.len();
+    let mut x: u16 = 0;
+    let mut k: usize = 0;
+    while k < n {
+        x = found(x, oriented(be, words[k]));
+        k += 1;
     }
     x
 }
 
-// How many pairs of bytes from a place on, in whole blocks, have a second byte that is not the upper one of a surrogate.
-fn clear_blocks(chunk: &[u8], at: usize) -> usize
-    requires { ⌜ (at < length (now chunk)) × (length (now chunk) ≤ 65536) ⌝ }
-    ensures { λ r. ⌜ (at + r * 2 < length (now (chunk .entry))) × ((j : ℕ) → j < r → NoSurrogate (getD (now (chunk .entry)) (at + j * 2 + 1) 0)) ⌝ }
+// Units that are scalars, into the room.
+fn put_units(be: bool, words: &[u16], room: &mut [u32], o: usize)
+    requires { ⌜ o + length (now words) ≤ length (now room) ⌝ }
+    ensures { λ r. ⌜ now (room .exit) ≡ patch o (values (λ (j : ℕ). oriented be (getD (now (words .entry)) j 0)) (length (now (words .entry)))) (now (room .entry)) ⌝ }
+{
+    let n = words.len();
+    let mut k: usize = 0;
+    while k < n {
+        room[o + k] = oriented(be, words[k]) as u32;
+        k += 1;
+    }
+}
+
+// Blocks of 64 units without surrogates, from a place on.
+fn blocks(be: bool, chunk: &[u8], from: usize, room: &mut [u32], place: usize) -> Reached
+    requires { ⌜ (from ≤ length (now chunk)) × (length (now chunk) ≤ 65536) × (place + (length (now chunk) - from) ≤ length (now room)) ⌝ }
+    ensures { λ r. ⌜ ((m : ℕ) → Runs (next noTables (utf16Family be)) m (now (chunk .entry)) from (r .at) plain plain place (r .written) (now (room .entry)) (now (room .exit))) ⌝ }
 {
     let n = chunk.len();
-    let mut count: usize = 0;
-    while n - (at + count * 2) > 64 {
-        if block(chunk, at + count * 2) < 0x800 {
-            return count;
+    let mut words = [0u16; 64];
+    let mut i = from;
+    let mut o = place;
+    while n - i >= 128 {
+        read_words(chunk, i, &mut words);
+        if surrogates(be, &words) != 0 {
+            return Reached { at: i, written: o };
         }
-        count += 32;
+        put_units(be, &words, room, o);
+        i += 128;
+        o += 64;
     }
-    count
+    Reached { at: i, written: o }
 }
 
-// How many units from a place on are no surrogates: whole blocks of them.
-fn clear_units(be: bool, chunk: &[u8], i: usize) -> usize
-    requires { ⌜ (i ≤ length (now chunk)) × (length (now chunk) ≤ 65536) ⌝ }
-    ensures { λ r. ⌜ (i + r * 2 ≤ length (now (chunk .entry))) × ((j : ℕ) → j < r → NoSurrogate (getD (now (chunk .entry)) (be then i + j * 2 else i + j * 2 + 1) 0)) ⌝ }
+// The same; the compiler makes a loop for each byte order.
+fn clear(be: bool, chunk: &[u8], from: usize, room: &mut [u32], place: usize) -> Reached
+    requires { ⌜ (from ≤ length (now chunk)) × (length (now chunk) ≤ 65536) × (place + (length (now chunk) - from) ≤ length (now room)) ⌝ }
+    ensures { λ r. ⌜ ((m : ℕ) → Runs (next noTables (utf16Family be)) m (now (chunk .entry)) from (r .at) plain plain place (r .written) (now (room .entry)) (now (room .exit))) ⌝ }
 {
-    if chunk.len() <= i {
-        return 0;
+    if be {
+        return blocks(true, chunk, from, room, place);
     }
-    if !be {
-        return clear_blocks(chunk, i);
-    }
-    if i == 0 {
-        return 0;
-    }
-    // The upper byte is the first: it is tested as the second one of the pair with the byte before.
-    clear_blocks(chunk, i - 1)
-}
-
-// Units whose second byte is the upper one, into the room.
-fn copy_units(chunk: &[u8], i: usize, count: usize, room: &mut [u32], o: usize)
-    requires { ⌜ (i + count * 2 ≤ length (now chunk)) × (length (now chunk) ≤ 65536) × (o + count ≤ length (now room)) ⌝ }
-    ensures { λ r. ⌜ ((j : ℕ) → j < count → (getD (now (chunk .entry)) (i + j * 2) 0 < 256) × (getD (now (chunk .entry)) (i + j * 2 + 1) 0 < 256))
-        × (now (room .exit) ≡ patch o (values (unitAt false (now (chunk .entry)) i) count) (now (room .entry))) ⌝ }
-{
-    let mut k: usize = 0;
-    while k < count {
-        room[o + k] = little(chunk[i + k * 2], chunk[i + k * 2 + 1]);
-        k += 1;
-    }
-}
-
-// A unit with its bytes the other way round.
-fn swapped(u: u32) -> u32
-    ensures { λ r. ⌜ r ≡ swapped u ⌝ }
-{
-    u % 256 * 256 + u / 256
-}
-
-// The units in the room with their bytes the other way round.
-fn swap_units(room: &mut [u32], o: usize, count: usize)
-    requires { ⌜ o + count ≤ length (now room) ⌝ }
-    ensures { λ r. ⌜ now (room .exit) ≡ patch o (values (λ (k : ℕ). swapped (getD (now (room .entry)) (o + k) 0)) count) (now (room .entry)) ⌝ }
-{
-    let mut k: usize = 0;
-    while k < count {
-        room[o + k] = swapped(room[o + k]);
-        k += 1;
-    }
-}
-
-// Units that are scalars, into the room.
-fn put_units(be: bool, chunk: &[u8], i: usize, count: usize, room: &mut [u32], o: usize)
-    requires { ⌜ (i + count * 2 ≤ length (now chunk)) × (length (now chunk) ≤ 65536) × (o + count ≤ length (now room)) ⌝ }
-    ensures { λ r. ⌜ ((j : ℕ) → j < count → (getD (now (chunk .entry)) (i + j * 2) 0 < 256) × (getD (now (chunk .entry)) (i + j * 2 + 1) 0 < 256))
-        × (now (room .exit) ≡ patch o (values (unitAt be (now (chunk .entry)) i) count) (now (room .entry))) ⌝ }
-{
-    copy_units(chunk, i, count, room, o);
-    if !be {
-        return;
-    }
-    swap_units(room, o, count);
+    blocks(false, chunk, from, room, place)
 }
 
 // An error of a unit: U+FFFD, and none in mode 1.
@@ -265,9 +227,8 @@ pub(crate) fn utf_16_run(
     let mut i = from;
     let mut o = place;
     loop {
-        let count = clear_units(be, chunk, i);
-        put_units(be, chunk, i, count, room, o);
-        let p = sequences(be, mode, chunk, i + count * 2, room, o + count);
+        let b = clear(be, chunk, i, room, o);
+        let p = sequences(be, mode, chunk, b.at, room, b.written);
         if p.at == i {
             return Place {
                 at: p.at,

@@ -1,51 +1,60 @@
 use borrow.Author.Needs.{needs}
 use native.Mathlib.Omega.{arith}
-use mathlib.Core.Path.{_≡_, sym, _∙_}
-use Prim.Native.Nat.{ℕ, _-_, _≤_, _<_}
-use lib.ListN.{length, getD, length-set}
+use mathlib.Core.Path.{refl, sym, ap, _∙_}
+use Prim.Native.Nat.{ℕ, _+_, _-_, _≤_}
+use lib.ListN.{length, getD}
 use Rattle.runs.specs.Bytes.{windowsScalar}
-use Rattle.runs.proofs.ByteRuns.{filled-more}
+use Rattle.runs.proofs.ByteRuns.{Replaced, replaced-none, replaced-more, replaced-all, windows-ascii, windows-upper, windows-same, irregular-length}
 use Rattle.runs.proofs.single_byte.fill_windows.Statement.{statement}
 use Rattle.runs.proofs.single_byte.fill_windows.Tie as tie
 
 abbrev Inv-loop : tie.InvT-loop
-Inv-loop cells table₀ b₀ table b = (b ≤ 256) × (length table ≡ 256) × ((j : ℕ) → j < b → getD table j 0 ≡ windowsScalar j)
+Inv-loop cells table₀ k₀ table k = (k ≤ 32) × Replaced (λ (j : ℕ). getD cells j 0) k table
 
 abbrev μ-loop : tie.MeasureT-loop
-μ-loop cells table₀ b₀ table b = 256 - b
+μ-loop cells table₀ k₀ table k = 32 - k
+
+places-requires : tie.Need-places-requires Inv-loop μ-loop
+places-requires c κs = search needs
 
 loop-holds : tie.Need-loop-holds Inv-loop μ-loop
-loop-holds c = (omega arith, omega arith, λ j l. absurd (omega arith))
-
-cast-windows-scalar : tie.Need-cast-windows-scalar Inv-loop μ-loop
-cast-windows-scalar c = search needs
-
-windows-scalar-requires : tie.Need-windows-scalar-requires Inv-loop μ-loop
-windows-scalar-requires c κs = search needs
+loop-holds c = (omega arith, replaced-none _ _ (omega (arith, c .before .before .before .before .before .before .pre .1)) (c .before .before .places .ensures))
 
 mul-table : tie.Need-mul-table Inv-loop μ-loop
 mul-table c = search needs
 
-slice-write-table : tie.Need-slice-write-table Inv-loop μ-loop
-slice-write-table c = omega (arith, c .before .before .loop .inv .1)
+shared-slice-read-table : tie.Need-shared-slice-read-table Inv-loop μ-loop
+shared-slice-read-table c = omega (arith, ap length (c .before .before .before .before .before .before .before .before .before .pre .0), irregular-length)
 
-add-b : tie.Need-add-b Inv-loop μ-loop
-add-b c = search needs
+add-table : tie.Need-add-table Inv-loop μ-loop
+add-table c = search needs
+
+mul-table-2 : tie.Need-mul-table-2 Inv-loop μ-loop
+mul-table-2 c = search needs
+
+slice-write-table : tie.Need-slice-write-table Inv-loop μ-loop
+slice-write-table c = omega (arith, c .before .before .loop .inv .1 .long)
+
+add-k : tie.Need-add-k Inv-loop μ-loop
+add-k c = search needs
 
 loop-less : tie.Need-loop-less Inv-loop μ-loop
 loop-less c = search needs
 
 loop-again : tie.Need-loop-again Inv-loop μ-loop
 loop-again c =
-    let args = c .before .before .before .before .before .args in
+    let args = c .before .before .before .before .before .before .before .before .before .args in
     let at-loop = c .before .before .loop in
-    (omega arith, simp length-set (at-loop .inv .1), filled-more (windowsScalar) (at-loop .table) (at-loop .b) (c .windows-scalar .result) (omega (arith, at-loop .inv .1)) (at-loop .inv .2) (c .windows-scalar .ensures .0))
+    (omega arith, replaced-more _ (at-loop .table) (at-loop .k) (at-loop .inv .1) (getD (args .cells .now) (at-loop .k) 0) (omega arith) refl)
 
 same-length : tie.Need-same-length Inv-loop μ-loop
-same-length c = c .before .loop .inv .1 ∙ sym (c .before .before .before .before .pre .1)
+same-length c = c .before .loop .inv .1 .long ∙ sym (c .before .before .before .before .before .before .before .before .pre .1)
 
 returns : tie.Need-returns Inv-loop μ-loop
-returns c = λ j l. c .before .loop .inv .2 j (omega arith)
+returns c =
+    let args = c .before .before .before .before .before .before .before .before .args in
+    let at-loop = c .before .loop in
+    replaced-all _ (at-loop .table) (at-loop .k) (at-loop .inv .1) windowsScalar (λ j l. windows-ascii j l) (λ j l. windows-upper (args .cells .now) (c .before .before .before .before .before .before .before .before .pre .0) j (omega arith)) (λ j l l′. windows-same (j + 128) (omega arith))
 
 pub fill-windows-spec : {M : Type 1} → statement M
 fill-windows-spec =
@@ -53,12 +62,14 @@ fill-windows-spec =
     (tie.spec
     Inv-loop
     μ-loop
+    places-requires
     loop-holds
-    cast-windows-scalar
-    windows-scalar-requires
     mul-table
+    shared-slice-read-table
+    add-table
+    mul-table-2
     slice-write-table
-    add-b
+    add-k
     loop-less
     loop-again
     same-length

@@ -1,14 +1,17 @@
 use borrow.Author.Needs.{needs}
 use native.Mathlib.Omega.{arith}
-use mathlib.Core.Path.{_≡_, refl, sym, ap, _∙_, subst}
+use mathlib.Core.Bool.{false}
 use mathlib.Core.List.{List}
-use Prim.Native.Nat.{ℕ, _+_, _-_, _≤_, _<_}
+use mathlib.Core.Path.{_≡_, refl, sym, ap, _∙_}
+use Prim.Native.Nat.{ℕ, _+_, _-_, _*_, _≤_, _<_}
 use lib.ListN.{length, getD, length-set}
-use Rattle.runs.specs.Run.{patch}
-use Rattle.runs.specs.Units.{values}
-use Rattle.runs.proofs.Values.{below-add, wrote-more, wrote-on}
-use Rattle.runs.proofs.Patches.{patch-none}
 use borrow.Author.Count.{below-more}
+use Rattle.runs.specs.Bytes.{Halves, Same}
+use Rattle.runs.specs.Units.{values, unitAt}
+use Rattle.runs.specs.Run.{patch}
+use Rattle.runs.proofs.WordBytes.{byte-there, cell-there}
+use Rattle.runs.proofs.Patches.{patch-none}
+use Rattle.runs.proofs.Values.{below-add, wrote-more, wrote-on}
 use Rattle.runs.proofs.single_byte.look_up.Statement.{statement}
 use Rattle.runs.proofs.single_byte.look_up.Tie as tie
 
@@ -21,12 +24,11 @@ abbrev Looked : List ℕ → List ℕ → ℕ → ℕ → List ℕ → ℕ → L
 Looked table chunk from place room₀ k room = ((j : ℕ) → j < k → getD chunk (from + j) 0 < 256) × (room ≡ patch place (values (cell table chunk from) k) room₀)
 
 abbrev Inv-loop : tie.InvT-loop
-Inv-loop table chunk from room₀ place n k₀ room k = (k ≤ n) × (length room ≡ length room₀) × Looked table chunk from place room₀ k room
+Inv-loop table chunk from room₀ place n low high words₀ k₀ room words k = (k ≤ n) × (length room ≡ length room₀) × (length words ≡ 256) × (length low ≡ 256) × (length high ≡ 256) × Halves low high × Same table low × Looked table chunk from place room₀ k room
 
 abbrev μ-loop : tie.MeasureT-loop
-μ-loop table chunk from room₀ place n k₀ room k = n - k
+μ-loop table chunk from room₀ place n low high words₀ k₀ room words k = n - k
 
--- Its first room is the one the first loop left: r is the one before both.
 abbrev Inv-loop2 : tie.InvT-loop2
 Inv-loop2 table chunk from room₀ place n k₀ room k = (k ≤ n) × (length room ≡ length room₀) × ((r : List ℕ) → length r ≡ length room₀ → Looked table chunk from place r k₀ room₀ → Looked table chunk from place r k room)
 
@@ -36,23 +38,54 @@ abbrev μ-loop2 : tie.MeasureT-loop2
 sub-n : tie.Need-sub-n Inv-loop μ-loop Inv-loop2 μ-loop2
 sub-n c = search needs
 
+slice-aggregate-halves : tie.Need-slice-aggregate-halves Inv-loop μ-loop Inv-loop2 μ-loop2
+slice-aggregate-halves c = search needs
+
+slice-aggregate-halves-2 : tie.Need-slice-aggregate-halves-2 Inv-loop μ-loop Inv-loop2 μ-loop2
+slice-aggregate-halves-2 c = search needs
+
+halves-requires : tie.Need-halves-requires Inv-loop μ-loop Inv-loop2 μ-loop2
+halves-requires c κs = search needs
+
 loop-holds : tie.Need-loop-holds Inv-loop μ-loop Inv-loop2 μ-loop2
 unfolding values
 loop-holds c =
-    let args = c .before .before .before .args in
-    (omega arith, refl, (λ j l. absurd (omega arith), patch-none (args .room .now) (args .place)))
+    let args = c .before .before .before .before .before .before .before .before .args in
+    let made = c .before .before .halves .ensures in
+    (omega arith, refl, refl, search needs, search needs, made .0, made .1, (λ j l. absurd (omega arith), patch-none (args .room .now) (args .place)))
 
 sub-loop : tie.Need-sub-loop Inv-loop μ-loop Inv-loop2 μ-loop2
 sub-loop c = search needs
 
-add-look-up-eight : tie.Need-add-look-up-eight Inv-loop μ-loop Inv-loop2 μ-loop2
-add-look-up-eight c = search needs
+add-read-words : tie.Need-add-read-words Inv-loop μ-loop Inv-loop2 μ-loop2
+add-read-words c = search needs
 
-add-look-up-eight-2 : tie.Need-add-look-up-eight-2 Inv-loop μ-loop Inv-loop2 μ-loop2
-add-look-up-eight-2 c = search needs
+slice-aggregate-read-words : tie.Need-slice-aggregate-read-words Inv-loop μ-loop Inv-loop2 μ-loop2
+slice-aggregate-read-words c = search needs
 
-look-up-eight-requires : tie.Need-look-up-eight-requires Inv-loop μ-loop Inv-loop2 μ-loop2
-look-up-eight-requires c κs = search needs
+read-words-requires : tie.Need-read-words-requires Inv-loop μ-loop Inv-loop2 μ-loop2
+read-words-requires c κs =
+    let inv = c .before .before .loop .inv in
+    omega (arith, inv .0, inv .2)
+
+slice-aggregate-put-words : tie.Need-slice-aggregate-put-words Inv-loop μ-loop Inv-loop2 μ-loop2
+slice-aggregate-put-words c = search needs
+
+slice-aggregate-put-words-2 :
+    tie.Need-slice-aggregate-put-words-2 Inv-loop μ-loop Inv-loop2 μ-loop2
+slice-aggregate-put-words-2 c = search needs
+
+slice-aggregate-put-words-3 :
+    tie.Need-slice-aggregate-put-words-3 Inv-loop μ-loop Inv-loop2 μ-loop2
+slice-aggregate-put-words-3 c = search needs
+
+add-put-words : tie.Need-add-put-words Inv-loop μ-loop Inv-loop2 μ-loop2
+add-put-words c = search needs
+
+put-words-requires : tie.Need-put-words-requires Inv-loop μ-loop Inv-loop2 μ-loop2
+put-words-requires c κs =
+    let inv = c .before .before .before .before .before .before .before .before .loop .inv in
+    (inv .3, inv .4, inv .5, omega (arith, inv .2), omega (arith, inv .0, inv .1))
 
 add-k : tie.Need-add-k Inv-loop μ-loop Inv-loop2 μ-loop2
 add-k c = search needs
@@ -62,16 +95,19 @@ loop-less c = search needs
 
 loop-again : tie.Need-loop-again Inv-loop μ-loop Inv-loop2 μ-loop2
 loop-again c =
-    let args = c .before .before .before .before .before .before .before .before .before .args in
-    let at-loop = c .before .before .before .before .before .loop in
-    let at-eight = c .before .before .look-up-eight in
+    let args = c .before .before .before .before .before .before .before .before .before .before .before .before .before .before .before .before .before .before .before .before .args in
+    let at-loop = c .before .before .before .before .before .before .before .before .before .before .before .loop in
+    let inv = at-loop .inv in
+    let read = c .before .before .before .before .before .before .before .before .read-words .ensures in
     let chunk = args .chunk .now in
-    let f = cell (args .table .now) chunk (args .from) in
-    let g = cell (args .table .now) chunk (args .from + at-loop .k) in
-    let on : (j : ℕ) → args .from + at-loop .k + j ≡ args .from + (at-loop .k + j) = λ j. omega arith in
-    let low = below-add (λ (j : ℕ). getD chunk (args .from + j) 0 < 256) (at-loop .k) 8 (at-loop .inv .2 .0) (λ j l. subst (λ (n : ℕ). getD chunk n 0 < 256) (on j) (at-eight .ensures .0 j l)) in
-    let wrote = wrote-on (args .room .now) (at-loop .room) _ (args .place) f g (at-loop .k) 8 (at-loop .inv .2 .1) (at-eight .ensures .1) (λ j l. ap (λ (n : ℕ). getD (args .table .now) (getD chunk n 0) 0) (on j)) (omega arith) in
-    (omega arith, omega arith, (low, wrote))
+    let table = args .table .now in
+    let from = args .from in
+    let k = at-loop .k in
+    let e = read .1 ∙ ap (values (unitAt false chunk (from + k))) (inv .2) in
+    let p : (j : ℕ) → j < 256 → (getD chunk (from + k + j * 2) 0 < 256) × (getD chunk (from + k + j * 2 + 1) 0 < 256) = λ j l. read .0 j (omega (arith, inv .2)) in
+    let low = below-add (λ (j : ℕ). getD chunk (from + j) 0 < 256) k 512 (inv .7 .0) (λ j l. byte-there chunk _ from k 256 e p j l) in
+    let wrote = wrote-on (args .room .now) (at-loop .room) _ (args .place) (cell table chunk from) _ k 512 (inv .7 .1) (c .before .before .put-words .ensures) (λ j l. cell-there chunk _ from k 256 e p j l (inv .6)) (omega (arith, inv .0, inv .1)) in
+    (omega (arith, inv .0), omega (arith, inv .1), omega (arith, inv .2), inv .3, inv .4, inv .5, inv .6, (low, wrote))
 
 loop2-holds : tie.Need-loop2-holds Inv-loop μ-loop Inv-loop2 μ-loop2
 loop2-holds c = (c .before .loop .inv .0, refl, λ r e q. q)
@@ -108,26 +144,21 @@ loop2-less c = search needs
 
 loop2-again : tie.Need-loop2-again Inv-loop μ-loop Inv-loop2 μ-loop2
 loop2-again c =
-    let args = c .before .before .before .before .before .before .before .before .before .before .args in
+    let args = c .before .before .before .before .before .before .before .before .before .before .before .before .before .before .before .args in
     let at-loop2 = c .before .before .before .before .loop2 in
     let at-place-of = c .before .place-of in
-    let f = cell (args .table .now) (args .chunk .now) (args .from) in (
-      omega arith,
-      simp length-set (at-loop2 .inv .1),
-      λ r e q.
-          let h = at-loop2 .inv .2 r e q in
-          (below-more _ _ (h .0) (at-place-of .ensures .1), wrote-more r (at-loop2 .room) (args .place) f (at-loop2 .k) (h .1) (omega (arith, e)) (getD (args .table .now) (at-place-of .result) 0) (ap (λ (j : ℕ). getD (args .table .now) j 0) (at-place-of .ensures .0))),
-    )
+    let f = cell (args .table .now) (args .chunk .now) (args .from) in
+    (omega arith, simp length-set (at-loop2 .inv .1), λ r e q. let h = at-loop2 .inv .2 r e q in (below-more _ _ (h .0) (at-place-of .ensures .1), wrote-more r (at-loop2 .room) (args .place) f (at-loop2 .k) (h .1) (omega (arith, e)) (getD (args .table .now) (at-place-of .result) 0) (ap (λ (j : ℕ). getD (args .table .now) j 0) (at-place-of .ensures .0))))
 
 same-length : tie.Need-same-length Inv-loop μ-loop Inv-loop2 μ-loop2
 same-length c = c .before .loop2 .inv .1 ∙ c .before .before .before .loop .inv .1
 
 returns : tie.Need-returns Inv-loop μ-loop Inv-loop2 μ-loop2
 returns c =
-    let args = c .before .before .before .before .before .before .before .args in
+    let args = c .before .before .before .before .before .before .before .before .before .before .before .before .args in
     let at-loop = c .before .before .before .loop in
     let at-loop2 = c .before .loop2 in
-    let h = at-loop2 .inv .2 (args .room .now) (sym (at-loop .inv .1)) (at-loop .inv .2) in
+    let h = at-loop2 .inv .2 (args .room .now) (sym (at-loop .inv .1)) (at-loop .inv .7) in
     let all : at-loop2 .k ≡ length (args .chunk .now) - args .from = omega arith in
     (λ j l. h .0 j (omega arith), h .1 ∙ ap (λ (n : ℕ). patch (args .place) (values (cell (args .table .now) (args .chunk .now) (args .from)) n) (args .room .now)) all)
 
@@ -140,11 +171,19 @@ look-up-spec =
     Inv-loop2
     μ-loop2
     sub-n
+    slice-aggregate-halves
+    slice-aggregate-halves-2
+    halves-requires
     loop-holds
     sub-loop
-    add-look-up-eight
-    add-look-up-eight-2
-    look-up-eight-requires
+    add-read-words
+    slice-aggregate-read-words
+    read-words-requires
+    slice-aggregate-put-words
+    slice-aggregate-put-words-2
+    slice-aggregate-put-words-3
+    add-put-words
+    put-words-requires
     add-k
     loop-less
     loop-again

@@ -1,9 +1,9 @@
+use borrow.Author.Needs.{needs}
 use native.Mathlib.Omega.{arith}
 use mathlib.Core.Path.{refl}
 use Rattle.standard.specs.Sequences.Utf16.{unit}
-use borrow.Author.Needs.{needs}
-use Rattle.runs.proofs.utf_16.little.Statement.{statement}
-use Rattle.runs.proofs.utf_16.little.Tie as tie
+use Rattle.runs.proofs.words.word.Statement.{statement}
+use Rattle.runs.proofs.words.word.Tie as tie
 
 mul-result : tie.Need-mul-result
 mul-result c = search needs
@@ -15,5 +15,5 @@ returns : tie.Need-returns
 unfolding unit
 returns c = (refl, omega arith, omega arith)
 
-pub little-spec : {M : Type 1} → statement M
-little-spec = tie.close (tie.spec mul-result add-result returns)
+pub word-spec : {M : Type 1} → statement M
+word-spec = tie.close (tie.spec mul-result add-result returns)
