@@ -1,26 +1,23 @@
 -- Stretches of ASCII. Assumes nothing.
 use mathlib.Core.Path.{_≡_, refl, sym, ap, _∙_, subst}
-use mathlib.Core.Bool.{Bool, true, false, not}
+use mathlib.Core.Bool.{false}
 use mathlib.Core.List.{List, [], _∷_, _++_}
 use Prim.Native.Nat.{ℕ, zero, suc, _+_, _-_, _≤_, _<_}
 use native.Mathlib.Omega.{arith}
 use native.Mathlib.Nat.{add-zero}
-use lib.Dec.{T, ltb}
 use lib.ListN.{length, take, drop, getD, set, length-drop, length-set, take-append-drop}
-use lib.Seq.{sets, drop-drop, length-take-le, length-sets, getD-take, getD-drop, take-add}
-use borrow.Author.Tests.{ltb-true}
+use lib.Seq.{drop-drop, length-take-le, getD-take, getD-drop, take-add}
 use Rattle.standard.specs.Encodings.{Family, Tables}
 use Rattle.standard.specs.Sequence.{Shift, Out, text, plain, scalar}
 use Rattle.standard.specs.Next.{next}
 use Rattle.standard.specs.Decode.{put, decode, shown, broken}
-use Rattle.standard.proofs.Tests.{T-true}
 use Rattle.standard.proofs.FamilyLaws.{keeps, next-laws}
 use Rattle.standard.proofs.Walk.{decode-item}
 use Rattle.runs.specs.Run.{patch, puts, Ran}
-use Rattle.multibyte.specs.Stretch.{four, Copied}
+use Rattle.multibyte.specs.Stretch.{Copied}
 use Rattle.runs.proofs.Patches.{patch-sets, patch-none, patch-patch}
 use Rattle.runs.proofs.Values.{below-add}
-use Rattle.runs.proofs.Fronts.{byte-at, four-at}
+use Rattle.runs.proofs.Fronts.{byte-at}
 use Rattle.runs.proofs.Running.{ran-on, Going, going-inside, going-space}
 
 -- nothing copied
@@ -63,14 +60,14 @@ copied-one chunk at w room h b l = record {
   wrote = wrote-one chunk at w room h l;
 }
 
--- four bytes
-pub copied-four : (chunk : List ℕ) (at w : ℕ) (room : List ℕ) → at + 4 ≤ length chunk → ((j : ℕ) → j < 4 → getD chunk (at + j) 0 < 0x80) → w + 4 ≤ length room → Copied chunk at 4 w room (sets room w (four chunk at))
-copied-four chunk at w room h b l = record {
-  inside = h;
-  ascii = b;
-  size = length-sets room w (four chunk at);
-  wrote = patch-sets room w (four chunk at) l ∙ ap (λ (cs : List ℕ). patch w cs room) (sym (ap (take 4) (four-at chunk at (omega arith))));
-}
+-- a stretch after an empty one
+pub copied-after-none : {chunk : List ℕ} {from k w : ℕ} {r r′ r″ : List ℕ} → Copied chunk from 0 w r r′ → Copied chunk from k w r′ r″ → Copied chunk from k w r r″
+copied-after-none {chunk} {from} {k} {w} {r} {r′} {r″} a b = subst (λ (x : List ℕ). Copied chunk from k w x r″) (a .wrote ∙ sym (patch-none r w)) b
+
+-- a byte more
+pub copied-more : {chunk : List ℕ} {at j w : ℕ} {room r : List ℕ} → Copied chunk at j w room r → at + j < length chunk → getD chunk (at + j) 0 < 0x80 → w + j < length room →
+    Copied chunk at (j + 1) w room (set r (w + j) (getD chunk (at + j) 0))
+copied-more {chunk} {at} {j} {w} {room} {r} a h b l = copied-on chunk at j 1 w (omega arith) a (copied-one chunk (at + j) (w + j) r h b (omega (arith, a .size)))
 
 -- a stretch on its way
 pub record Copying (chunk : List ℕ) (from w k : ℕ) (room₀ room : List ℕ) : Type 0 where
@@ -94,33 +91,6 @@ copying-on {chunk} {from} {w} {k} {room₀} {room} {room′} {j} C c = record {
 pub first-copied : (chunk : List ℕ) (from k : ℕ) → 0x80 ≤ getD chunk (from + k) 0 → getD chunk from 0 < 0x80 → 1 ≤ k
 first-copied chunk from zero h l = let e : getD chunk (from + 0) 0 ≡ getD chunk from 0 = ap (λ (n : ℕ). getD chunk n 0) (add-zero from) in absurd (omega (arith, e))
 first-copied chunk from (suc k) h l = omega arith
-
-pub some-copied : (chunk : List ℕ) (from k j : ℕ) → (from + k < length chunk → getD chunk (from + k) 0 < 0x80 → 1 ≤ j) → from < length chunk → getD chunk from 0 < 0x80 → 1 ≤ k + j
-some-copied chunk from zero j h l q = omega (arith, h (omega arith) (subst (λ (n : ℕ). getD chunk n 0 < 0x80) (sym (add-zero from)) q))
-some-copied chunk from (suc k) j h l q = omega arith
-
--- four stores
-pub four-sets : (r : List ℕ) (o a b c d : ℕ) → set (set (set (set r o a) (o + 1) b) (o + 2) c) (o + 3) d ≡ sets r o (a ∷ b ∷ c ∷ d ∷ [])
-four-sets r o a b c d =
-    let p1 : o + 1 ≡ suc o = omega arith in
-    let p2 : o + 2 ≡ suc (suc o) = omega arith in
-    let p3 : o + 3 ≡ suc (suc (suc o)) = omega arith in
-    rw (p1, p2, p3)
-
-pub not-false : (b : Bool) → not b ≡ false → T b
-not-false true h = tt
-not-false false h = absurd (subst T h tt)
-
--- four tests
-below-four : (P : ℕ → Type 0) → P 0 → P 1 → P 2 → P 3 → (j : ℕ) → j < 4 → P j
-below-four P a b c d zero l = a
-below-four P a b c d (suc zero) l = b
-below-four P a b c d (suc (suc zero)) l = c
-below-four P a b c d (suc (suc (suc zero))) l = d
-below-four P a b c d (suc (suc (suc (suc j)))) l = absurd (omega arith)
-
-pub four-low : (chunk : List ℕ) (at : ℕ) → getD chunk at 0 < 0x80 → getD chunk (at + 1) 0 < 0x80 → getD chunk (at + 2) 0 < 0x80 → T (ltb (getD chunk (at + 3) 0) 0x80) → (j : ℕ) → j < 4 → getD chunk (at + j) 0 < 0x80
-four-low chunk at a b c d = below-four (λ j. getD chunk (at + j) 0 < 0x80) (subst (λ (n : ℕ). getD chunk n 0 < 0x80) (sym (add-zero at)) a) b c (ltb-true (getD chunk (at + 3) 0) 0x80 (T-true (ltb (getD chunk (at + 3) 0) 0x80) d))
 
 -- each byte as a sequence
 singles : List ℕ → List Out

@@ -1,13 +1,9 @@
 -- Stretches of ASCII in a chunk. Assumes nothing.
 use mathlib.Core.Path.{_≡_}
-use mathlib.Core.List.{List, [], _∷_}
+use mathlib.Core.List.{List}
 use Prim.Native.Nat.{ℕ, _+_, _≤_, _<_}
 use lib.ListN.{length, take, drop, getD}
 use Rattle.runs.specs.Run.{patch}
-
--- the four bytes at a place
-abbrev pub four : List ℕ → ℕ → List ℕ
-four xs i = getD xs i 0 ∷ getD xs (i + 1) 0 ∷ getD xs (i + 2) 0 ∷ getD xs (i + 3) 0 ∷ []
 
 -- A stretch of k bytes below 80, copied into the room from place w on.
 pub record Copied (chunk : List ℕ) (from k w : ℕ) (room room′ : List ℕ) : Type 0 where

@@ -2,54 +2,33 @@
 
 use crate::wide;
 ghost use mathlib.Core.Path.{_≡_};
-ghost use mathlib.Core.List.{_∷_, []};
 ghost use Prim.Native.Nat.{ℕ, _+_, _-_, _≤_, _<_};
-ghost use lib.Dec.{T};
 ghost use lib.ListN.{length, take, drop, getD};
-ghost use lib.Seq.{sets};
 ghost use Rattle.runs.specs.Run.{patch};
-ghost use Rattle.multibyte.specs.Stretch.{Copied, four};
+ghost use Rattle.multibyte.specs.Stretch.{Copied};
 
-// Are four bytes all below 80?
-fn are_ascii(chunk: &[u8], at: usize) -> bool
-    requires { ⌜ at + 4 ≤ length (now chunk) ⌝ }
-    ensures { λ r. ⌜ (T r → (j : ℕ) → j < 4 → getD (now (chunk .entry)) (at + j) 0 < 0x80) ⌝ }
-{
-    if chunk[at] >= 0x80 {
-        return false;
-    }
-    if chunk[at + 1] >= 0x80 {
-        return false;
-    }
-    if chunk[at + 2] >= 0x80 {
-        return false;
-    }
-    chunk[at + 3] < 0x80
-}
-
-fn put_four(room: &mut [u32], o: usize, b0: u8, b1: u8, b2: u8, b3: u8)
-    requires { ⌜ o + 4 ≤ length (now room) ⌝ }
-    ensures { λ r. ⌜ now (room .exit) ≡ sets (now (room .entry)) o (b0 ∷ b1 ∷ b2 ∷ b3 ∷ []) ⌝ }
-{
-    room[o] = b0 as u32;
-    room[o + 1] = b1 as u32;
-    room[o + 2] = b2 as u32;
-    room[o + 3] = b3 as u32;
-}
-
-// Copies four bytes.
-fn copy_four(chunk: &[u8], at: usize, room: &mut [u32], o: usize)
+// Copies the bytes below 80 in front of four; how many. Each is stored once it is tested, so that no loop has to find the end again.
+fn copy_four(chunk: &[u8], at: usize, room: &mut [u32], o: usize) -> usize
     requires { ⌜ (at + 4 ≤ length (now chunk)) × (o + 4 ≤ length (now room)) ⌝ }
-    ensures { λ r. ⌜ now (room .exit) ≡ sets (now (room .entry)) o (four (now (chunk .entry)) at) ⌝ }
+    ensures { λ r. ⌜ (Copied (now (chunk .entry)) at r o (now (room .entry)) (now (room .exit))) × (r ≤ 4) ⌝ }
 {
-    put_four(
-        room,
-        o,
-        chunk[at],
-        chunk[at + 1],
-        chunk[at + 2],
-        chunk[at + 3],
-    );
+    if 0x80 <= chunk[at] {
+        return 0;
+    }
+    room[o] = wide(chunk[at]);
+    if 0x80 <= chunk[at + 1] {
+        return 1;
+    }
+    room[o + 1] = wide(chunk[at + 1]);
+    if 0x80 <= chunk[at + 2] {
+        return 2;
+    }
+    room[o + 2] = wide(chunk[at + 2]);
+    if 0x80 <= chunk[at + 3] {
+        return 3;
+    }
+    room[o + 3] = wide(chunk[at + 3]);
+    4
 }
 
 // The smaller of two numbers.
@@ -70,11 +49,11 @@ fn copy_fours(chunk: &[u8], from: usize, room: &mut [u32], place: usize) -> usiz
     let n = least(chunk.len() - from, 32);
     let mut k: usize = 0;
     while n - k >= 4 {
-        if !are_ascii(chunk, from + k) {
+        let c = copy_four(chunk, from + k, room, place + k);
+        k += c;
+        if c < 4 {
             return k;
         }
-        copy_four(chunk, from + k, room, place + k);
-        k += 4;
     }
     k
 }
@@ -162,5 +141,8 @@ pub(crate) fn copy_ascii(chunk: &[u8], from: usize, room: &mut [u32], place: usi
     if k == 32 {
         return 32 + copy_blocks(chunk, from + 32, room, place + 32);
     }
-    k + copy_each(chunk, from + k, room, place + k)
+    if 1 <= k {
+        return k;
+    }
+    copy_each(chunk, from, room, place)
 }

@@ -1,6 +1,7 @@
-use Rattle.multibyte.proofs.Stretches.{copied-on, copied-one, some-copied}
-use native.Mathlib.Omega.{arith}
 use borrow.Author.Needs.{needs}
+use native.Mathlib.Omega.{arith}
+use mathlib.Core.Path.{_≡_}
+use Rattle.multibyte.proofs.Stretches.{copied-on, copied-one, copied-after-none}
 use Rattle.multibyte.proofs.ascii.copy_ascii.Statement.{statement}
 use Rattle.multibyte.proofs.ascii.copy_ascii.Tie as tie
 
@@ -55,34 +56,31 @@ same-length-2 c = search needs
 returns-2 : tie.Need-returns-2
 returns-2 c =
     let args = c .before .before .before .before .before .before .before .before .before .before .before .before .args in
-    let at-copy-fours = c .before .before .before .before .before .before .before .copy-fours in
-    let at-copy-blocks = c .before .before .copy-blocks in
-    let first = at-copy-fours .ensures in
+    let first = c .before .before .before .before .before .before .before .copy-fours .ensures in
     let k = c .before .before .before .before .if3 .taken in
     let short = rw k at first in
-    (copied-on (args .chunk .now) (args .from) 32 (at-copy-blocks .result) (args .place) (omega (arith, short .inside)) short (at-copy-blocks .ensures), omega arith)
-
-add-copy-each : tie.Need-add-copy-each
-add-copy-each c = search needs
-
-add-copy-each-2 : tie.Need-add-copy-each-2
-add-copy-each-2 c = search needs
-
-copy-each-requires : tie.Need-copy-each-requires
-copy-each-requires c κs = search needs
-
-add-result-2 : tie.Need-add-result-2
-add-result-2 c = search needs
+    let blocks = c .before .before .copy-blocks in
+    (copied-on (args .chunk .now) (args .from) 32 (blocks .result) (args .place) (omega (arith, short .inside)) short (blocks .ensures), omega arith)
 
 same-length-3 : tie.Need-same-length-3
 same-length-3 c = search needs
 
 returns-3 : tie.Need-returns-3
-returns-3 c =
-    let args = c .before .before .before .before .before .before .before .before .before .before .before .before .args in
-    let at-copy-fours = c .before .before .before .before .before .before .before .copy-fours in
-    let at-copy-each = c .before .before .copy-each in
-    (copied-on (args .chunk .now) (args .from) (at-copy-fours .result) (at-copy-each .result) (args .place) (omega (arith, at-copy-fours .ensures .inside)) (at-copy-fours .ensures) (at-copy-each .ensures .0), some-copied (args .chunk .now) (args .from) (at-copy-fours .result) (at-copy-each .result) (at-copy-each .ensures .1) (omega arith) (omega arith))
+returns-3 c = (c .before .before .before .before .copy-fours .ensures, omega arith)
+
+copy-each-requires : tie.Need-copy-each-requires
+copy-each-requires c κs = search needs
+
+same-length-4 : tie.Need-same-length-4
+same-length-4 c = search needs
+
+returns-4 : tie.Need-returns-4
+returns-4 c =
+    let first = c .before .before .before .before .before .before .before .before .copy-fours .ensures in
+    let k : c .before .before .before .before .before .before .before .before .copy-fours .result ≡ 0 = omega arith in
+    let none = rw k at first in
+    let each = c .before .before .copy-each .ensures in
+    (copied-after-none none (each .0), each .1 (omega arith) (omega arith))
 
 pub copy-ascii-spec : {M : Type 1} → statement M
 copy-ascii-spec =
@@ -104,9 +102,8 @@ copy-ascii-spec =
     add-result
     same-length-2
     returns-2
-    add-copy-each
-    add-copy-each-2
-    copy-each-requires
-    add-result-2
     same-length-3
-    returns-3)
+    returns-3
+    copy-each-requires
+    same-length-4
+    returns-4)

@@ -1,7 +1,7 @@
-use Rattle.multibyte.proofs.Stretches.{not-false, Copying, copying-start, copying-on, copied-four}
-use Prim.Native.Nat.{_+_, _-_, _≤_}
 use borrow.Author.Needs.{needs}
 use native.Mathlib.Omega.{arith}
+use Prim.Native.Nat.{_-_, _≤_}
+use Rattle.multibyte.proofs.Stretches.{Copying, copying-start, copying-on}
 use Rattle.multibyte.proofs.ascii.copy_fours.Statement.{statement}
 use Rattle.multibyte.proofs.ascii.copy_fours.Tie as tie
 
@@ -25,18 +25,6 @@ loop-holds c =
 sub-loop : tie.Need-sub-loop Inv-loop μ-loop
 sub-loop c = search needs
 
-add-are-ascii : tie.Need-add-are-ascii Inv-loop μ-loop
-add-are-ascii c = search needs
-
-are-ascii-requires : tie.Need-are-ascii-requires Inv-loop μ-loop
-are-ascii-requires c κs = search needs
-
-same-length : tie.Need-same-length Inv-loop μ-loop
-same-length c = c .before .before .before .loop .inv .0 .copied .size
-
-returns : tie.Need-returns Inv-loop μ-loop
-returns c = c .before .before .before .loop .inv .0 .copied
-
 add-copy-four : tie.Need-add-copy-four Inv-loop μ-loop
 add-copy-four c = search needs
 
@@ -44,23 +32,31 @@ add-copy-four-2 : tie.Need-add-copy-four-2 Inv-loop μ-loop
 add-copy-four-2 c = search needs
 
 copy-four-requires : tie.Need-copy-four-requires Inv-loop μ-loop
-copy-four-requires c κs = search needs
+copy-four-requires c κs =
+    let at-loop = c .before .before .loop in
+    (omega (arith, at-loop .inv .1), omega (arith, at-loop .inv .0 .fits, at-loop .inv .0 .copied .size))
 
 add-k : tie.Need-add-k Inv-loop μ-loop
-add-k c = search needs
+add-k c =
+    let at-loop = c .before .before .before .before .before .loop in
+    omega (arith, at-loop .inv .1, c .before .before .copy-four .ensures .1)
+
+same-length : tie.Need-same-length Inv-loop μ-loop
+same-length c = copying-on (c .before .before .before .before .before .before .loop .inv .0) (c .before .before .before .copy-four .ensures .0) .copied .size
+
+returns : tie.Need-returns Inv-loop μ-loop
+returns c = copying-on (c .before .before .before .before .before .before .loop .inv .0) (c .before .before .before .copy-four .ensures .0) .copied
 
 loop-less : tie.Need-loop-less Inv-loop μ-loop
-loop-less c = search needs
+loop-less c =
+    let at-loop = c .before .before .before .before .before .before .loop in
+    omega (arith, at-loop .inv .1, c .before .before .before .copy-four .ensures .1)
 
 loop-again : tie.Need-loop-again Inv-loop μ-loop
 loop-again c =
-    let args = c .before .before .before .before .before .before .before .before .before .before .before .args in
-    let at-loop = c .before .before .before .before .before .before .before .loop in
-    let at-are-ascii = c .before .before .before .before .before .are-ascii in
-    let at-if1 = c .before .before .before .before .if1 in
-    let at-copy-four = c .before .before .copy-four in
-    let on = copying-on (at-loop .inv .0) (copied-four (args .chunk .now) (args .from + at-loop .k) (args .place + at-loop .k) (at-loop .room) (omega arith) (at-are-ascii .ensures (not-false (at-are-ascii .result) (at-if1 .left))) (omega (arith, at-loop .inv .0 .fits, at-loop .inv .0 .copied .size))) in
-    (rw (at-copy-four .ensures) on, omega arith)
+    let at-loop = c .before .before .before .before .before .before .loop in
+    let four = c .before .before .before .copy-four .ensures in
+    (copying-on (at-loop .inv .0) (four .0), omega (arith, at-loop .inv .1, four .1))
 
 same-length-2 : tie.Need-same-length-2 Inv-loop μ-loop
 same-length-2 c = c .before .loop .inv .0 .copied .size
@@ -78,14 +74,12 @@ copy-fours-spec =
     least-requires
     loop-holds
     sub-loop
-    add-are-ascii
-    are-ascii-requires
-    same-length
-    returns
     add-copy-four
     add-copy-four-2
     copy-four-requires
     add-k
+    same-length
+    returns
     loop-less
     loop-again
     same-length-2
