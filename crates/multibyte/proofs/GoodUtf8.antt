@@ -4,14 +4,14 @@ use mathlib.Core.Bool.{true, false}
 use mathlib.Core.List.{List, _∷_}
 use Prim.Native.Nat.{ℕ, _+_, _-_, _*_, _≤_, _<_}
 use native.Mathlib.Omega.{arith}
-use lib.Dec.{leb}
-use borrow.Author.Tests.{lt-ltb, le-ltb, leb-true, leb-false, ne-eqb}
+use lib.Dec.{leb, eqb}
+use borrow.Author.Tests.{lt-ltb, le-ltb, leb-true, leb-false, eqb-true, ne-eqb}
 use Rattle.standard.specs.Base.{within}
 use Rattle.standard.specs.Encodings.{family, lent}
 use Rattle.standard.specs.Sequence.{Next, more, item, plain, scalar, bad}
 use Rattle.standard.specs.Next.{next, unmarked}
 use Rattle.standard.specs.Sequences.Utf8.{utf8, utf8Low, utf8High}
-use Rattle.standard.proofs.Tests.{split, under, above}
+use Rattle.standard.proofs.Tests.{split, under, above, within-low, within-high}
 use Rattle.sequences.proofs.Leaves.{in-range}
 use Rattle.multibyte.proofs.Dispatch.{is-utf8}
 
@@ -28,6 +28,26 @@ module _ (b c : ℕ) (xs : List ℕ) where
       utf8 (b ∷ c ∷ d ∷ e ∷ xs) ≡ scalar 4 ((b - 0xF0) * 262144 + (c - 0x80) * 4096 + (d - 0x80) * 64 + (e - 0x80))
   unfolding utf8
   good-four d e h k i j l = rw (le-ltb b 0x80 (omega arith), above 0xC2 b 0xDF (omega arith), above 0xE0 b 0xEF (omega arith), in-range 0xF0 b 0xF4 h k, i, j, l)
+
+  -- three bytes by their number: a second byte that is not allowed makes it too small, or a surrogate
+  module _ (d : ℕ) (h : 0xE0 ≤ b) (k : b ≤ 0xEF) (i : within 0x80 c 0xBF ≡ true) (j : within 0x80 d 0xBF ≡ true) (low : 0x800 ≤ (b - 0xE0) * 4096 + (c - 0x80) * 64 + (d - 0x80)) where
+    allowed : (b ≡ 0xED → c ≤ 0x9F) → within (utf8Low b) c (utf8High b) ≡ true
+    unfolding utf8Low utf8High
+    allowed q =
+        let c0 = within-low 0x80 c 0xBF i in
+        let c1 = within-high 0x80 c 0xBF i in
+        let d1 = within-high 0x80 d 0xBF j in
+        split (eqb b 0xE0)
+        (λ t. let e = eqb-true b 0xE0 t in rw (t, ne-eqb b 0xED (λ z. omega arith), ne-eqb b 0xF4 (λ z. omega arith)) (in-range 0xA0 c 0xBF (omega arith) c1))
+        (λ t. split (eqb b 0xED)
+        (λ s. let e = eqb-true b 0xED s in rw (t, ne-eqb b 0xF0 (λ z. omega arith), s) (in-range 0x80 c 0x9F c0 (q e)))
+        (λ s. rw (t, ne-eqb b 0xF0 (λ z. omega arith), s, ne-eqb b 0xF4 (λ z. omega arith)) (in-range 0x80 c 0xBF c0 c1)))
+
+    pub three-below : (b - 0xE0) * 4096 + (c - 0x80) * 64 + (d - 0x80) < 0xD800 → utf8 (b ∷ c ∷ d ∷ xs) ≡ scalar 3 ((b - 0xE0) * 4096 + (c - 0x80) * 64 + (d - 0x80))
+    three-below g = good-three d h k (allowed (λ e. omega (arith, within-low 0x80 c 0xBF i))) j
+
+    pub three-above : 0xDFFF < (b - 0xE0) * 4096 + (c - 0x80) * 64 + (d - 0x80) → utf8 (b ∷ c ∷ d ∷ xs) ≡ scalar 3 ((b - 0xE0) * 4096 + (c - 0x80) * 64 + (d - 0x80))
+    three-above g = good-three d h k (allowed (λ e. absurd (omega (arith, within-high 0x80 c 0xBF i, within-high 0x80 d 0xBF j)))) j
 
   -- a first byte that begins nothing, and a second one that does not follow
   pub bad-low : 0x80 ≤ b → b < 0xC2 → utf8 (b ∷ c ∷ xs) ≡ bad 1

@@ -36,7 +36,7 @@ fn two(b0: u8, b1: u8) -> u32
     0
 }
 
-// Of three bytes.
+// Of three bytes. A second byte that the first does not allow shows in the scalar: it is below 800, or a surrogate.
 fn three(b0: u8, b1: u8, b2: u8) -> u32
     ensures { λ r. ⌜ ((r ≡ 0 → ⊥) → (xs : List ℕ) → utf8 (b0 ∷ b1 ∷ b2 ∷ xs) ≡ scalar 3 r) ⌝ }
 {
@@ -46,12 +46,31 @@ fn three(b0: u8, b1: u8, b2: u8) -> u32
     if 0xEF < b0 {
         return 0;
     }
-    if within(low(b0), b1, high(b0)) {
-        if within(0x80, b2, 0xBF) {
-            return ((b0 - 0xE0) as u32) * 4096 + ((b1 - 0x80) as u32) * 64 + ((b2 - 0x80) as u32);
-        }
+    if !within(0x80, b1, 0xBF) {
+        return 0;
     }
-    0
+    if !within(0x80, b2, 0xBF) {
+        return 0;
+    }
+    let c = three_bits(b0, b1, b2);
+    if c < 0x800 {
+        return 0;
+    }
+    if c < 0xD800 {
+        return c;
+    }
+    if c <= 0xDFFF {
+        return 0;
+    }
+    c
+}
+
+// The number that three bytes have.
+fn three_bits(b0: u8, b1: u8, b2: u8) -> u32
+    requires { ⌜ (0xE0 ≤ b0) × (b0 ≤ 0xEF) × (0x80 ≤ b1) × (b1 ≤ 0xBF) × (0x80 ≤ b2) ⌝ }
+    ensures { λ r. ⌜ r ≡ (b0 - 0xE0) * 4096 + (b1 - 0x80) * 64 + (b2 - 0x80) ⌝ }
+{
+    ((b0 - 0xE0) as u32) * 4096 + ((b1 - 0x80) as u32) * 64 + ((b2 - 0x80) as u32)
 }
 
 // Of four bytes.

@@ -117,6 +117,72 @@ fn pairs(first: u8) -> Vec<u8> {
     bytes
 }
 
+/// Bytes of which each value comes at even and at odd places.
+fn all_bytes(length: usize) -> Vec<u8> {
+    (0..length)
+        .map(|place| (place * 7 + place / 256) as u8)
+        .collect()
+}
+
+/// 200 units of UTF-16 that are scalars, and others from a place on.
+fn units(big: bool, others: &[u16], place: usize) -> Vec<u8> {
+    let scalars = [0x41, 0xD7FF, 0xE000, 0xFFFF, 0x3042];
+    let mut units: Vec<u16> = scalars.into_iter().cycle().take(200).collect();
+    units[place..place + others.len()].copy_from_slice(others);
+    units
+        .into_iter()
+        .flat_map(|unit| match big {
+            true => unit.to_be_bytes(),
+            false => unit.to_le_bytes(),
+        })
+        .collect()
+}
+
+/// Texts around the borders of the blocks that the runs of single-byte text and UTF-16 read at once: each length there,
+/// and surrogates at each place.
+pub fn borders(published: &Published) -> Result<String, String> {
+    let mut count = 0;
+    let mut compared = |encoding, mode, bytes: &[u8], cut, what: String| {
+        count += 1;
+        let tables = published.tables(encoding);
+        compare_text(encoding, mode, tables, bytes, cut).map_err(|error| {
+            format!(
+                "{} in mode {mode}, cut at {cut}, {what}\n  {error}",
+                name(encoding)
+            )
+        })
+    };
+    for encoding in 1..=28 {
+        for length in [511, 512, 513, 1023, 1024, 1025, 1536, 2047] {
+            for (mode, cut) in [(0, 0), (0, 1), (1, 0)] {
+                let what = format!("{length} bytes");
+                compared(encoding, mode, &all_bytes(length), cut, what)?;
+            }
+        }
+    }
+    let others: [&[u16]; 7] = [
+        &[0xD800],
+        &[0xDBFF],
+        &[0xDC00],
+        &[0xDFFF],
+        &[0xD83D, 0xDCA9],
+        &[0xDBFF, 0xD800],
+        &[0xDFFF, 0xDBFF, 0xDFFF],
+    ];
+    for (encoding, big) in [(37, true), (38, false)] {
+        for others in others {
+            for place in 0..=130 {
+                for (mode, cut) in [(0, 0), (0, 1), (0, 128), (1, 0)] {
+                    let what = format!("{others:04X?} at unit {place}");
+                    let bytes = units(big, others, place);
+                    compared(encoding, mode, &bytes, cut, what)?;
+                }
+            }
+        }
+    }
+    Ok(format!("{count} texts"))
+}
+
 pub fn texts(published: &Published, seed: u64) -> Result<String, String> {
     let mut random = Random(seed);
     let lists = Lists::new(published, &mut random);

@@ -52,6 +52,7 @@ fn compare_all(number: usize, seed: u64) -> Result<(), String> {
     show("short texts", || exhaustive::texts(&tables))?;
     show("four bytes", || exhaustive::four_bytes(&tables))?;
     show("writers", || exhaustive::scalars(&tables))?;
+    show("block borders", || long::borders(&tables))?;
     compare_random(&tables, number, seed)
 }
 
