@@ -85,36 +85,56 @@ fn put_units(be: bool, words: &[u16], room: &mut [u32], o: usize)
     }
 }
 
-// Blocks of 64 units without surrogates, from a place on.
-fn blocks(be: bool, chunk: &[u8], from: usize, room: &mut [u32], place: usize) -> Reached
-    requires { ⌜ (from ≤ length (now chunk)) × (length (now chunk) ≤ 65536) × (place + (length (now chunk) - from) ≤ length (now room)) ⌝ }
+// Blocks of units without surrogates, from a place on; as long as the array that they are read into.
+fn blocks(
+    be: bool,
+    chunk: &[u8],
+    from: usize,
+    room: &mut [u32],
+    place: usize,
+    words: &mut [u16],
+) -> Reached
+    requires { ⌜ (from ≤ length (now chunk)) × (length (now chunk) ≤ 65536) × (place + (length (now chunk) - from) ≤ length (now room)) × (1 ≤ length (now words)) × (length (now words) ≤ 64) ⌝ }
     ensures { λ r. ⌜ ((m : ℕ) → Runs (next noTables (utf16Family be)) m (now (chunk .entry)) from (r .at) plain plain place (r .written) (now (room .entry)) (now (room .exit))) ⌝ }
 {
     let n = chunk.len();
-    let mut words = [0u16; 64];
+    let size = words.len();
     let mut i = from;
     let mut o = place;
-    while n - i >= 128 {
-        read_words(chunk, i, &mut words);
-        if surrogates(be, &words) != 0 {
+    while n - i >= size * 2 {
+        read_words(chunk, i, words);
+        if surrogates(be, words) != 0 {
             return Reached { at: i, written: o };
         }
-        put_units(be, &words, room, o);
-        i += 128;
-        o += 64;
+        put_units(be, words, room, o);
+        i += size * 2;
+        o += size;
     }
     Reached { at: i, written: o }
 }
 
-// The same; the compiler makes a loop for each byte order.
-fn clear(be: bool, chunk: &[u8], from: usize, room: &mut [u32], place: usize) -> Reached
+// Blocks of 64 units. With byte order and length known the compiler keeps a block in registers.
+fn long_blocks(be: bool, chunk: &[u8], from: usize, room: &mut [u32], place: usize) -> Reached
     requires { ⌜ (from ≤ length (now chunk)) × (length (now chunk) ≤ 65536) × (place + (length (now chunk) - from) ≤ length (now room)) ⌝ }
     ensures { λ r. ⌜ ((m : ℕ) → Runs (next noTables (utf16Family be)) m (now (chunk .entry)) from (r .at) plain plain place (r .written) (now (room .entry)) (now (room .exit))) ⌝ }
 {
+    let mut words = [0u16; 64];
     if be {
-        return blocks(true, chunk, from, room, place);
+        return blocks(true, chunk, from, room, place, &mut words);
     }
-    blocks(false, chunk, from, room, place)
+    blocks(false, chunk, from, room, place, &mut words)
+}
+
+// Blocks of 8 units, for text with surrogates here and there.
+fn short_blocks(be: bool, chunk: &[u8], from: usize, room: &mut [u32], place: usize) -> Reached
+    requires { ⌜ (from ≤ length (now chunk)) × (length (now chunk) ≤ 65536) × (place + (length (now chunk) - from) ≤ length (now room)) ⌝ }
+    ensures { λ r. ⌜ ((m : ℕ) → Runs (next noTables (utf16Family be)) m (now (chunk .entry)) from (r .at) plain plain place (r .written) (now (room .entry)) (now (room .exit))) ⌝ }
+{
+    let mut words = [0u16; 8];
+    if be {
+        return blocks(true, chunk, from, room, place, &mut words);
+    }
+    blocks(false, chunk, from, room, place, &mut words)
 }
 
 // An error of a unit: U+FFFD, and none in mode 1.
@@ -180,7 +200,7 @@ fn sequence(be: bool, mode: u8, chunk: &[u8], i: usize) -> Scalar
     pair(mode, u, unit(be, chunk[i + 2], chunk[i + 3]))
 }
 
-// Up to 16 sequences.
+// Up to 8 sequences.
 fn sequences(
     be: bool,
     mode: u8,
@@ -196,7 +216,7 @@ fn sequences(
     let mut i = from;
     let mut o = place;
     let mut k: usize = 0;
-    while k < 16 {
+    while k < 8 {
         if n - i < 2 {
             return Reached { at: i, written: o };
         }
@@ -227,8 +247,9 @@ pub(crate) fn utf_16_run(
     let mut i = from;
     let mut o = place;
     loop {
-        let b = clear(be, chunk, i, room, o);
-        let p = sequences(be, mode, chunk, b.at, room, b.written);
+        let b = long_blocks(be, chunk, i, room, o);
+        let c = short_blocks(be, chunk, b.at, room, b.written);
+        let p = sequences(be, mode, chunk, c.at, room, c.written);
         if p.at == i {
             return Place {
                 at: p.at,

@@ -13,7 +13,7 @@ abbrev Inv-loop : tie.InvT-loop
 Inv-loop be mode chunk from room₀ place n i₀ o₀ k₀ room i o k = Going noTables (utf16Family be) mode chunk from i plain plain place o room₀ room
 
 abbrev μ-loop : tie.MeasureT-loop
-μ-loop be mode chunk from room₀ place n i₀ o₀ k₀ room i o k = 16 - k
+μ-loop be mode chunk from room₀ place n i₀ o₀ k₀ room i o k = 8 - k
 
 loop-holds : tie.Need-loop-holds Inv-loop μ-loop
 loop-holds c =
