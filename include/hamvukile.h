@@ -40,6 +40,13 @@
 extern "C" {
 #endif
 
+/* ---- Version --------------------------------------------------------------------------------------------------- */
+
+#define HAMVUKILE_VERSION "0.1.0"
+#define HAMVUKILE_VERSION_MAJOR 0
+#define HAMVUKILE_VERSION_MINOR 1
+#define HAMVUKILE_VERSION_PATCH 0
+
 /* ---- Refusals -------------------------------------------------------------------------------------------------- */
 
 /* The field `refusal` of every answer is one of these. Where several hold, the call's own order decides: see there. */
@@ -86,14 +93,49 @@ enum {
 
 /* ---- Encodings ------------------------------------------------------------------------------------------------- */
 
-/*
- * An encoding is a number: 0 UTF-8; 1 IBM866; 2 ISO-8859-2; 3 ISO-8859-3; 4 ISO-8859-4; 5 ISO-8859-5; 6 ISO-8859-6;
- * 7 ISO-8859-7; 8 ISO-8859-8; 9 ISO-8859-8-I; 10 ISO-8859-10; 11 ISO-8859-13; 12 ISO-8859-14; 13 ISO-8859-15;
- * 14 ISO-8859-16; 15 KOI8-R; 16 KOI8-U; 17 macintosh; 18 windows-874; 19 windows-1250; 20 windows-1251;
- * 21 windows-1252; 22 windows-1253; 23 windows-1254; 24 windows-1255; 25 windows-1256; 26 windows-1257;
- * 27 windows-1258; 28 x-mac-cyrillic; 29 GBK; 30 gb18030; 31 Big5; 32 EUC-JP; 33 ISO-2022-JP; 34 Shift_JIS;
- * 35 EUC-KR; 36 replacement; 37 UTF-16BE; 38 UTF-16LE; 39 x-user-defined.
- */
+/* An encoding is a number. The constant has the standard's name, in capitals, with _ for -. */
+enum {
+    HAMVUKILE_UTF_8 = 0,
+    HAMVUKILE_IBM866 = 1,
+    HAMVUKILE_ISO_8859_2 = 2,
+    HAMVUKILE_ISO_8859_3 = 3,
+    HAMVUKILE_ISO_8859_4 = 4,
+    HAMVUKILE_ISO_8859_5 = 5,
+    HAMVUKILE_ISO_8859_6 = 6,
+    HAMVUKILE_ISO_8859_7 = 7,
+    HAMVUKILE_ISO_8859_8 = 8,
+    HAMVUKILE_ISO_8859_8_I = 9,
+    HAMVUKILE_ISO_8859_10 = 10,
+    HAMVUKILE_ISO_8859_13 = 11,
+    HAMVUKILE_ISO_8859_14 = 12,
+    HAMVUKILE_ISO_8859_15 = 13,
+    HAMVUKILE_ISO_8859_16 = 14,
+    HAMVUKILE_KOI8_R = 15,
+    HAMVUKILE_KOI8_U = 16,
+    HAMVUKILE_MACINTOSH = 17,
+    HAMVUKILE_WINDOWS_874 = 18,
+    HAMVUKILE_WINDOWS_1250 = 19,
+    HAMVUKILE_WINDOWS_1251 = 20,
+    HAMVUKILE_WINDOWS_1252 = 21,
+    HAMVUKILE_WINDOWS_1253 = 22,
+    HAMVUKILE_WINDOWS_1254 = 23,
+    HAMVUKILE_WINDOWS_1255 = 24,
+    HAMVUKILE_WINDOWS_1256 = 25,
+    HAMVUKILE_WINDOWS_1257 = 26,
+    HAMVUKILE_WINDOWS_1258 = 27,
+    HAMVUKILE_X_MAC_CYRILLIC = 28,
+    HAMVUKILE_GBK = 29,
+    HAMVUKILE_GB18030 = 30,
+    HAMVUKILE_BIG5 = 31,
+    HAMVUKILE_EUC_JP = 32,
+    HAMVUKILE_ISO_2022_JP = 33,
+    HAMVUKILE_SHIFT_JIS = 34,
+    HAMVUKILE_EUC_KR = 35,
+    HAMVUKILE_REPLACEMENT = 36,
+    HAMVUKILE_UTF_16BE = 37,
+    HAMVUKILE_UTF_16LE = 38,
+    HAMVUKILE_X_USER_DEFINED = 39
+};
 
 /* What `hamvukile_label` answers. */
 typedef struct {
@@ -124,15 +166,25 @@ hamvukile_named hamvukile_name(uint8_t encoding, uint8_t *room, size_t room_leng
  * is not a scalar of at least 0x80 counts as unmapped, so 0 is an empty cell. A scalar is a number from 0 to 0x10FFFF
  * outside 0xD800 to 0xDFFF. Decoding and encoding are lent two tables, of these lengths:
  *
- *     encoding                   first                  second
- *     1 to 28 except 21          128                    0
- *     29, 30 (GBK, gb18030)      23,940                 ranges: pointer, code point in turn; even, at most 414
- *     31 (Big5)                  19,782                 0
- *     32 (EUC-JP)                11,280 (jis0208)       8,836 (jis0212)
- *     33, 34                     11,280 (jis0208)       0
- *     35 (EUC-KR)                23,940                 0
- *     all others, and 21         0                      0
+ *     encoding                   first                           second
+ *     1 to 28 except 21          HAMVUKILE_SINGLE_BYTE_CELLS     0
+ *     29, 30 (GBK, gb18030)      HAMVUKILE_GB18030_CELLS         ranges: pointer, code point in turn; an even number of
+ *                                                                cells, at most HAMVUKILE_MAX_RANGES_CELLS
+ *     31 (Big5)                  HAMVUKILE_BIG5_CELLS            0
+ *     32 (EUC-JP)                HAMVUKILE_JIS0208_CELLS         HAMVUKILE_JIS0212_CELLS
+ *     33, 34                     HAMVUKILE_JIS0208_CELLS         0
+ *     35 (EUC-KR)                HAMVUKILE_EUC_KR_CELLS          0
+ *     all others, and 21         0                               0
  */
+enum {
+    HAMVUKILE_SINGLE_BYTE_CELLS = 128,
+    HAMVUKILE_GB18030_CELLS = 23940,
+    HAMVUKILE_MAX_RANGES_CELLS = 414,
+    HAMVUKILE_BIG5_CELLS = 19782,
+    HAMVUKILE_JIS0208_CELLS = 11280,
+    HAMVUKILE_JIS0212_CELLS = 8836,
+    HAMVUKILE_EUC_KR_CELLS = 23940
+};
 
 /* What `hamvukile_index_line` answers. */
 typedef struct {

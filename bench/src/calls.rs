@@ -1,13 +1,14 @@
 //! The cost of single calls: an empty feed, a label, the lines of an index file.
 
-use crate::data::{self, Indexes, ENCODINGS};
+use crate::data::{Indexes, ENCODINGS};
 use crate::decoders::{Decoder, Host, Ours};
-use crate::ffi;
 use crate::measure::{self, nanoseconds};
 use crate::simple::Simple;
 use crate::table::{rate, Counts};
 use std::hint::black_box;
 use std::time::Instant;
+use support::calls;
+use support::data::{self, Index};
 
 fn empty<D: Decoder>(mut decoder: D, rounds: usize) -> f64 {
     let mut room = vec![D::Unit::default(); measure::room(0)];
@@ -42,11 +43,10 @@ pub fn empty_feeds(indexes: &Indexes) -> Result<(), String> {
 fn slowest(labels: &[String], rounds: usize, refusal: u8) -> (&str, f64) {
     let mut slowest = ("", 0.0);
     for label in labels {
-        let found = unsafe { ffi::hamvukile_label(label.as_ptr(), label.len()) };
+        let found = calls::label(label.as_bytes());
         assert_eq!(found.refusal, refusal, "{label}");
         let time = nanoseconds(rounds, || {
-            let bytes = black_box(label.as_bytes());
-            black_box(unsafe { ffi::hamvukile_label(bytes.as_ptr(), bytes.len()) });
+            black_box(calls::label(black_box(label.as_bytes())));
         });
         if time > slowest.1 {
             slowest = (label, time);
@@ -58,8 +58,7 @@ fn slowest(labels: &[String], rounds: usize, refusal: u8) -> (&str, f64) {
 /// Every label, and every label with another last character.
 pub fn labels(counts: &mut Counts) -> Result<(), String> {
     let text = data::read("vectors/labels.txt")?;
-    let fields = text.lines().filter(|line| !line.starts_with('#'));
-    let hits: Vec<String> = fields
+    let hits: Vec<String> = data::lines(&text)
         .filter_map(|line| line.split('\t').nth(2))
         .map(str::to_string)
         .collect();
@@ -85,24 +84,23 @@ pub fn labels(counts: &mut Counts) -> Result<(), String> {
 }
 
 /// The lines of an index file, already cut at their line feeds, into a table of zeros.
-fn index(name: &str, length: usize, rounds: usize, counts: &mut Counts) -> Result<(), String> {
-    let text = data::read(&format!("indexes/{name}"))?;
+fn index(index: Index, rounds: usize, counts: &mut Counts) -> Result<(), String> {
+    let text = index.text()?;
     let lines: Vec<&str> = text.split('\n').collect();
     let mut least = f64::INFINITY;
     for _ in 0..rounds.max(5) {
-        let mut table = vec![0; length];
+        let mut table = vec![0; index.cells];
         table.fill(0);
         let start = Instant::now();
         for line in &lines {
-            let answer = unsafe {
-                ffi::hamvukile_index_line(line.as_ptr(), line.len(), table.as_mut_ptr(), length)
-            };
+            let answer = calls::index_line(line.as_bytes(), &mut table);
             assert_eq!(answer.refusal, 0, "{line}");
         }
         least = least.min(start.elapsed().as_secs_f64());
     }
     let rate = rate(text.len(), least);
     let remarks = counts.limit(rate >= 50.0, "below 50 MB/s");
+    let name = format!("index-{}.txt", index.name);
     println!("{name:<24} {rate:>7.0}   {remarks}");
     Ok(())
 }
@@ -110,13 +108,13 @@ fn index(name: &str, length: usize, rounds: usize, counts: &mut Counts) -> Resul
 pub fn indexes(rounds: usize, counts: &mut Counts) -> Result<(), String> {
     println!();
     println!("Index file loaded line by line, in MB/s, best round");
-    for (name, length) in [
-        ("index-jis0208.txt", 11280),
-        ("index-gb18030.txt", 23940),
-        ("index-big5.txt", 19782),
-        ("index-windows-1251.txt", 128),
+    for published in [
+        data::JIS0208,
+        data::GB18030,
+        data::BIG5,
+        data::single_byte("windows-1251"),
     ] {
-        index(name, length, rounds, counts)?;
+        index(published, rounds, counts)?;
     }
     Ok(())
 }

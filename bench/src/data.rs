@@ -1,14 +1,7 @@
 //! The encodings that are measured, and the published indexes as lent tables.
 
-use std::fs;
-use std::path::PathBuf;
-
-/// The tables that a decoder is lent.
-#[derive(Clone, Copy)]
-pub struct Tables<'a> {
-    pub first: &'a [u32],
-    pub second: &'a [u32],
-}
+use support::data::{ranges, single_byte, BIG5, EUC_KR, GB18030, JIS0208, JIS0212};
+use support::{Tables, NO_TABLES};
 
 #[derive(Clone, Copy, Debug, PartialEq, Eq)]
 pub enum Encoding {
@@ -102,45 +95,6 @@ impl Encoding {
     }
 }
 
-pub fn path(name: &str) -> PathBuf {
-    PathBuf::from(env!("CARGO_MANIFEST_DIR"))
-        .join("../tests/data")
-        .join(name)
-}
-
-pub fn read(name: &str) -> Result<String, String> {
-    fs::read_to_string(path(name)).map_err(|error| format!("{name}: {error}"))
-}
-
-/// The pairs of an index file.
-fn pairs(index: &str) -> Result<Vec<(u32, u32)>, String> {
-    let text = read(&format!("indexes/index-{index}.txt"))?;
-    let mut pairs = Vec::new();
-    for line in text.lines() {
-        if line.is_empty() || line.starts_with('#') {
-            continue;
-        }
-        let mut fields = line.split('\t');
-        let pointer = fields.next().and_then(|field| field.trim().parse().ok());
-        let code_point = fields
-            .next()
-            .and_then(|field| u32::from_str_radix(field.trim_start_matches("0x"), 16).ok());
-        match (pointer, code_point) {
-            (Some(pointer), Some(code_point)) => pairs.push((pointer, code_point)),
-            _ => return Err(format!("index {index}: {line}")),
-        }
-    }
-    Ok(pairs)
-}
-
-fn table(index: &str, length: usize) -> Result<Vec<u32>, String> {
-    let mut table = vec![0; length];
-    for (pointer, code_point) in pairs(index)? {
-        table[pointer as usize] = code_point;
-    }
-    Ok(table)
-}
-
 pub struct Indexes {
     windows_1251: Vec<u32>,
     pub windows_1252: Vec<u32>,
@@ -155,24 +109,21 @@ pub struct Indexes {
 impl Indexes {
     pub fn read() -> Result<Indexes, String> {
         Ok(Indexes {
-            windows_1251: table("windows-1251", 128)?,
-            windows_1252: table("windows-1252", 128)?,
-            gb18030: table("gb18030", 23940)?,
-            ranges: pairs("gb18030-ranges")?
-                .into_iter()
-                .flat_map(|(pointer, code_point)| [pointer, code_point])
-                .collect(),
-            big5: table("big5", 19782)?,
-            jis0208: table("jis0208", 11280)?,
-            jis0212: table("jis0212", 8836)?,
-            euc_kr: table("euc-kr", 23940)?,
+            windows_1251: single_byte("windows-1251").table()?,
+            windows_1252: single_byte("windows-1252").table()?,
+            gb18030: GB18030.table()?,
+            ranges: ranges()?,
+            big5: BIG5.table()?,
+            jis0208: JIS0208.table()?,
+            jis0212: JIS0212.table()?,
+            euc_kr: EUC_KR.table()?,
         })
     }
 
     /// What the library is lent for an encoding.
     pub fn tables(&self, encoding: Encoding) -> Tables<'_> {
         let (first, second): (&[u32], &[u32]) = match encoding {
-            Utf8 | Windows1252 | Utf16Le => (&[], &[]),
+            Utf8 | Windows1252 | Utf16Le => return NO_TABLES,
             Windows1251 => (&self.windows_1251, &[]),
             Gbk | Gb18030 => (&self.gb18030, &self.ranges),
             Big5 => (&self.big5, &[]),

@@ -1,11 +1,12 @@
 //! The decoders on whole inputs and on short chunks.
 
-use crate::data::{Indexes, Tables};
+use crate::data::Indexes;
 use crate::decoders::{Host, Ours};
 use crate::inputs::{Input, Kind};
 use crate::measure::{compare, decoding, rounds, whole, Run};
 use crate::simple::Simple;
 use crate::table::{row, Bar, Counts};
+use support::Tables;
 
 /// The bars of a row.
 fn bars(input: &Input, chunk: usize, simple: f64, iconv: f64) -> Vec<Bar> {

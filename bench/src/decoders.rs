@@ -1,9 +1,9 @@
 //! What is measured: the library, iconv and encoding_rs behind one form.
 
-use crate::data::{Encoding, Tables};
-use crate::ffi;
+use crate::data::Encoding;
 use crate::iconv::Iconv;
 use crate::simple::Simple;
+use support::{calls, ffi, Tables};
 
 /// A decoder that is fed chunks. The room has a cell for each byte of the chunk and four more.
 pub trait Decoder {
@@ -22,7 +22,7 @@ pub struct Ours<'a> {
 impl<'a> Ours<'a> {
     pub fn open(encoding: Encoding, tables: Tables<'a>) -> Ours<'a> {
         let keep_mark = 1;
-        let answer = unsafe { ffi::hamvukile_open(encoding.number(), 0, keep_mark) };
+        let answer = calls::open(encoding.number(), 0, keep_mark);
         assert_eq!(answer.refusal, 0);
         Ours {
             decoder: answer.decoder,
@@ -36,26 +36,20 @@ impl Decoder for Ours<'_> {
 
     #[inline]
     fn feed(&mut self, chunk: &[u8], room: &mut [u32]) -> usize {
-        let answer = unsafe {
-            ffi::hamvukile_feed(
-                self.decoder,
-                chunk.as_ptr(),
-                chunk.len(),
-                self.tables.first.as_ptr(),
-                self.tables.first.len(),
-                self.tables.second.as_ptr(),
-                self.tables.second.len(),
-                room.as_mut_ptr(),
-                room.len(),
-            )
-        };
+        let answer = calls::feed(
+            self.decoder,
+            chunk,
+            self.tables.first,
+            self.tables.second,
+            room,
+        );
         assert_eq!(answer.refusal, 0);
         self.decoder = answer.decoder;
         answer.written
     }
 
     fn finish(&mut self, room: &mut [u32]) -> usize {
-        let answer = unsafe { ffi::hamvukile_finish(self.decoder, room.as_mut_ptr(), room.len()) };
+        let answer = calls::finish(self.decoder, room);
         assert_eq!(answer.refusal, 0);
         self.decoder = answer.decoder;
         answer.written

@@ -1,9 +1,9 @@
 //! The inputs: bytes in an encoding, the same in every run.
 
 use crate::data::{Encoding, Indexes};
-use crate::random::Random;
 use crate::text::{self, Characters, Language};
 use std::collections::HashMap;
+use support::random::Random;
 
 use Encoding::*;
 use Language::*;

@@ -5,13 +5,9 @@ mod calls;
 mod data;
 mod decode;
 mod decoders;
-#[allow(dead_code)]
-#[path = "../../bindings/rust/src/ffi.rs"]
-mod ffi;
 mod iconv;
 mod inputs;
 mod measure;
-mod random;
 mod simple;
 mod table;
 mod text;

@@ -4,7 +4,8 @@
 //! Each encoding is one loop that reads whole sequences and stops before an unfinished one. The shapes are the best of
 //! those tried: ASCII and UTF-16 in blocks, single-byte text through a table of 256 scalars, errors as rare branches.
 
-use crate::data::{Encoding, Tables};
+use crate::data::Encoding;
+use support::Tables;
 
 const ERROR: u32 = 0xFFFD;
 

@@ -1,7 +1,7 @@
 //! Text in a language, as scalars: words of a small list, or characters of an index in plausible proportions.
 
 use crate::data::Indexes;
-use crate::random::Random;
+use support::random::Random;
 
 #[derive(Clone, Copy, Debug, PartialEq, Eq)]
 pub enum Language {
@@ -170,7 +170,7 @@ impl Characters {
             match random.below(100) {
                 0..=79 => {
                     for _ in 0..random.between(1, 2) {
-                        text.push(*random.pick_frequent(&self.kanji));
+                        text.push(random.pick_frequent(&self.kanji));
                     }
                     for _ in 0..random.between(1, 4) {
                         text.push(0x3042 + random.below(0x3093 - 0x3042 + 1) as u32);
@@ -195,7 +195,7 @@ impl Characters {
 
     fn chinese(&self, hanzi: &[u32], random: &mut Random, text: &mut Vec<u32>) {
         for _ in 0..random.between(5, 14) {
-            text.push(*random.pick_frequent(hanzi));
+            text.push(random.pick_frequent(hanzi));
         }
         if random.chance(1, 8) {
             digits(random, text);
@@ -209,7 +209,7 @@ impl Characters {
                 0 => 0x3400 + random.below(0x100) as u32,
                 1 => 0x20000 + random.below(0x1000) as u32,
                 2 => 0x1F600 + random.below(0x40) as u32,
-                _ => *random.pick_frequent(&self.hanzi),
+                _ => random.pick_frequent(&self.hanzi),
             });
         }
         punctuation(&['，', '。', '、'], random, text);
@@ -225,8 +225,8 @@ impl Characters {
             }
             for _ in 0..random.between(2, 4) {
                 text.push(match random.below(200) {
-                    0 => *random.pick_frequent(&self.rare_hangul),
-                    _ => *random.pick_frequent(&self.hangul),
+                    0 => random.pick_frequent(&self.rare_hangul),
+                    _ => random.pick_frequent(&self.hangul),
                 });
             }
         }
@@ -275,7 +275,7 @@ fn digits(random: &mut Random, text: &mut Vec<u32>) {
 }
 
 fn punctuation(signs: &[char], random: &mut Random, text: &mut Vec<u32>) {
-    text.push(u32::from(*random.pick_frequent(signs)));
+    text.push(u32::from(random.pick_frequent(signs)));
 }
 
 /// A line of prose.

@@ -1,12 +1,12 @@
 //! The writer beside iconv.
 
-use crate::data::{Encoding, Indexes, Tables};
+use crate::data::{Encoding, Indexes};
 use crate::decoders::Ours;
-use crate::ffi;
 use crate::iconv::Iconv;
 use crate::measure::{rounds, warm, whole, Run};
 use crate::table::{row, Bar, Counts};
 use std::time::Instant;
+use support::{calls, Tables};
 
 /// The most scalars that a call takes.
 pub const SCALARS: usize = 16384;
@@ -15,20 +15,14 @@ pub const SCALARS: usize = 16384;
 const BYTES: usize = 10;
 
 fn ours(encoding: Encoding, tables: Tables, scalars: &[u32], room: &mut [u8]) -> usize {
-    let answer = unsafe {
-        ffi::hamvukile_encode(
-            encoding.number(),
-            0,
-            scalars.as_ptr(),
-            scalars.len(),
-            tables.first.as_ptr(),
-            tables.first.len(),
-            tables.second.as_ptr(),
-            tables.second.len(),
-            room.as_mut_ptr(),
-            room.len(),
-        )
-    };
+    let answer = calls::encode(
+        encoding.number(),
+        0,
+        scalars,
+        tables.first,
+        tables.second,
+        room,
+    );
     assert_eq!(answer.refusal, 0);
     answer.written
 }

@@ -18,7 +18,7 @@ static void check(const char *what, int same) {
 }
 
 /* Tables of unmapped cells, of the lengths that an encoding asks for. */
-static const uint32_t unmapped[23940];
+static const uint32_t unmapped[HAMVUKILE_GB18030_CELLS];
 
 typedef struct {
     const uint32_t *first;
@@ -29,11 +29,12 @@ typedef struct {
 
 static tables tables_of(uint8_t encoding) {
     tables t = { unmapped, 0, unmapped, 0 };
-    if (encoding >= 1 && encoding <= 28 && encoding != 21) t.first_length = 128;
-    if (encoding == 29 || encoding == 30 || encoding == 35) t.first_length = 23940;
-    if (encoding == 31) t.first_length = 19782;
-    if (encoding == 32 || encoding == 33 || encoding == 34) t.first_length = 11280;
-    if (encoding == 32) t.second_length = 8836;
+    if (encoding >= HAMVUKILE_IBM866 && encoding <= HAMVUKILE_X_MAC_CYRILLIC && encoding != HAMVUKILE_WINDOWS_1252) t.first_length = HAMVUKILE_SINGLE_BYTE_CELLS;
+    if (encoding == HAMVUKILE_GBK || encoding == HAMVUKILE_GB18030) t.first_length = HAMVUKILE_GB18030_CELLS;
+    if (encoding == HAMVUKILE_BIG5) t.first_length = HAMVUKILE_BIG5_CELLS;
+    if (encoding == HAMVUKILE_EUC_JP || encoding == HAMVUKILE_ISO_2022_JP || encoding == HAMVUKILE_SHIFT_JIS) t.first_length = HAMVUKILE_JIS0208_CELLS;
+    if (encoding == HAMVUKILE_EUC_JP) t.second_length = HAMVUKILE_JIS0212_CELLS;
+    if (encoding == HAMVUKILE_EUC_KR) t.first_length = HAMVUKILE_EUC_KR_CELLS;
     return t;
 }
 
@@ -209,6 +210,71 @@ static void labels(void) {
     check("2: the name of encoding 40", hamvukile_name(40, room, 0).refusal == HAMVUKILE_UNKNOWN_ENCODING);
 }
 
+/* The constants of the header: names, lengths of tables, version. */
+static void constants(void) {
+    static const struct { uint8_t encoding; const char *name; } named[] = {
+        { HAMVUKILE_UTF_8, "UTF-8" },
+        { HAMVUKILE_IBM866, "IBM866" },
+        { HAMVUKILE_ISO_8859_2, "ISO-8859-2" },
+        { HAMVUKILE_ISO_8859_3, "ISO-8859-3" },
+        { HAMVUKILE_ISO_8859_4, "ISO-8859-4" },
+        { HAMVUKILE_ISO_8859_5, "ISO-8859-5" },
+        { HAMVUKILE_ISO_8859_6, "ISO-8859-6" },
+        { HAMVUKILE_ISO_8859_7, "ISO-8859-7" },
+        { HAMVUKILE_ISO_8859_8, "ISO-8859-8" },
+        { HAMVUKILE_ISO_8859_8_I, "ISO-8859-8-I" },
+        { HAMVUKILE_ISO_8859_10, "ISO-8859-10" },
+        { HAMVUKILE_ISO_8859_13, "ISO-8859-13" },
+        { HAMVUKILE_ISO_8859_14, "ISO-8859-14" },
+        { HAMVUKILE_ISO_8859_15, "ISO-8859-15" },
+        { HAMVUKILE_ISO_8859_16, "ISO-8859-16" },
+        { HAMVUKILE_KOI8_R, "KOI8-R" },
+        { HAMVUKILE_KOI8_U, "KOI8-U" },
+        { HAMVUKILE_MACINTOSH, "macintosh" },
+        { HAMVUKILE_WINDOWS_874, "windows-874" },
+        { HAMVUKILE_WINDOWS_1250, "windows-1250" },
+        { HAMVUKILE_WINDOWS_1251, "windows-1251" },
+        { HAMVUKILE_WINDOWS_1252, "windows-1252" },
+        { HAMVUKILE_WINDOWS_1253, "windows-1253" },
+        { HAMVUKILE_WINDOWS_1254, "windows-1254" },
+        { HAMVUKILE_WINDOWS_1255, "windows-1255" },
+        { HAMVUKILE_WINDOWS_1256, "windows-1256" },
+        { HAMVUKILE_WINDOWS_1257, "windows-1257" },
+        { HAMVUKILE_WINDOWS_1258, "windows-1258" },
+        { HAMVUKILE_X_MAC_CYRILLIC, "x-mac-cyrillic" },
+        { HAMVUKILE_GBK, "GBK" },
+        { HAMVUKILE_GB18030, "gb18030" },
+        { HAMVUKILE_BIG5, "Big5" },
+        { HAMVUKILE_EUC_JP, "EUC-JP" },
+        { HAMVUKILE_ISO_2022_JP, "ISO-2022-JP" },
+        { HAMVUKILE_SHIFT_JIS, "Shift_JIS" },
+        { HAMVUKILE_EUC_KR, "EUC-KR" },
+        { HAMVUKILE_REPLACEMENT, "replacement" },
+        { HAMVUKILE_UTF_16BE, "UTF-16BE" },
+        { HAMVUKILE_UTF_16LE, "UTF-16LE" },
+        { HAMVUKILE_X_USER_DEFINED, "x-user-defined" }
+    };
+    char version[16];
+    int e;
+    for (e = 0; e <= HAMVUKILE_MAX_ENCODING; e++) {
+        uint8_t room[HAMVUKILE_MAX_NAME];
+        hamvukile_named n = hamvukile_name(named[e].encoding, room, sizeof room);
+        hamvukile_decoder d = hamvukile_open((uint8_t)e, HAMVUKILE_REPLACING, HAMVUKILE_DROP_MARK).decoder;
+        tables t = tables_of((uint8_t)e);
+        check(named[e].name, named[e].encoding == e && n.length == strlen(named[e].name) && memcmp(room, named[e].name, n.length) == 0);
+        if (e == HAMVUKILE_GB18030) t.second_length = HAMVUKILE_MAX_RANGES_CELLS;
+        check("tables of the lengths that are asked for", feed(d, NULL, 0, t, NULL, 0).refusal == HAMVUKILE_ACCEPTED);
+        t.second_length += 2;
+        check("4: a second table that is longer", (e == HAMVUKILE_GBK) == (feed(d, NULL, 0, t, NULL, 0).refusal == HAMVUKILE_ACCEPTED));
+        t.second_length -= 2;
+        if (t.first_length == 0) continue;
+        t.first_length--;
+        check("4: a first table that is shorter", feed(d, NULL, 0, t, NULL, 0).refusal == HAMVUKILE_WRONG_TABLE);
+    }
+    sprintf(version, "%d.%d.%d", HAMVUKILE_VERSION_MAJOR, HAMVUKILE_VERSION_MINOR, HAMVUKILE_VERSION_PATCH);
+    check("the version", strcmp(version, HAMVUKILE_VERSION) == 0);
+}
+
 /* A line, and what the call answers. */
 static void line(const char *text, uint32_t *table, size_t length, uint8_t refusal, uint8_t entry, uint32_t pointer) {
     hamvukile_line l = hamvukile_index_line((const uint8_t *)text, strlen(text), table, length);
@@ -249,6 +315,7 @@ int main(void) {
     part("writing, with sample 15", writing);
     part("refusals, with sample 16", refusals);
     part("labels and names", labels);
+    part("constants of the header", constants);
     part("index lines", index_lines);
     printf("%d compared, %d different\n", compared, different);
     return different != 0;

@@ -18,6 +18,7 @@
 //! ```
 #![warn(missing_docs)]
 
+mod calls;
 mod ffi;
 
 use std::fmt;
@@ -209,8 +210,7 @@ impl Encoding {
     /// assert_eq!(Encoding::find(b" UTF8\r\n"), Some((Encoding::UTF_8, &b"UTF8"[..])));
     /// ```
     pub fn find(label: &[u8]) -> Option<(Encoding, &[u8])> {
-        // SAFETY: the call reads the slice, which is valid for its length.
-        let found = unsafe { ffi::hamvukile_label(label.as_ptr(), label.len()) };
+        let found = calls::label(label);
         (found.refusal == 0).then(|| {
             (
                 Encoding(found.encoding),
@@ -222,8 +222,7 @@ impl Encoding {
     /// The encoding's name.
     pub fn name(self) -> Name {
         let mut bytes = [0; MAX_NAME];
-        // SAFETY: the call writes within the array.
-        let named = unsafe { ffi::hamvukile_name(self.0, bytes.as_mut_ptr(), bytes.len()) };
+        let named = calls::name(self.0, &mut bytes);
         debug_assert_eq!(named.refusal, 0);
         Name {
             bytes,
@@ -405,8 +404,7 @@ pub struct Decoder {
 impl Decoder {
     /// A new decoder.
     pub fn new(encoding: Encoding, on_error: OnError, mark: Mark) -> Decoder {
-        // SAFETY: the call reads numbers only.
-        let answer = unsafe { ffi::hamvukile_open(encoding.0, on_error as u8, mark as u8) };
+        let answer = calls::open(encoding.0, on_error as u8, mark as u8);
         debug_assert_eq!(answer.refusal, 0);
         Decoder {
             state: answer.decoder,
@@ -436,28 +434,14 @@ impl Decoder {
         tables: &Tables<'_>,
         room: &mut [u32],
     ) -> Result<usize, Error> {
-        // SAFETY: each slice is valid for its length; the room, borrowed mutably, overlaps no other.
-        let answer = unsafe {
-            ffi::hamvukile_feed(
-                self.state,
-                chunk.as_ptr(),
-                chunk.len(),
-                tables.first.as_ptr(),
-                tables.first.len(),
-                tables.second.as_ptr(),
-                tables.second.len(),
-                room.as_mut_ptr(),
-                room.len(),
-            )
-        };
+        let answer = calls::feed(self.state, chunk, tables.first, tables.second, room);
         self.state = answer.decoder;
         result(answer.refusal, answer.written, 0)
     }
 
     /// The end of the text: writes what the bytes held give, and returns how many scalars.
     pub fn finish(self, room: &mut [u32; MAX_HELD]) -> Result<usize, Error> {
-        // SAFETY: the call writes within the array.
-        let answer = unsafe { ffi::hamvukile_finish(self.state, room.as_mut_ptr(), room.len()) };
+        let answer = calls::finish(self.state, room);
         result(answer.refusal, answer.written, 0)
     }
 }
@@ -530,21 +514,14 @@ pub fn encode(
     tables: &Tables<'_>,
     room: &mut [u8],
 ) -> Result<usize, Error> {
-    // SAFETY: each slice is valid for its length; the room, borrowed mutably, overlaps no other.
-    let answer = unsafe {
-        ffi::hamvukile_encode(
-            encoding.0,
-            on_unwritable as u8,
-            scalars.as_ptr(),
-            scalars.len(),
-            tables.first.as_ptr(),
-            tables.first.len(),
-            tables.second.as_ptr(),
-            tables.second.len(),
-            room.as_mut_ptr(),
-            room.len(),
-        )
-    };
+    let answer = calls::encode(
+        encoding.0,
+        on_unwritable as u8,
+        scalars,
+        tables.first,
+        tables.second,
+        room,
+    );
     result(answer.refusal, answer.written, answer.index)
 }
 
@@ -562,10 +539,7 @@ pub fn encode(
 /// assert_eq!(index_line(b"1 0x00E9", &mut table).unwrap_err().refusal, Refusal::BadLine);
 /// ```
 pub fn index_line(line: &[u8], table: &mut [u32]) -> Result<Option<u32>, Error> {
-    // SAFETY: each slice is valid for its length; the table, borrowed mutably, does not overlap the line.
-    let answer = unsafe {
-        ffi::hamvukile_index_line(line.as_ptr(), line.len(), table.as_mut_ptr(), table.len())
-    };
+    let answer = calls::index_line(line, table);
     result(answer.refusal, 0, 0).map(|_| (answer.entry == 1).then_some(answer.pointer))
 }
 
@@ -582,6 +556,16 @@ mod tests {
                 Some(encoding)
             );
         }
+    }
+
+    #[test]
+    fn the_header_has_this_version() {
+        let header = include_str!("../../../include/hamvukile.h");
+        let line = format!(
+            "#define HAMVUKILE_VERSION \"{}\"",
+            env!("CARGO_PKG_VERSION")
+        );
+        assert!(header.contains(&line));
     }
 
     #[test]

@@ -1,13 +1,4 @@
 pub mod Records
-pub mod Steps
-pub mod Invariants
-pub mod Cutting
-pub mod Shifts
-pub mod Validity
-pub mod Reaching
-pub mod Rooms
-pub mod Samples
-pub mod Theorems
-pub mod Loop
+pub mod Parts
 pub mod Numbers
 pub mod Checks

@@ -1,21 +1,13 @@
 -- The test behind refusal 5: proved to hold exactly of the records that calls leave. Assumes nothing.
 use mathlib.Core.Bool.{Bool, true, false, _&&_, _||_, not}
-use mathlib.Core.List.{List, [], _∷_}
 use Prim.Native.Nat.{ℕ}
 use lib.Dec.{ltb, leb, eqb}
-use lib.ListN.{take}
 use Rattle.standard.specs.Base.{_then_else_}
 use Rattle.standard.specs.Encodings.{Family, UTF-8, single-byte, windows-1252, GB18030, Big5, EUC-JP, ISO-2022-JP, Shift-JIS, EUC-KR, Replacement, UTF-16BE, UTF-16LE, x-user-defined, family, noTables}
-use Rattle.standard.specs.Sequence.{Shift, Next, more, item, shift}
+use Rattle.standard.specs.Sequence.{Shift, Next, more, item}
 use Rattle.standard.specs.Next.{next}
+use Rattle.decoder.specs.Record.{shiftOf, heldOf}
 use Rattle.decoder.specs.declared.Decoder.{Decoder}
-
--- The record read: its shift, and the bytes held.
-abbrev pub shiftOf : Decoder → Shift
-shiftOf d = shift (d .state) (eqb (d .flag) 1)
-
-abbrev pub heldOf : Decoder → List ℕ
-heldOf d = take (d .held) (d .first ∷ d .second ∷ d .third ∷ [])
 
 -- The shifts that a decoder can come to: state 0 and no flag, but for these.
 unfoldable pub possible : Family → ℕ → Shift → Bool

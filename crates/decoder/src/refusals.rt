@@ -1,80 +1,17 @@
-// The refusals of feed and finish: the lent tables, and the test of a record.
+// The refusals that a record and the lent tables give.
 
 use crate::Decoder;
-use multibyte::next;
+use sequences::next;
 ghost use mathlib.Core.Path.{_≡_};
 ghost use mathlib.Core.Bool.{true, false, _&&_, _||_};
 ghost use Prim.Native.Nat.{_+_, _%_, _≤_, _<_};
 ghost use lib.Dec.{ltb, leb, eqb};
-ghost use Rattle.standard.specs.Encodings.{family, traits, secondFits, fits, noTables, lent};
+ghost use Rattle.standard.specs.Encodings.{family, traits, noTables};
 ghost use Rattle.standard.specs.Sequence.{shift};
 ghost use Rattle.standard.specs.Next.{next};
-ghost use Rattle.decoder.specs.Valid.{shiftOf, heldOf, possible, isMore, unused, validRest, valid};
-ghost use Rattle.decoder.specs.Calls.{feedRefusal, finishRefusal};
-
-// The cells of the first table of an encoding.
-fn first_cells(encoding: u8) -> usize
-    ensures { λ r. ⌜ r ≡ traits (family encoding) .first ⌝ }
-{
-    if encoding == 0 {
-        return 0;
-    }
-    if encoding == 21 {
-        return 0;
-    }
-    if encoding <= 28 {
-        return 128;
-    }
-    if encoding <= 30 {
-        return 23940;
-    }
-    if encoding == 31 {
-        return 19782;
-    }
-    if encoding <= 34 {
-        return 11280;
-    }
-    if encoding == 35 {
-        return 23940;
-    }
-    0
-}
-
-// Does a second table of so many cells fit?
-fn second_fits(encoding: u8, size: usize) -> bool
-    ensures { λ r. ⌜ r ≡ secondFits (traits (family encoding) .second) size ⌝ }
-{
-    if encoding == 29 {
-        return ranges_fit(size);
-    }
-    if encoding == 30 {
-        return ranges_fit(size);
-    }
-    if encoding == 32 {
-        return size == 8836;
-    }
-    size == 0
-}
-
-// The ranges have an even length, at most 414.
-fn ranges_fit(size: usize) -> bool
-    ensures { λ r. ⌜ r ≡ (eqb (size % 2) 0 && leb size 414) ⌝ }
-{
-    if size % 2 == 0 {
-        return size <= 414;
-    }
-    false
-}
-
-// Are the lent tables' lengths as they must be?
-fn tables_fit(encoding: u8, t1: &[u32], t2: &[u32]) -> bool
-    ensures { λ r. ⌜ r ≡ fits (family encoding) (lent (now (t1 .entry)) (now (t2 .entry))) ⌝ }
-{
-    if t1.len() == first_cells(encoding) {
-        return second_fits(encoding, t2.len());
-    }
-    false
-}
+ghost use Rattle.decoder.specs.Record.{shiftOf, heldOf};
+ghost use Rattle.decoder.specs.Valid.{possible, isMore, unused, validRest, valid};
+ghost use Rattle.decoder.specs.Code.{recordRefusal};
 
 // Does rule "drop" apply to an encoding?
 pub(crate) fn marked(encoding: u8) -> bool
@@ -204,38 +141,13 @@ fn valid(d: Decoder) -> bool
     false
 }
 
-// The refusal number of a feed, or 0.
-pub(crate) fn feed_refusal(d: Decoder, chunk: &[u8], t1: &[u32], t2: &[u32], room: &[u32]) -> u8
-    ensures { λ r. ⌜ r ≡ feedRefusal d (lent (now (t1 .entry)) (now (t2 .entry))) (now (chunk .entry)) (now (room .entry)) ⌝ }
+// The refusal number that a record alone gives, or 0.
+pub(crate) fn record_refusal(d: Decoder) -> u8
+    ensures { λ r. ⌜ r ≡ recordRefusal d ⌝ }
 {
     if valid(d) {
         if d.ended == 1 {
             return 6;
-        }
-        if tables_fit(d.encoding, t1, t2) {
-            if 65536 < chunk.len() {
-                return 8;
-            }
-            if room.len() < chunk.len() + d.held as usize {
-                return 7;
-            }
-            return 0;
-        }
-        return 4;
-    }
-    5
-}
-
-// The refusal number of a finish, or 0.
-pub(crate) fn finish_refusal(d: Decoder, room: &[u32]) -> u8
-    ensures { λ r. ⌜ r ≡ finishRefusal d (now (room .entry)) ⌝ }
-{
-    if valid(d) {
-        if d.ended == 1 {
-            return 6;
-        }
-        if room.len() < d.held as usize {
-            return 7;
         }
         return 0;
     }

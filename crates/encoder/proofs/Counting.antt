@@ -13,9 +13,11 @@ use borrow.Author.Tests.{leb-true, le-leb, eq-eqb, ne-eqb}
 use Rattle.standard.specs.Base.{within, every, isScalar, scalars}
 use Rattle.standard.specs.Machine.{Result, reference}
 use Rattle.standard.proofs.Tests.{split, and-left, and-right, under, above}
-use Rattle.encoder.specs.Writer.{bytesOf, Writing, onward, unwritten, writing, Outcome, answerOf, write}
-use Rattle.encoder.specs.WriterCode.{noScalar, Wrote}
-use Rattle.encoder.specs.declared.Written.{Written}
+use Rattle.encoder_spec.specs.Writer.{bytesOf, Writing, onward, writing, Outcome, answerOf, write}
+use Rattle.encoder.specs.WriterCode.{noScalar, given, Space, Wrote}
+use Rattle.encoder_spec.specs.declared.Written.{Written}
+use Rattle.encoder_spec.proofs.Writing.{step}
+use Rattle.encoder.proofs.Scalars.{byte-some, byte-none}
 
 -- what holds of every element holds at each place
 every-at : (p : ℕ → Bool) (xs : List ℕ) (i : ℕ) → every p xs ≡ true → i < length xs → p (getD xs i 0) ≡ true
@@ -26,10 +28,6 @@ every-at p (x ∷ xs) (suc i) h g = every-at p xs i (and-right (p x) (every p xs
 
 pub scalar-at : (cs : List ℕ) (i : ℕ) → scalars cs ≡ true → i < length cs → getD cs i 0 ≤ 0x10FFFF
 scalar-at cs i h g = leb-true (getD cs i 0) 0x10FFFF (and-left (leb (getD cs i 0) 0x10FFFF) (not (within 0xD800 (getD cs i 0) 0xDFFF)) (every-at isScalar cs i h g))
-
--- the writing of one scalar more, by its bytes
-abbrev by : ℕ → ℕ → Writing → Option (List ℕ) → Writing
-by m c w o = elim o [ some bs ↦ onward bs w | none ↦ unwritten m c w ]
 
 -- nothing, and the index of an unwritable scalar or none
 abbrev pub stopped : Option ℕ → Writing
@@ -76,15 +74,15 @@ module _ (encode : ℕ → Result) (m : ℕ) where
   module _ (c : ℕ) (cs : List ℕ) where
     pub first-bytes : {us : List ℕ} → bytesOf (encode c) ≡ some us → writing encode m (c ∷ cs) ≡ onward us (writing encode m cs)
     unfolding writing
-    first-bytes e = ap (by m c (writing encode m cs)) e
+    first-bytes e = ap (step m c (writing encode m cs)) e
 
     pub first-reference : bytesOf (encode c) ≡ none → (m ≡ 1 → ⊥) → writing encode m (c ∷ cs) ≡ onward (reference c) (writing encode m cs)
     unfolding writing
-    first-reference e n = ap (by m c (writing encode m cs)) e ∙ rw (ne-eqb m 1 n)
+    first-reference e n = ap (step m c (writing encode m cs)) e ∙ rw (ne-eqb m 1 n)
 
     pub first-stop : bytesOf (encode c) ≡ none → m ≡ 1 → writing encode m (c ∷ cs) ≡ stopped (some 0)
     unfolding writing
-    first-stop e h = ap (by m c (writing encode m cs)) e ∙ rw (eq-eqb m 1 h)
+    first-stop e h = ap (step m c (writing encode m cs)) e ∙ rw (eq-eqb m 1 h)
 
   module _ (cs : List ℕ) where
     front : (i : ℕ) → i < length cs → writing encode m (drop i cs) ≡ writing encode m (getD cs i 0 ∷ drop (i + 1) cs)
@@ -102,11 +100,16 @@ module _ (encode : ℕ → Result) (m : ℕ) where
       pub here-bytes : {us : List ℕ} → bytesOf (encode (getD cs i 0)) ≡ some us → Here i us
       here-bytes e = front i h ∙ first-bytes (getD cs i 0) (drop (i + 1) cs) e
 
-      pub here-reference : bytesOf (encode (getD cs i 0)) ≡ none → (m ≡ 1 → ⊥) → Here i (reference (getD cs i 0))
-      here-reference e n = front i h ∙ first-reference (getD cs i 0) (drop (i + 1) cs) e n
+      -- by the byte that the code finds, or 256
+      module _ (b : ℕ) (e : given b ≡ bytesOf (encode (getD cs i 0))) where
+        pub here-byte : b < 256 → Here i (b ∷ [])
+        here-byte l = here-bytes (byte-some b l e)
 
-      pub here-stop : bytesOf (encode (getD cs i 0)) ≡ none → m ≡ 1 → writing encode m (drop i cs) ≡ stopped (some 0)
-      here-stop e n = front i h ∙ first-stop (getD cs i 0) (drop (i + 1) cs) e n
+        pub here-reference : 256 ≤ b → (m ≡ 1 → ⊥) → Here i (reference (getD cs i 0))
+        here-reference l n = front i h ∙ first-reference (getD cs i 0) (drop (i + 1) cs) (byte-none b l e) n
+
+        pub here-stop : 256 ≤ b → m ≡ 1 → writing encode m (drop i cs) ≡ stopped (some 0)
+        here-stop l n = front i h ∙ first-stop (getD cs i 0) (drop (i + 1) cs) (byte-none b l e) n
 
     -- Counting: n bytes before the scalar at i.
     pub record Counted (n i : ℕ) : Type 0 where
@@ -140,7 +143,8 @@ module _ (encode : ℕ → Result) (m : ℕ) where
     running-start room = record { inside = omega arith; size = refl; same = sym (ahead-none (writing encode m cs)); rest = refl }
 
     module _ (room₀ room : List ℕ) (i o : ℕ) (s : Running room₀ room i o) where
-      done : {u : Option ℕ} → writing encode m (drop i cs) ≡ stopped u → write (writing encode m cs) room₀ ≡ record { answer = answerOf o (later i u); room = room }
+      done : {u : Option ℕ} → writing encode m (drop i cs) ≡ stopped u →
+          write (writing encode m cs) room₀ ≡ record { answer = answerOf o (later i u); room = room }
       done {u} e =
           let w : writing encode m cs ≡ record { bytes = take o room; unwritable = later i u } = s .same ∙ ap (ahead (take o room) i) e ∙ ahead-stopped (take o room) i u in
           let l : length (take o room) ≡ o = length-take-le o room (s .inside) in
@@ -155,7 +159,7 @@ module _ (encode : ℕ → Result) (m : ℕ) where
       pub running-stop : writing encode m (drop i cs) ≡ stopped (some 0) → Wrote (writing encode m cs) room₀ (answerOf o (some i)) room
       running-stop e = let z : i + 0 ≡ i = omega arith in parts (rw z at (done e))
 
-      module _ (us : List ℕ) (e : Here i us) (l : length (writing encode m cs .bytes) ≤ length room₀) where
+      module _ (us : List ℕ) (e : Here i us) (l : Space (writing encode m cs) room₀) where
         onto : writing encode m cs ≡ ahead (take o room ++ us) (i + 1) (writing encode m (drop (i + 1) cs))
         onto = s .same ∙ ap (ahead (take o room) i) e ∙ ahead-onward (take o room) i us (writing encode m (drop (i + 1) cs))
 
@@ -175,7 +179,9 @@ module _ (encode : ℕ → Result) (m : ℕ) where
           inside = omega (arith, running-room, length-sets room o us);
           size = length-sets room o us ∙ s .size;
           same = onto ∙ ap (λ (xs : List ℕ). ahead xs (i + 1) (writing encode m (drop (i + 1) cs))) (sym (front-of room o us running-room));
-          rest = rest-of room o us running-room ∙ sym (drop-drop (length us) o room) ∙ ap (drop (length us)) (s .rest) ∙ drop-drop (length us) o room₀;
+          rest =
+              rest-of room o us running-room ∙ sym (drop-drop (length us) o room) ∙ ap (drop (length us)) (s .rest) ∙
+              drop-drop (length us) o room₀;
         })
 
 -- Are all of them scalars? The others are counted: n before the number at i.

@@ -14,7 +14,7 @@ use Rattle.standard.specs.Indexes.{pointerFrom, irregular, windows1252}
 use Rattle.standard.specs.Machine.{Result}
 use Rattle.standard.specs.Encoders.{utf8-encode, single-encode, user-encode}
 use Rattle.standard.proofs.Tests.{split, and-left, and-right}
-use Rattle.encoder.specs.Writer.{bytesOf}
+use Rattle.encoder_spec.specs.Writer.{bytesOf}
 use Rattle.encoder.specs.WriterCode.{given, encoderOf, Slots, entered}
 use Rattle.encoder.proofs.Scalars.{windows-self, windows-more}
 
@@ -58,7 +58,8 @@ filled-start table slots e = rw e (record {
 
 -- one cell more in front
 module _ (table : List ℕ) (p : ℕ) (h : p < length table) (few : p < 128) where
-  at-front : (c : ℕ) → pointerFrom p (drop p table) c ≡ (mapped (getD table p 0) && eqb (getD table p 0) c then some p else pointerFrom (suc p) (drop (suc p) table) c)
+  at-front : (c : ℕ) →
+      pointerFrom p (drop p table) c ≡ (mapped (getD table p 0) && eqb (getD table p 0) c then some p else pointerFrom (suc p) (drop (suc p) table) c)
   unfolding pointerFrom
   at-front c = rw (drop-cons table p 0 h)
 
@@ -89,7 +90,8 @@ module _ (table : List ℕ) (p : ℕ) (h : p < length table) (few : p < 128) whe
         (λ e. rw e (record { size = length-set slots (getD table p 0 % 2048) value ∙ f .size; inside = omega (arith, f .inside); slot = put e }))
         (λ e. rw e (unmapped e))
 
-pub filled-on : (table slots after : List ℕ) (p : ℕ) → length table ≤ 128 → 0 < p → Filled table p slots → after ≡ entered slots (getD table (p - 1) 0) (p - 1) → Filled table (p - 1) after
+pub filled-on : (table slots after : List ℕ) (p : ℕ) → length table ≤ 128 → 0 < p → Filled table p slots →
+    after ≡ entered slots (getD table (p - 1) 0) (p - 1) → Filled table (p - 1) after
 filled-on table slots after p few h f e =
     let q : p ≡ suc (p - 1) = omega arith in
     subst (Filled table (p - 1)) (sym e) (one-more table (p - 1) (omega (arith, f .inside)) (omega (arith, f .inside)) slots (subst (λ (n : ℕ). Filled table n slots) q f))
@@ -116,14 +118,16 @@ slots-as slots e s = record { right = λ k. ap bytesOf (sym (e (getD slots k 0 /
 pub windows-slots : (slots : List ℕ) → Slots (single-encode irregular) slots → Slots (single-encode windows1252) slots
 windows-slots slots s = record { right = λ k. windows-more (getD slots k 0 / 256) (getD slots k 0 % 256 ∷ []) (s .right k) }
 
-slots-set : (encode : ℕ → Result) (slots : List ℕ) (i v : ℕ) → i < length slots → Slots encode slots → bytesOf (encode (v / 256)) ≡ some (v % 256 ∷ []) → Slots encode (set slots i v)
+slots-set : (encode : ℕ → Result) (slots : List ℕ) (i v : ℕ) → i < length slots → Slots encode slots →
+    bytesOf (encode (v / 256)) ≡ some (v % 256 ∷ []) → Slots encode (set slots i v)
 slots-set encode slots i v h s e = record {
   right = λ k. split (eqb k i)
       (λ z. let q : getD (set slots i v) k 0 ≡ v = ap (λ (j : ℕ). getD (set slots i v) j 0) (eqb-true k i z) ∙ getD-set-same slots i v 0 h in rw q e)
       (λ z. rw (getD-set-other slots i k v 0 (eqb-false k i z)) (s .right k));
 }
 
-pub regular-on : (slots : List ℕ) (c : ℕ) → length slots ≡ 2048 → 0xA0 ≤ c → c < 0x100 → Slots (single-encode windows1252) slots → Slots (single-encode windows1252) (set slots c (c * 256 + c))
+pub regular-on : (slots : List ℕ) (c : ℕ) → length slots ≡ 2048 → 0xA0 ≤ c → c < 0x100 → Slots (single-encode windows1252) slots →
+    Slots (single-encode windows1252) (set slots c (c * 256 + c))
 regular-on slots c l h g s = slots-set (single-encode windows1252) slots c (c * 256 + c) (omega arith) s
     (let d : (c * 256 + c) / 256 ≡ c = omega arith in let m : (c * 256 + c) % 256 ≡ c = omega arith in rw (d, m) (ap bytesOf (sym (windows-self c h (omega arith)))))
 
@@ -143,5 +147,6 @@ module _ (e : ℕ) (table : List ℕ) where
   pub zero-slots : (slots : List ℕ) → slots ≡ replicate 2048 0 → Slots (encoderOf e table) slots
   zero-slots slots q = empty-slots slots (λ k. ap (λ (l : List ℕ). getD l k 0) q ∙ zeros 2048 k)
 
-  pub by-slot : (slots : List ℕ) → Slots (encoderOf e table) slots → (k c : ℕ) → getD slots k 0 / 256 ≡ c → given (getD slots k 0 % 256) ≡ bytesOf (encoderOf e table c)
+  pub by-slot : (slots : List ℕ) → Slots (encoderOf e table) slots → (k c : ℕ) → getD slots k 0 / 256 ≡ c →
+      given (getD slots k 0 % 256) ≡ bytesOf (encoderOf e table c)
   by-slot slots s k c q = rw (lt-ltb (getD slots k 0 % 256) 256 (omega arith)) (sym (s .right k) ∙ ap (λ (n : ℕ). bytesOf (encoderOf e table n)) q)

@@ -1,11 +1,6 @@
-pub mod Tables
 pub mod Scalars
 pub mod Rooms
 pub mod Filling
 pub mod Counting
 pub mod Most
-pub mod Refusals
-pub mod Encoding
-pub mod Writing
-pub mod ReadBack
-pub mod Samples
+pub mod Calls

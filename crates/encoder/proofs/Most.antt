@@ -14,10 +14,10 @@ use Rattle.standard.specs.Indexes.{indexPointer, windows1252}
 use Rattle.standard.specs.Machine.{Result, tokens, error-with, reference}
 use Rattle.standard.specs.Encoders.{utf8-encode, orErrorWith, single-encode, user-encode}
 use Rattle.standard.proofs.Tests.{split, and-left, and-right}
-use Rattle.encoder.proofs.Encoding.{choose}
-use Rattle.encoder.specs.Writer.{bytesOf, Writing, onward, writing}
+use Rattle.encoder_spec.proofs.Encoders.{choose}
+use Rattle.encoder_spec.specs.Writer.{bytesOf, Writing, onward, writing}
 use Rattle.encoder.specs.WriterCode.{utf8Of, encoderOf, writingOf, mostOf, Wrote}
-use Rattle.encoder.specs.declared.Written.{Written}
+use Rattle.encoder_spec.specs.declared.Written.{Written}
 use Rattle.encoder.proofs.Rooms.{reference-most}
 use Rattle.encoder.proofs.Counting.{stopped, first-bytes, first-reference, first-stop}
 use Rattle.encoder.proofs.Scalars.{utf8-some, utf8-one-length, utf8-two-length, utf8-three-length, utf8-four-length}
@@ -26,17 +26,22 @@ use Rattle.encoder.proofs.Scalars.{utf8-some, utf8-one-length, utf8-two
 pub utf8-modes : (m : ℕ) (cs : List ℕ) → writing utf8-encode 0 cs ≡ writing utf8-encode m cs
 unfolding writing
 utf8-modes m [] = refl
-utf8-modes m (c ∷ cs) = first-bytes utf8-encode 0 c cs (utf8-some c) ∙ ap (onward (utf8Of c)) (utf8-modes m cs) ∙ sym (first-bytes utf8-encode m c cs (utf8-some c))
+utf8-modes m (c ∷ cs) =
+    first-bytes utf8-encode 0 c cs (utf8-some c) ∙ ap (onward (utf8Of c)) (utf8-modes m cs) ∙
+    sym (first-bytes utf8-encode m c cs (utf8-some c))
 
 pub utf8-writing : (e m : ℕ) (table cs : List ℕ) → e ≡ 0 → writing utf8-encode 0 cs ≡ writingOf e m table cs
 unfolding encoderOf
 utf8-writing e m table cs h = utf8-modes m cs ∙ rw (eq-eqb e 0 h)
 
-pub utf8-wrote : (e m : ℕ) (table cs : List ℕ) → e ≡ 0 → (room : List ℕ) {a : Written} {after : List ℕ} → Wrote (writing utf8-encode 0 cs) room a after → Wrote (writingOf e m table cs) room a after
+pub utf8-wrote : (e m : ℕ) (table cs : List ℕ) → e ≡ 0 → (room : List ℕ) {a : Written} {after : List ℕ} →
+    Wrote (writing utf8-encode 0 cs) room a after → Wrote (writingOf e m table cs) room a after
 utf8-wrote e m table cs h room {a} {after} w = subst (λ (x : Writing). Wrote x room a after) (utf8-writing e m table cs h) w
 
 -- at most k bytes of each scalar
-module _ (encode : ℕ → Result) (m k : ℕ) (bytes-most : (c : ℕ) (bs : List ℕ) → bytesOf (encode c) ≡ some bs → length bs ≤ k) (reference-fits : (c : ℕ) → bytesOf (encode c) ≡ none → (m ≡ 1 → ⊥) → 10 ≤ k) where
+module _ (encode : ℕ → Result) (m k : ℕ)
+    (bytes-most : (c : ℕ) (bs : List ℕ) → bytesOf (encode c) ≡ some bs → length bs ≤ k)
+    (reference-fits : (c : ℕ) → bytesOf (encode c) ≡ none → (m ≡ 1 → ⊥) → 10 ≤ k) where
   pub writing-most : (cs : List ℕ) → scalars cs ≡ true → length (writing encode m cs .bytes) ≤ length cs * k
   unfolding writing every
   writing-most [] h = omega arith
@@ -45,13 +50,15 @@ module _ (encode : ℕ → Result) (m k : ℕ) (bytes-most : (c : ℕ) (bs : Lis
       small : c ≤ 0x10FFFF
       small = leb-true c 0x10FFFF (and-left (leb c 0x10FFFF) (not (within 0xD800 c 0xDFFF)) (and-left (isScalar c) (every isScalar cs) h))
 
-      by-bytes : (us : List ℕ) → length us ≤ k → length (writing encode m cs .bytes) ≤ length cs * k → writing encode m (c ∷ cs) ≡ onward us (writing encode m cs) → length (writing encode m (c ∷ cs) .bytes) ≤ suc (length cs) * k
+      by-bytes : (us : List ℕ) → length us ≤ k → length (writing encode m cs .bytes) ≤ length cs * k →
+          writing encode m (c ∷ cs) ≡ onward us (writing encode m cs) → length (writing encode m (c ∷ cs) .bytes) ≤ suc (length cs) * k
       by-bytes us l rest e = omega (arith, l, rest, suc-mul (length cs) k, length-append us (writing encode m cs .bytes), ap (λ (w : Writing). length (w .bytes)) e)
 
       stops : writing encode m (c ∷ cs) ≡ stopped (some 0) → length (writing encode m (c ∷ cs) .bytes) ≤ suc (length cs) * k
       stops e = omega (arith, ap (λ (w : Writing). length (w .bytes)) e)
 
-      go : (o : Option (List ℕ)) → bytesOf (encode c) ≡ o → length (writing encode m cs .bytes) ≤ length cs * k → length (writing encode m (c ∷ cs) .bytes) ≤ suc (length cs) * k
+      go : (o : Option (List ℕ)) → bytesOf (encode c) ≡ o → length (writing encode m cs .bytes) ≤ length cs * k →
+          length (writing encode m (c ∷ cs) .bytes) ≤ suc (length cs) * k
       go (some bs) e rest = by-bytes bs (bytes-most c bs e) rest (first-bytes encode m c cs e)
       go none e rest = split (eqb m 1)
           (λ q. stops (first-stop encode m c cs e (eqb-true m 1 q)))
@@ -98,7 +105,8 @@ user-short : (c : ℕ) → Short (user-encode c)
 unfolding user-encode
 user-short c = choose Short (ltb c 0x80) (λ _. short-byte c) (λ _. choose Short (within 0xF780 c 0xF7FF) (λ _. short-byte (c - 0xF780 + 0x80)) (λ _. short-none c))
 
-short-most : (encode : ℕ → Result) → ((c : ℕ) → Short (encode c)) → (m : ℕ) (cs : List ℕ) → scalars cs ≡ true → length (writing encode m cs .bytes) ≤ length cs * (eqb m 1 then 1 else 10)
+short-most : (encode : ℕ → Result) → ((c : ℕ) → Short (encode c)) → (m : ℕ) (cs : List ℕ) → scalars cs ≡ true →
+    length (writing encode m cs .bytes) ≤ length cs * (eqb m 1 then 1 else 10)
 unfolding Short
 short-most encode short m cs h = split (eqb m 1)
     (λ q. rw q (writing-most encode m 1 short (λ c e n. absurd (n (eqb-true m 1 q))) cs h))
@@ -112,5 +120,6 @@ at-most e m table cs h = split (eqb e 0) (λ z. rw z (utf8-most m cs h)) (λ z.
     rw (z, y, x) (short-most user-encode user-short m cs h))))
 
 -- A room for the most bytes of each scalar has space for all.
-pub room-for-most : (e m : ℕ) (table cs : List ℕ) (n : ℕ) → scalars cs ≡ true → (k : ℕ) → k ≡ mostOf e m → length cs * k ≤ n → false ≡ ltb n (length (writingOf e m table cs .bytes))
+pub room-for-most : (e m : ℕ) (table cs : List ℕ) (n : ℕ) → scalars cs ≡ true → (k : ℕ) → k ≡ mostOf e m → length cs * k ≤ n →
+    false ≡ ltb n (length (writingOf e m table cs .bytes))
 room-for-most e m table cs n h k z l = sym (le-ltb n (length (writingOf e m table cs .bytes)) (omega (arith, l, ap (λ (k : ℕ). length cs * k) z, at-most e m table cs h)))

@@ -34,7 +34,9 @@ digits-enough (suc n) (suc m) c h g = split (ltb c 10)
     digits-step n c l ∙ before-last c (digits-enough n m (c / 10) (omega arith) (omega arith)) ∙ sym (digits-step m c l))
 
 digits-more : (c : ℕ) → 10 ≤ c → digits c c ≡ digits (c / 10) (c / 10) ++ (0x30 + c % 10) ∷ []
-digits-more c h = digits-enough c (suc c) c (omega arith) (omega arith) ∙ digits-step c c h ∙ before-last c (digits-enough c (c / 10) (c / 10) (omega arith) (omega arith))
+digits-more c h =
+    digits-enough c (suc c) c (omega arith) (omega arith) ∙ digits-step c c h ∙
+    before-last c (digits-enough c (c / 10) (c / 10) (omega arith) (omega arith))
 
 pub digits-one-length : (c : ℕ) → c < 10 → 1 ≡ length (digits c c)
 digits-one-length c h = rw (digits-one c c h)
@@ -69,13 +71,15 @@ sets-append l i (u ∷ us) vs = let e : i + suc (length us) ≡ suc i + length u
 
 module _ (room : List ℕ) (at : ℕ) where
   -- a place and a room, for an equal list
-  pub same-list : {bs cs : List ℕ} {r : ℕ} {after : List ℕ} → bs ≡ cs → (r ≡ at + length bs) × (after ≡ sets room at bs) → (r ≡ at + length cs) × (after ≡ sets room at cs)
+  pub same-list : {bs cs : List ℕ} {r : ℕ} {after : List ℕ} → bs ≡ cs → (r ≡ at + length bs) × (after ≡ sets room at bs) →
+      (r ≡ at + length cs) × (after ≡ sets room at cs)
   same-list e w = (w .0 ∙ ap (λ (l : List ℕ). at + length l) e, w .1 ∙ ap (λ (l : List ℕ). sets room at l) e)
 
   pub put-one-digit : (c v : ℕ) → c < 10 → v ≡ 0x30 + c → (at + 1 ≡ at + length (digits c c)) × (set room at v ≡ sets room at (digits c c))
   put-one-digit c v h e = same-list (sym (digits-one c c h)) (refl, rw e)
 
-  pub put-more-digits : (c v last : ℕ) (after : List ℕ) → 10 ≤ c → last ≡ at + length (digits (c / 10) (c / 10)) → after ≡ sets room at (digits (c / 10) (c / 10)) → v ≡ 0x30 + c % 10 →
+  pub put-more-digits : (c v last : ℕ) (after : List ℕ) → 10 ≤ c → last ≡ at + length (digits (c / 10) (c / 10)) →
+      after ≡ sets room at (digits (c / 10) (c / 10)) → v ≡ 0x30 + c % 10 →
       (last + 1 ≡ at + length (digits c c)) × (set after last v ≡ sets room at (digits c c))
   put-more-digits c v last after h p q e = same-list (sym (digits-more c h)) (
     omega (arith, p, length-append (digits (c / 10) (c / 10)) ((0x30 + c % 10) ∷ [])),
@@ -86,7 +90,8 @@ module _ (room : List ℕ) (at : ℕ) where
   pub digits-room : (c n : ℕ) → 10 ≤ c → at + length (digits c c) ≤ n → at + length (digits (c / 10) (c / 10)) + 1 ≤ n
   digits-room c n h g = omega (arith, digits-more-length c h (length (digits (c / 10) (c / 10))) refl)
 
-  pub put-reference : (c last : ℕ) (after : List ℕ) → last ≡ at + 2 + length (digits c c) → after ≡ sets (set (set room at 0x26) (at + 1) 0x23) (at + 2) (digits c c) →
+  pub put-reference : (c last : ℕ) (after : List ℕ) → last ≡ at + 2 + length (digits c c) →
+      after ≡ sets (set (set room at 0x26) (at + 1) 0x23) (at + 2) (digits c c) →
       (last + 1 ≡ at + length (reference c)) × (set after last 0x3B ≡ sets room at (reference c))
   unfolding reference
   put-reference c last after p q = (omega (arith, p, length-append (digits c c) (0x3B ∷ [])), rw (p, q) (sym (sets-append front (at + 2) (digits c c) (0x3B ∷ [])) ∙ places))
@@ -104,8 +109,10 @@ module _ (room : List ℕ) (at : ℕ) where
   pub put-two : (u v : ℕ) → (at + 2 ≡ at + length (u ∷ v ∷ [])) × (set (set room at u) (at + 1) v ≡ sets room at (u ∷ v ∷ []))
   put-two u v = (refl, rw add-one refl)
 
-  pub put-three : (u v w : ℕ) → (at + 3 ≡ at + length (u ∷ v ∷ w ∷ [])) × (set (set (set room at u) (at + 1) v) (at + 2) w ≡ sets room at (u ∷ v ∷ w ∷ []))
+  pub put-three : (u v w : ℕ) →
+      (at + 3 ≡ at + length (u ∷ v ∷ w ∷ [])) × (set (set (set room at u) (at + 1) v) (at + 2) w ≡ sets room at (u ∷ v ∷ w ∷ []))
   put-three u v w = let two : at + 2 ≡ suc (suc at) = omega arith in (refl, rw (two, add-one) refl)
 
-  pub put-four : (u v w x : ℕ) → (at + 4 ≡ at + length (u ∷ v ∷ w ∷ x ∷ [])) × (set (set (set (set room at u) (at + 1) v) (at + 2) w) (at + 3) x ≡ sets room at (u ∷ v ∷ w ∷ x ∷ []))
+  pub put-four : (u v w x : ℕ) →
+      (at + 4 ≡ at + length (u ∷ v ∷ w ∷ x ∷ [])) × (set (set (set (set room at u) (at + 1) v) (at + 2) w) (at + 3) x ≡ sets room at (u ∷ v ∷ w ∷ x ∷ []))
   put-four u v w x = let two : at + 2 ≡ suc (suc at) = omega arith in let three : at + 3 ≡ suc (suc (suc at)) = omega arith in (refl, rw (three, two, add-one) refl)

@@ -13,9 +13,9 @@ use Rattle.standard.specs.Indexes.{indexPointer, pointerFrom, irregular, countF
 use Rattle.standard.specs.Machine.{Result, tokens, error-with}
 use Rattle.standard.specs.Encoders.{utf8-following, utf8-bytes, utf8-encode, orErrorWith, single-encode, user-encode}
 use Rattle.standard.proofs.Tests.{split, and-left, and-right, under, above}
-use Rattle.encoder.specs.Writer.{bytesOf}
+use Rattle.encoder_spec.specs.Writer.{bytesOf}
 use Rattle.encoder.specs.WriterCode.{given, utf8Of, encoderOf}
-use Rattle.encoder.proofs.Tables.{table-rule}
+use Rattle.encoder_spec.proofs.Tables.{table-rule}
 
 -- the byte of an answer, or none
 pub given-byte : {r : Result} (b : ℕ) → b < 256 → tokens (b ∷ []) ≡ r → given b ≡ bytesOf r
@@ -37,7 +37,8 @@ module _ (c : ℕ) where
   unfolding utf8-encode
   utf8-some = go (ltb c 0x80) (leb c 0x7FF) (leb c 0xFFFF)
     where
-      go : (s t u : Bool) → bytesOf (s then tokens (c ∷ []) else t then tokens (utf8-bytes 1 0xC0 c) else u then tokens (utf8-bytes 2 0xE0 c) else tokens (utf8-bytes 3 0xF0 c)) ≡
+      go : (s t u : Bool) →
+          bytesOf (s then tokens (c ∷ []) else t then tokens (utf8-bytes 1 0xC0 c) else u then tokens (utf8-bytes 2 0xE0 c) else tokens (utf8-bytes 3 0xF0 c)) ≡
           some (s then c ∷ [] else t then utf8-bytes 1 0xC0 c else u then utf8-bytes 2 0xE0 c else utf8-bytes 3 0xF0 c)
       go true t u = refl
       go false true u = refl
@@ -55,7 +56,8 @@ module _ (c : ℕ) where
   unfolding utf8-bytes utf8-following
   utf8-three h g s t e d = let f : t ≡ 0x80 + c / 1 % 64 = omega arith in rw (le-ltb c 0x80 (omega arith), lt-leb c 0x7FF h, le-leb c 0xFFFF g, e, f)
 
-  pub utf8-four : 0xFFFF < c → (s t u : ℕ) → s ≡ 0x80 + c / 4096 % 64 → t ≡ 0x80 + c / 64 % 64 → u ≡ 0x80 + c % 64 → (c / 262144 + 0xF0) ∷ s ∷ t ∷ u ∷ [] ≡ utf8Of c
+  pub utf8-four : 0xFFFF < c → (s t u : ℕ) → s ≡ 0x80 + c / 4096 % 64 → t ≡ 0x80 + c / 64 % 64 → u ≡ 0x80 + c % 64 →
+      (c / 262144 + 0xF0) ∷ s ∷ t ∷ u ∷ [] ≡ utf8Of c
   unfolding utf8-bytes utf8-following
   utf8-four h s t u e d k = let f : u ≡ 0x80 + c / 1 % 64 = omega arith in rw (le-ltb c 0x80 (omega arith), lt-leb c 0x7FF (omega arith), lt-leb c 0xFFFF h, e, d, f)
 
@@ -79,7 +81,8 @@ module _ (c : ℕ) where
   test-from : (n x : ℕ) → n ≤ c → x ≡ (ltb c n then 0 else 1) → x ≡ 1
   test-from n x h e = e ∙ rw (le-ltb c n h)
 
-  pub utf8-size : (s t u : ℕ) → s ≡ (ltb c 0x80 then 0 else 1) → t ≡ (ltb c 0x800 then 0 else 1) → u ≡ (ltb c 0x10000 then 0 else 1) → 1 + s + t + u ≡ length (utf8Of c)
+  pub utf8-size : (s t u : ℕ) → s ≡ (ltb c 0x80 then 0 else 1) → t ≡ (ltb c 0x800 then 0 else 1) → u ≡ (ltb c 0x10000 then 0 else 1) →
+      1 + s + t + u ≡ length (utf8Of c)
   utf8-size s t u e d k =
       split (ltb c 0x80) (λ h. let l : c < 0x80 = ltb-true c 0x80 h in
       omega (arith, utf8-one-length l, test-below 0x80 s l e, test-below 0x800 t (omega arith) d, test-below 0x10000 u (omega arith) k)) (λ h.

@@ -1,4 +1,1 @@
-pub mod Writer
 pub mod WriterCode
-pub mod Statements
-pub mod Samples

@@ -3,7 +3,7 @@ use mathlib.Core.Path.{_≡_}
 use mathlib.Core.Bool.{Bool, not, _||_}
 use mathlib.Core.List.{List, [], _∷_}
 use mathlib.Core.Option.{Option, some, none}
-use Prim.Native.Nat.{ℕ, _+_, _*_, _/_, _%_}
+use Prim.Native.Nat.{ℕ, _+_, _*_, _/_, _%_, _≤_}
 use lib.Dec.{ltb, leb, eqb}
 use lib.ListN.{length, getD, set}
 use Rattle.standard.specs.Base.{_then_else_, isScalar, scalars, mapped}
@@ -11,8 +11,8 @@ use Rattle.standard.specs.Encodings.{family, Tables, fits}
 use Rattle.standard.specs.Indexes.{windows1252}
 use Rattle.standard.specs.Machine.{Result}
 use Rattle.standard.specs.Encoders.{utf8-bytes, utf8-encode, single-encode, user-encode}
-use Rattle.encoder.specs.Writer.{bytesOf, Writing, writing, write}
-use Rattle.encoder.specs.declared.Written.{Written}
+use Rattle.encoder_spec.specs.Writer.{bytesOf, Writing, writing, write}
+use Rattle.encoder_spec.specs.declared.Written.{Written}
 
 -- 1 for a number that is no scalar, else 0.
 abbrev pub noScalar : ℕ → ℕ
@@ -46,13 +46,13 @@ encoderOf e table =
 pub record Slots (encode : ℕ → Result) (slots : List ℕ) : Type 0 where
   pub right : (k : ℕ) → bytesOf (encode (getD slots k 0 / 256)) ≡ some (getD slots k 0 % 256 ∷ [])
 
+-- What a loop of an encoding of one byte a scalar is lent: its table, of 128 cells or none, and slots.
+abbrev pub OneByte : ℕ → List ℕ → List ℕ → Type 0
+OneByte e table slots = (1 ≤ e) × (length table ≤ 128) × Slots (encoderOf e table) slots
+
 -- The cell at a pointer put into its slot, where it counts as mapped.
 abbrev pub entered : List ℕ → ℕ → ℕ → List ℕ
 entered slots c p = mapped c then set slots (c % 2048) (c * 256 + (p + 0x80)) else slots
-
--- The cells of its first table; its second is empty.
-abbrev pub cellsOf : ℕ → ℕ
-cellsOf e = eqb e 0 then 0 else eqb e 21 then 0 else leb e 28 then 128 else 0
 
 -- What such an encoding writes of some scalars.
 abbrev pub writingOf : ℕ → ℕ → List ℕ → List ℕ → Writing
@@ -62,19 +62,28 @@ writingOf e m table cs = writing (encoderOf e table) m cs
 abbrev pub mostOf : ℕ → ℕ → ℕ
 mostOf e m = eqb e 0 then 4 else eqb m 1 then 1 else 10
 
+-- A room has space for a writing.
+abbrev pub Space : Writing → List ℕ → Type 0
+Space w room = length (w .bytes) ≤ length room
+
 -- A writing, put into a room: the answer and the room afterwards.
 pub record Wrote (w : Writing) (room : List ℕ) (answer : Written) (after : List ℕ) : Type 0 where
   pub answers : answer ≡ write w room .answer
   pub leaves : after ≡ write w room .room
 
--- The refusal of a call with so many bytes of room, or 0: 2, 3, 9, 4, 8, 10, 7.
+-- The refusal that depends on the scalars, with so many bytes of room, or 0: 8, 10, 7.
+unfoldable pub textRefusal : ℕ → ℕ → List ℕ → List ℕ → ℕ → ℕ
+textRefusal e m table cs n =
+    ltb 16384 (length cs) then 8 else
+    not (scalars cs) then 10 else
+    ltb n (length (writingOf e m table cs .bytes)) then 7 else
+    0
+
+-- The refusal of a call: 2, 3, 9, 4, then those.
 unfoldable pub refusalOf : ℕ → ℕ → Tables → List ℕ → ℕ → ℕ
 refusalOf e m t cs n =
     ltb 39 e then 2 else
     ltb 1 m then 3 else
     not (writes e) then 9 else
     not (fits (family e) t) then 4 else
-    ltb 16384 (length cs) then 8 else
-    not (scalars cs) then 10 else
-    ltb n (length (writingOf e m (t .first) cs .bytes)) then 7 else
-    0
+    textRefusal e m (t .first) cs n

@@ -5,8 +5,8 @@ ghost use Prim.Native.Nat.{_≤_, _<_};
 ghost use lib.ListN.{length, replicate};
 ghost use Rattle.standard.specs.Indexes.{windows1252};
 ghost use Rattle.standard.specs.Encoders.{single-encode};
-ghost use Rattle.encoder.specs.Writer.{bytesOf};
-ghost use Rattle.encoder.specs.WriterCode.{given, encoderOf, Slots, entered};
+ghost use Rattle.encoder_spec.specs.Writer.{bytesOf};
+ghost use Rattle.encoder.specs.WriterCode.{given, encoderOf, Slots, OneByte, entered};
 
 // The cell at a pointer, put into its slot where it counts as mapped.
 fn enter(slots: &mut [u32], c: u32, p: usize)
@@ -74,18 +74,18 @@ pub(crate) fn fill(encoding: u8, table: &[u32], slots: &mut [u32])
 
 // The byte of a scalar in an encoding other than UTF-8, by its slot or by a search; 256 stands for an unwritable scalar.
 pub(crate) fn byte_of(encoding: u8, table: &[u32], slots: &[u32], c: u32) -> u32
-    requires { ⌜ (1 ≤ encoding) × (length (now table) ≤ 128) × Slots (encoderOf encoding (now table)) (now slots) ⌝ }
+    requires { ⌜ OneByte encoding (now table) (now slots) ⌝ }
     ensures { λ r. ⌜ given r ≡ bytesOf (encoderOf encoding (now (table .entry)) c) ⌝ }
 {
     if c < 0x80 {
         return c;
     }
     if slots.len() != 2048 {
-        return crate::scalar::byte_of(encoding, table, c);
+        return crate::one_byte::byte_of(encoding, table, c);
     }
     let s = slots[(c % 2048) as usize];
     if s / 256 == c {
         return s % 256;
     }
-    crate::scalar::byte_of(encoding, table, c)
+    crate::one_byte::byte_of(encoding, table, c)
 }

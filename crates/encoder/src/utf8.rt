@@ -1,13 +1,17 @@
-// The bytes of a scalar in UTF-8: document 01, "Writing rules".
+// UTF-8: document 01, "Writing rules".
 
 ghost use mathlib.Core.Path.{_≡_};
+ghost use mathlib.Core.Bool.{true};
 ghost use mathlib.Core.List.{[], _∷_};
+ghost use mathlib.Core.Option.{none};
 ghost use Prim.Native.Nat.{_+_, _%_, _≤_};
 ghost use lib.Dec.{ltb};
 ghost use lib.ListN.{length};
 ghost use lib.Seq.{sets};
-ghost use Rattle.standard.specs.Base.{_then_else_};
-ghost use Rattle.encoder.specs.WriterCode.{utf8Of};
+ghost use Rattle.standard.specs.Base.{_then_else_, scalars as areScalars};
+ghost use Rattle.standard.specs.Encoders.{utf8-encode};
+ghost use Rattle.encoder_spec.specs.Writer.{writing, answerOf};
+ghost use Rattle.encoder.specs.WriterCode.{utf8Of, Space, Wrote};
 
 // 0 below a number, else 1.
 fn at_least(c: u32, least: u32) -> u32
@@ -54,7 +58,8 @@ fn put_three(room: &mut [u8], at: usize, u: u8, v: u8, w: u8) -> usize
 
 fn put_four(room: &mut [u8], at: usize, u: u8, v: u8, w: u8, x: u8) -> usize
     requires { ⌜ at + 4 ≤ length (now room) ⌝ }
-    ensures { λ r. ⌜ (r ≡ at + length (u ∷ v ∷ w ∷ x ∷ [])) × (now (room .exit) ≡ sets (now (room .entry)) at (u ∷ v ∷ w ∷ x ∷ [])) ⌝ }
+    ensures { λ r. ⌜ (r ≡ at + length (u ∷ v ∷ w ∷ x ∷ [])) ×
+        (now (room .exit) ≡ sets (now (room .entry)) at (u ∷ v ∷ w ∷ x ∷ [])) ⌝ }
 {
     room[at] = u;
     room[at + 1] = v;
@@ -88,4 +93,32 @@ pub(crate) fn put(room: &mut [u8], at: usize, c: u32) -> usize
         third,
         last,
     )
+}
+
+// How many bytes the scalars have.
+pub(crate) fn count(scalars: &[u32]) -> usize
+    requires { ⌜ length (now scalars) ≤ 16384 ⌝ }
+    ensures { λ r. ⌜ r ≡ length (writing utf8-encode 0 (now (scalars .entry)) .bytes) ⌝ }
+{
+    let mut n: u32 = 0;
+    let mut i: usize = 0;
+    while i < scalars.len() {
+        n += size(scalars[i]);
+        i += 1;
+    }
+    n as usize
+}
+
+// The scalars written into a room that has space for all their bytes; how many bytes.
+pub(crate) fn write(scalars: &[u32], room: &mut [u8]) -> usize
+    requires { ⌜ (areScalars (now scalars) ≡ true) × Space (writing utf8-encode 0 (now scalars)) (now room) ⌝ }
+    ensures { λ r. ⌜ Wrote (writing utf8-encode 0 (now (scalars .entry))) (now (room .entry)) (answerOf r none) (now (room .exit)) ⌝ }
+{
+    let mut o: usize = 0;
+    let mut i: usize = 0;
+    while i < scalars.len() {
+        o = put(room, o, scalars[i]);
+        i += 1;
+    }
+    o
 }

@@ -2,16 +2,16 @@
 // A slice is a pointer and a length. Trimming, whose result is a part of the caller's bytes, reaches C as start and length of the label call.
 ghost use mathlib.Core.Path.{_≡_};
 ghost use Rattle.standard.specs.Encodings.{lent};
-ghost use Rattle.labels.specs.Labels.{label, naming};
-ghost use Rattle.index.specs.IndexCall.{indexLine};
+ghost use Rattle.labels_spec.specs.Labels.{label, naming};
+ghost use Rattle.index_spec.specs.IndexCall.{indexLine};
 ghost use Rattle.decoder.specs.Calls.{opening, feeding, finishing};
-ghost use Rattle.encoder.specs.Writer.{encoding as writing};
+ghost use Rattle.encoder_spec.specs.Writer.{writerCall};
 use decoder::Answer;
 use decoder::Decoder;
-use encoder::Written;
-use index::Line;
-use labels::Found;
-use labels::Named;
+use encoder_spec::Written;
+use index_spec::Line;
+use labels_spec::Found;
+use labels_spec::Named;
 
 // The label call.
 #[no_mangle]
@@ -24,7 +24,8 @@ pub extern "C" fn hamvukile_label(bytes: &[u8]) -> Found
 // The name call.
 #[no_mangle]
 pub extern "C" fn hamvukile_name(encoding: u8, room: &mut [u8]) -> Named
-    ensures { λ r. ⌜ (r ≡ naming encoding (now (room .entry)) .answer) × (now (room .exit) ≡ naming encoding (now (room .entry)) .room) ⌝ }
+    ensures { λ r. ⌜ (r ≡ naming encoding (now (room .entry)) .answer) ×
+        (now (room .exit) ≡ naming encoding (now (room .entry)) .room) ⌝ }
 {
     labels::name(encoding, room)
 }
@@ -32,7 +33,8 @@ pub extern "C" fn hamvukile_name(encoding: u8, room: &mut [u8]) -> Named
 // The index line call.
 #[no_mangle]
 pub extern "C" fn hamvukile_index_line(line: &[u8], table: &mut [u32]) -> Line
-    ensures { λ r. ⌜ (r ≡ indexLine (now (line .entry)) (now (table .entry)) .answer) × (now (table .exit) ≡ indexLine (now (line .entry)) (now (table .entry)) .table) ⌝ }
+    ensures { λ r. ⌜ (r ≡ indexLine (now (line .entry)) (now (table .entry)) .answer) ×
+        (now (table .exit) ≡ indexLine (now (line .entry)) (now (table .entry)) .table) ⌝ }
 {
     index::index_line(line, table)
 }
@@ -77,7 +79,8 @@ pub extern "C" fn hamvukile_encode(
     second: &[u32],
     room: &mut [u8],
 ) -> Written
-    ensures { λ r. ⌜ (r ≡ writing encoding mode (lent (now (first .entry)) (now (second .entry))) (now (scalars .entry)) (now (room .entry)) .answer) × (now (room .exit) ≡ writing encoding mode (lent (now (first .entry)) (now (second .entry))) (now (scalars .entry)) (now (room .entry)) .room) ⌝ }
+    ensures { λ r. ⌜ (r ≡ writerCall encoding mode (lent (now (first .entry)) (now (second .entry))) (now (scalars .entry)) (now (room .entry)) .answer) ×
+        (now (room .exit) ≡ writerCall encoding mode (lent (now (first .entry)) (now (second .entry))) (now (scalars .entry)) (now (room .entry)) .room) ⌝ }
 {
     encoder::encode(encoding, mode, scalars, first, second, room)
 }

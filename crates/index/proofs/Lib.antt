@@ -1,5 +1,4 @@
 pub mod Cells
+pub mod TableLengths
 pub mod Parts
 pub mod Search
-pub mod Reader
-pub mod Call

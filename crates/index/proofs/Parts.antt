@@ -12,8 +12,8 @@ use lib.Seq.{slice, slice-cons, slice-empty, length-slice, drop-cons, drop-drop,
 use borrow.Author.Tests.{lt-ltb, le-ltb, le-leb, ne-eqb, eq-eqb}
 use Rattle.standard.specs.Base.{within, mapped}
 use Rattle.standard.proofs.Tests.{under, above}
-use Rattle.index.specs.IndexLine.{decimal, hexadecimal, digit, value, ending}
-use Rattle.index.specs.IndexRead.{noEntry, bad, entry, front, behind, space, marked, fits, readParts, isNoEntry, read}
+use Rattle.index_spec.specs.IndexLine.{decimal, hexadecimal, digit, value, ending}
+use Rattle.index_spec.specs.IndexRead.{noEntry, bad, entry, front, behind, space, marked, fits, readParts, isNoEntry, read}
 use Rattle.index.specs.IndexCode.{Past, entryAt}
 
 pub decimal-small : (b : ℕ) → b < 0x30 → decimal b ≡ false
@@ -176,55 +176,67 @@ module _ (ds xs hs rest : List ℕ) where
 inside : (l b h : ℕ) → l ≤ b → b ≤ h → within l b h ≡ true
 inside l b h p q = rw (le-leb l b p, le-leb b h q)
 
-module _ (line : List ℕ) (start tab : ℕ) (o : start ≤ tab) (l : tab ≤ length line) where
-  count : length (slice start tab line) ≡ tab - start
-  count = length-slice start tab line l
+-- What is known where the code point's digits end: 1 to 7 decimal digits, the mark, and hexadecimal digits to `end`.
+pub record Digits (line : List ℕ) (start tab end : ℕ) : Type 0 where
+  pub inside : tab ≤ length line
+  pub some : 1 ≤ tab - start
+  pub few : tab - start ≤ 7
+  pub mark : marked (drop tab line) ≡ true
+  pub code : Past hexadecimal line (tab + 3) end
 
-  pub entry-none : tab ≡ start → bad ≡ entryAt line start tab
-  entry-none e = sym (not-count _ _ _ _ (under 1 (length (slice start tab line)) 7 (omega (arith, count))))
+module _ (line : List ℕ) (start tab : ℕ) where
+  module _ (l : tab ≤ length line) where
+    count : length (slice start tab line) ≡ tab - start
+    count = length-slice start tab line l
 
-  pub entry-long : 7 < tab - start → bad ≡ entryAt line start tab
-  entry-long h = sym (not-count _ _ _ _ (above 1 (length (slice start tab line)) 7 (omega (arith, count))))
+    pub entry-none : tab ≡ start → bad ≡ entryAt line start tab
+    entry-none e = sym (not-count _ _ _ _ (under 1 (length (slice start tab line)) 7 (omega (arith, count))))
+
+    pub entry-long : 7 < tab - start → bad ≡ entryAt line start tab
+    entry-long h = sym (not-count _ _ _ _ (above 1 (length (slice start tab line)) 7 (omega (arith, count))))
 
   pub entry-unmarked : marked (drop tab line) ≡ false → bad ≡ entryAt line start tab
   entry-unmarked h = sym (not-marked _ _ _ _ h)
 
-  module _ (n : 1 ≤ tab - start) (m : tab - start ≤ 7) (k : marked (drop tab line) ≡ true) (end : ℕ) (s : Past hexadecimal line (tab + 3) end) where
+  module _ (end : ℕ) (d : Digits line start tab end) where
     counted : within 1 (length (slice start tab line)) 7 ≡ true
-    counted = inside 1 (length (slice start tab line)) 7 (omega (arith, count)) (omega (arith, count))
+    counted = inside 1 (length (slice start tab line)) 7 (omega (arith, count (d .inside), d .some)) (omega (arith, count (d .inside), d .few))
 
     by-code : readParts (slice start tab line) (drop tab line) (slice (tab + 3) end line) (drop end line) ≡ entryAt line start tab
-    by-code = rw (s .in-front, s .remains, drop-drop 3 tab line)
+    by-code = rw (d .code .in-front, d .code .remains, drop-drop 3 tab line)
 
     pub entry-short-code : end < tab + 3 + 4 → bad ≡ entryAt line start tab
-    entry-short-code z = sym (not-digits _ _ _ _ counted k (under 4 (length (slice (tab + 3) end line)) 6 (rw (length-drop, length-take) (omega arith)))) ∙ by-code
+    entry-short-code z =
+        sym (not-digits _ _ _ _ counted (d .mark) (under 4 (length (slice (tab + 3) end line)) 6 (rw (length-drop, length-take) (omega arith)))) ∙ by-code
 
     module _ (z : tab + 3 + 4 ≤ end) where
       pub code-inside : end ≤ length line
-      code-inside = omega (arith, s .inside)
+      code-inside = omega (arith, d .code .inside)
 
       code-count : length (slice (tab + 3) end line) ≡ end - (tab + 3)
       code-count = length-slice (tab + 3) end line code-inside
 
       pub entry-long-code : tab + 3 + 6 < end → bad ≡ entryAt line start tab
-      entry-long-code h = sym (not-digits _ _ _ _ counted k (above 4 (length (slice (tab + 3) end line)) 6 (omega (arith, code-count)))) ∙ by-code
+      entry-long-code h =
+          sym (not-digits _ _ _ _ counted (d .mark) (above 4 (length (slice (tab + 3) end line)) 6 (omega (arith, code-count)))) ∙ by-code
 
       module _ (y : end ≤ tab + 3 + 6) where
         digits : within 4 (length (slice (tab + 3) end line)) 6 ≡ true
         digits = inside 4 (length (slice (tab + 3) end line)) 6 (omega (arith, code-count)) (omega (arith, code-count))
 
         pub entry-open : ending (drop end line) ≡ false → bad ≡ entryAt line start tab
-        entry-open h = sym (not-ending _ _ _ _ counted k digits h) ∙ by-code
+        entry-open h = sym (not-ending _ _ _ _ counted (d .mark) digits h) ∙ by-code
 
         module _ (e : ending (drop end line) ≡ true) (c : ℕ) (v : c ≡ value 16 0 (slice (tab + 3) end line)) where
           pub entry-unmapped : mapped c ≡ false → bad ≡ entryAt line start tab
-          entry-unmapped h = sym (not-mapped _ _ _ _ counted k digits e (ap mapped (sym v) ∙ h)) ∙ by-code
+          entry-unmapped h = sym (not-mapped _ _ _ _ counted (d .mark) digits e (ap mapped (sym v) ∙ h)) ∙ by-code
 
           pub entry-whole : mapped c ≡ true → (p : ℕ) → p ≡ value 10 0 (slice start tab line) → entry p c ≡ entryAt line start tab
-          entry-whole h p q = rw (q, v) (sym (is-entry _ _ _ _ counted k digits e (ap mapped (sym v) ∙ h)) ∙ by-code)
+          entry-whole h p q = rw (q, v) (sym (is-entry _ _ _ _ counted (d .mark) digits e (ap mapped (sym v) ∙ h)) ∙ by-code)
 
 -- A line that is no comment and not empty.
-pub read-entry : (line : List ℕ) (start tab : ℕ) → 0 < length line → eqb (getD line 0 0) 0x23 ≡ false → Past space line 0 start → Past decimal line start tab → entryAt line start tab ≡ read line
+pub read-entry : (line : List ℕ) (start tab : ℕ) → 0 < length line → eqb (getD line 0 0) 0x23 ≡ false → Past space line 0 start → Past decimal line start tab →
+    entryAt line start tab ≡ read line
 unfolding read
 read-entry line start tab h n s d = rw (isEntry line h n, sym (s .remains), sym (d .in-front), sym (d .remains))
   where

@@ -6,15 +6,14 @@ use mathlib.Core.Option.{some, none}
 use Prim.Native.Nat.{ℕ, suc, _+_, _≤_, _<_, min}
 use native.Mathlib.Numerals.{add-one}
 use native.Mathlib.Omega.{arith}
-use lib.Dec.{ltb, leb, eqb}
+use lib.Dec.{leb, eqb}
 use lib.ListN.{length, getD, take, length-take, drop-of-length-le}
 use lib.Seq.{slice, slice-cons, take-all, take-length}
-use borrow.Author.Tests.{leb-true, leb-false, eqb-true, eq-eqb, ne-eqb, le-ltb, lt-ltb}
+use borrow.Author.Tests.{leb-true, leb-false, eqb-true, eq-eqb, ne-eqb}
 use Rattle.standard.specs.Base.{mapped}
 use Rattle.standard.specs.Indexes.{pointerFrom}
 use Rattle.standard.proofs.Tests.{split}
-use Rattle.index.specs.IndexRead.{Read, entry, read}
-use Rattle.index.specs.IndexCall.{Outcome, without, fill, enter, indexLine}
+use Rattle.index_spec.specs.IndexCall.{Outcome}
 
 module _ (table : List ℕ) (end c : ℕ) where
   pub stretch-end : (i : ℕ) → end ≤ i → none ≡ pointerFrom i (slice i end table) c
@@ -52,22 +51,3 @@ whole table = take-length table
 -- What a call leaves, part by part.
 pub told : {o w : Outcome} → o ≡ w → (w .answer ≡ o .answer) × (w .table ≡ o .table)
 told e = (ap (λ (o : Outcome). o .answer) (sym e), ap (λ (o : Outcome). o .table) (sym e))
-
-module _ (p c : ℕ) (table : List ℕ) where
-  pub enter-out : length table ≤ p → enter (entry p c) table ≡ without 13 table
-  enter-out h = rw (le-ltb p (length table) h)
-
-  pub enter-full : (getD table p 0 ≡ 0 → ⊥) → enter (entry p c) table ≡ without 13 table
-  enter-full n = rw (ne-eqb (getD table p 0) 0 n, and-false (ltb p (length table)))
-
-  pub enter-free : p < length table → getD table p 0 ≡ 0 → enter (entry p c) table ≡ fill p c table
-  enter-free h e = rw (lt-ltb p (length table) h, eq-eqb (getD table p 0) 0 e)
-
-module _ (line table : List ℕ) where
-  pub line-long : 1024 < length line → indexLine line table ≡ without 8 table
-  unfolding indexLine
-  line-long h = rw (lt-ltb 1024 (length line) h)
-
-  pub line-read : length line ≤ 1024 → {r : Read} → r ≡ read line → indexLine line table ≡ enter r table
-  unfolding indexLine
-  line-read h e = rw (le-ltb 1024 (length line) h, e)

@@ -6,8 +6,8 @@ use mathlib.Core.Option.{Option, some, none}
 use Prim.Native.Nat.{ℕ, _≤_, max}
 use lib.ListN.{length, drop}
 use lib.Seq.{slice}
-use Rattle.index.specs.IndexLine.{decimal, hexadecimal}
-use Rattle.index.specs.IndexRead.{Read, noEntry, bad, entry, front, behind, space, readCode}
+use Rattle.index_spec.specs.IndexLine.{decimal, hexadecimal}
+use Rattle.index_spec.specs.IndexRead.{Read, noEntry, bad, entry, front, behind, space, readCode}
 use Rattle.index.specs.declared.Found.{Found}
 use Rattle.index.specs.declared.Found.the-variants.{At, Missing}
 use Rattle.index.specs.declared.reading.Kind.{Kind}

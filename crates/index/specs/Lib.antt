@@ -1,5 +1,1 @@
-pub mod IndexLine
-pub mod IndexRead
 pub mod IndexCode
-pub mod IndexCall
-pub mod Statements

@@ -1,7 +1,9 @@
 // Index tables: document 01, "Tables the caller lends" and "Index line".
 
+mod lengths;
 mod reading;
 
+use index_spec::Line;
 use reading::Reading;
 
 // What the bytes 80 to 9F map to in windows-1252.
@@ -40,14 +42,6 @@ pub const IRREGULAR: [u32; 32] = [
     0x0178,
 ];
 
-// What the index line call answers: the entry's pointer or 0, the refusal number or 0, and 1 where the line is an entry, else 0.
-#[repr(C)]
-pub struct Line {
-    pub pointer: u32,
-    pub refusal: u8,
-    pub entry: u8,
-}
-
 // Where a code point stands in a table.
 pub enum Found {
     At(usize),
@@ -57,10 +51,11 @@ pub enum Found {
 ghost use mathlib.Core.Path.{_≡_};
 ghost use mathlib.Core.Bool.{true};
 ghost use Rattle.standard.specs.Base.{mapped};
+ghost use Rattle.standard.specs.Encodings.{family, fits, lent};
 ghost use Rattle.standard.specs.Sequence.{cell};
 ghost use Rattle.standard.specs.Indexes.{indexPointer, pointerFrom};
-ghost use Rattle.index.specs.IndexRead.{entry};
-ghost use Rattle.index.specs.IndexCall.{enter, indexLine};
+ghost use Rattle.index_spec.specs.IndexRead.{entry};
+ghost use Rattle.index_spec.specs.IndexCall.{enter, indexLine};
 ghost use Rattle.index.specs.IndexCode.{pointerOf};
 ghost use lib.Seq.{slice};
 ghost use Prim.Native.Nat.{_≤_, min};
@@ -131,9 +126,20 @@ pub fn pointer(table: &[u32], c: u32) -> Found
     pointer_between(table, 0, table.len(), c)
 }
 
+// Are the lent tables' lengths as they must be for an encoding?
+pub fn tables_fit(encoding: u8, first: &[u32], second: &[u32]) -> bool
+    ensures { λ r. ⌜ r ≡ fits (family encoding) (lent (now (first .entry)) (now (second .entry))) ⌝ }
+{
+    if first.len() == lengths::first_cells(encoding) {
+        return lengths::second_fits(encoding, second.len());
+    }
+    false
+}
+
 // An entry fills the cell at its pointer. 13: there is none, or it is not 0.
 fn enter(table: &mut [u32], pointer: u32, c: u32) -> Line
-    ensures { λ r. ⌜ (r ≡ enter (entry pointer c) (now (table .entry)) .answer) × (now (table .exit) ≡ enter (entry pointer c) (now (table .entry)) .table) ⌝ }
+    ensures { λ r. ⌜ (r ≡ enter (entry pointer c) (now (table .entry)) .answer) ×
+        (now (table .exit) ≡ enter (entry pointer c) (now (table .entry)) .table) ⌝ }
 {
     let at = pointer as usize;
     if table.len() <= at {
@@ -160,7 +166,8 @@ fn enter(table: &mut [u32], pointer: u32, c: u32) -> Line
 
 // The index line call: what a line of a published index file is, and its entry put into the table. 8: a line above 1,024 bytes. 12: a bad line.
 pub fn index_line(line: &[u8], table: &mut [u32]) -> Line
-    ensures { λ r. ⌜ (r ≡ indexLine (now (line .entry)) (now (table .entry)) .answer) × (now (table .exit) ≡ indexLine (now (line .entry)) (now (table .entry)) .table) ⌝ }
+    ensures { λ r. ⌜ (r ≡ indexLine (now (line .entry)) (now (table .entry)) .answer) ×
+        (now (table .exit) ≡ indexLine (now (line .entry)) (now (table .entry)) .table) ⌝ }
 {
     if 1024 < line.len() {
         return Line {

@@ -4,8 +4,8 @@ ghost use mathlib.Core.Path.{_≡_};
 ghost use Prim.Native.Nat.{_+_, _-_, _≤_};
 ghost use lib.ListN.{length, getD, drop};
 ghost use lib.Seq.{slice};
-ghost use Rattle.index.specs.IndexLine.{digit, value, ending};
-ghost use Rattle.index.specs.IndexRead.{marked, read};
+ghost use Rattle.index_spec.specs.IndexLine.{digit, value, ending};
+ghost use Rattle.index_spec.specs.IndexRead.{marked, read};
 ghost use Rattle.index.specs.IndexCode.{passes, Past, readOf, entryAt};
 
 // The bytes that a part is made of.

@@ -7,7 +7,7 @@ use native.Mathlib.Numerals.{add-one}
 use native.Mathlib.Omega.{arith}
 use lib.ListN.{length, getD, take, drop, length-drop}
 use lib.Seq.{take-suc, take-all, drop-cons, drop-length}
-use Rattle.labels.specs.Labels.{white, start, trimmed}
+use Rattle.labels_spec.specs.Labels.{white, start, trimmed}
 use Rattle.labels.specs.LookUp.{untail}
 
 -- One byte of the front.

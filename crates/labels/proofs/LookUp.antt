@@ -15,11 +15,11 @@ use borrow.Author.Tests.{lt-ltb, le-ltb, ltb-true, ltb-false, leb-true, eqb-true
 use Rattle.standard.specs.Base.{_then_else_}
 use Rattle.standard.specs.Text.{bytes}
 use Rattle.standard.proofs.Tests.{split, and-both}
-use Rattle.labels.specs.Labels.{table, fold, start, trimmed, same, among, find, answer, label}
-use Rattle.labels.specs.LookUp.{rowGroup, group, groups, labelBytes, startsFrom, labelStarts, begins, seekIn, seek, number}
-use Rattle.labels.specs.declared.Found.{Found}
-use Rattle.labels.proofs.Known.{the-table, isSome, is-some, eachOf, each, each-rule, good-stands}
-use Rattle.labels.specs.Statements as statements
+use Rattle.labels_spec.specs.Labels.{table, fold, start, trimmed, find, answer, label}
+use Rattle.labels.specs.LookUp.{labelStarts, begins, seekIn, seek, number}
+use Rattle.labels_spec.specs.declared.Found.{Found}
+use Rattle.labels_spec.proofs.Known.{the-table, isSome, is-some, eachOf, each, each-rule, good-stands}
+use Rattle.labels_spec.specs.Statements as statements
 
 -- One byte of the comparison.
 module _ (l g : List ℕ) (i : ℕ) (h : i < length l) (f : i < length g) where
@@ -30,7 +30,8 @@ module _ (l g : List ℕ) (i : ℕ) (h : i < length l) (f : i < length g) where
   pub begins-other : (x : ℕ) → x ≡ fold (getD l i 0) → (x ≡ getD g i 0 → ⊥) → begins (map fold (drop i l)) (drop i g) ≡ false
   begins-other x e d = begins-step ∙ rw (← e, ne-eqb x (getD g i 0) d)
 
-  pub begins-same : (x : ℕ) → x ≡ fold (getD l i 0) → x ≡ getD g i 0 → begins (map fold (drop i l)) (drop i g) ≡ begins (map fold (drop (i + 1) l)) (drop (i + 1) g)
+  pub begins-same : (x : ℕ) → x ≡ fold (getD l i 0) → x ≡ getD g i 0 →
+      begins (map fold (drop i l)) (drop i g) ≡ begins (map fold (drop (i + 1) l)) (drop (i + 1) g)
   begins-same x e d = begins-step ∙ rw (← e, eq-eqb x (getD g i 0) d)
 
 -- Nothing is left to compare.
@@ -71,7 +72,9 @@ module _ (l g : List ℕ) where
   seek-found h b = more h ∙ rw b
 
   pub seek-next : length l < length g → begins l g ≡ false → seek l g ≡ seek l (drop (length l + 1) g)
-  seek-next h b = more h ∙ rw b (enough (length g - 1) (length (drop (length l + 1) g)) l (drop (length l + 1) g) (simp length-drop (omega arith)) (omega arith))
+  seek-next h b =
+      more h ∙
+      rw b (enough (length g - 1) (length (drop (length l + 1) g)) l (drop (length l + 1) g) (simp length-drop (omega arith)) (omega arith))
 
   pub seek-end : length g ≤ length l → seek l g ≡ none
   unfolding seekIn
@@ -103,48 +106,24 @@ below-at p (suc n) i h g = split (eqb i n)
     (λ e. rw (eqb-true i n e) (and-both (p n) (below p n) h .0))
     (λ e. below-at p n i (and-both (p n) (below p n) h .1) (omega (arith, eqb-false i n e)))
 
--- The labels of n bytes, as the code cuts them out.
-abbrev pub groupAt : ℕ → List ℕ
-groupAt n = take (getD labelStarts (n + 1) 0 - getD labelStarts n 0) (drop (getD labelStarts n 0) labelBytes)
+-- The starts are in order, and within the row.
+goodStart : ℕ → Bool
+goodStart n = leb (getD labelStarts n 0) (getD labelStarts (n + 1) 0) && leb (getD labelStarts (n + 1) 0) 2316
 
--- The look-up.
-abbrev pub look : List ℕ → Option ℕ
-look l = ltb 19 (length l) then none else seek l (groupAt (length l))
+all-starts : below goodStart 20 ≡ true
+unfolding below goodStart labelStarts
+all-starts = refl
 
--- The test of a label of encoding e: it is looked up as e.
-looked : ℕ → String → Bool
-looked e m = isSome e (look (bytes m))
+pub starts-rule : (n : ℕ) → n < 20 → (getD labelStarts n 0 ≤ getD labelStarts (n + 1) 0) × (getD labelStarts (n + 1) 0 ≤ 2316)
+unfolding goodStart
+starts-rule n h =
+    let a = and-both (leb (getD labelStarts n 0) (getD labelStarts (n + 1) 0)) (leb (getD labelStarts (n + 1) 0) 2316) (below-at goodStart 20 n all-starts h) in
+    (leb-true _ _ (a .0), leb-true _ _ (a .1))
 
 -- The test of the first k labels in a group of labels of n bytes: each is found in the table with the number behind it.
-pub known : ℕ → ℕ → List ℕ → Bool
+unfoldable pub known : ℕ → ℕ → List ℕ → Bool
 known zero n g = true
 known (suc k) n g = ltb n (length g) then isSome (getD g n 0) (find (take n g) 0 table) && known k n (drop (n + 1) g) else true
-
--- The test of a group: it lies within the labels, and its labels are known.
-goodGroup : ℕ → Bool
-goodGroup n = leb (getD labelStarts n 0) (getD labelStarts (n + 1) 0) && (leb (getD labelStarts (n + 1) 0) 2316 && known (length (groupAt n)) n (groupAt n))
-
--- The labels pass, and so do the groups.
-all-looked : each looked 0 table ≡ true
-unfolding each eachOf looked table bytes labelBytes groups group rowGroup labelStarts startsFrom seekIn begins
-all-looked = refl
-
-all-groups : below goodGroup 20 ≡ true
-unfolding below goodGroup known table bytes labelBytes groups group rowGroup labelStarts startsFrom same among find
-all-groups = refl
-
--- The rule of a group.
-pub record Group (n : ℕ) : Type 0 where
-  pub ordered : getD labelStarts n 0 ≤ getD labelStarts (n + 1) 0
-  pub within : getD labelStarts (n + 1) 0 ≤ 2316
-  pub all : known (length (groupAt n)) n (groupAt n) ≡ true
-
-pub group-rule : (n : ℕ) → n < 20 → Group n
-unfolding goodGroup
-group-rule n h =
-    let a = and-both (leb (getD labelStarts n 0) (getD labelStarts (n + 1) 0)) (leb (getD labelStarts (n + 1) 0) 2316 && known (length (groupAt n)) n (groupAt n)) (below-at goodGroup 20 n all-groups h) in
-    let b = and-both (leb (getD labelStarts (n + 1) 0) 2316) (known (length (groupAt n)) n (groupAt n)) (a .1) in
-    record { ordered = leb-true _ _ (a .0); within = leb-true _ _ (b .0); all = b .1 }
 
 -- What is sought and found in a group whose labels are known is found in the table.
 sought : (k : ℕ) (l g : List ℕ) (e : ℕ) → known k (length l) g ≡ true → seekIn k l g ≡ some e → find l 0 table ≡ some e
@@ -160,28 +139,81 @@ sought (suc k) l g e h s = split (ltb (length l) (length g))
     (λ b. sought k l (drop (length l + 1) g) e (i .1) (rw (t, b) at s)))
     (λ t. let j : none ≡ some e = rw t at s in let z : _≡_ {A = ℕ} 0 1 = cc in absurd (omega arith))
 
--- What is looked up is in the table, with its number.
-look-find : (l : List ℕ) (e : ℕ) → look l ≡ some e → find l 0 table ≡ some e
-look-find l e h = split (ltb 19 (length l))
-    (λ t. let j : none ≡ some e = rw t at h in let z : _≡_ {A = ℕ} 0 1 = cc in absurd (omega arith))
-    (λ t. sought (length (groupAt (length l))) l (groupAt (length l)) e (group-rule (length l) (omega (arith, ltb-false 19 (length l) t)) .all) (rw t at h))
+-- A row of labels: those of each length, as the code cuts them out, and the look-up.
+module _ (row : List ℕ) where
+  abbrev groupAt : ℕ → List ℕ
+  groupAt n = take (getD labelStarts (n + 1) 0 - getD labelStarts n 0) (drop (getD labelStarts n 0) row)
 
--- What is in the table is looked up as its number.
-find-look : (l : List ℕ) (e : ℕ) → find l 0 table ≡ some e → look l ≡ some e
-unfolding looked statements.labels
-find-look l e h =
-    let i = each-rule looked l 0 table e all-looked (good-stands e l h) in
-    let p : look (bytes (i .text)) ≡ some (0 + e) = is-some (0 + e) (look (bytes (i .text))) (i .passes) in
-    ap look (i .is) ∙ p ∙ ap some (zero-add e)
+  abbrev look : List ℕ → Option ℕ
+  look l = ltb 19 (length l) then none else seek l (groupAt (length l))
 
--- So the two agree.
-agree : (l : List ℕ) (o p : Option ℕ) → look l ≡ o → find l 0 table ≡ p → o ≡ p
-agree l none none h g = refl
-agree l (some e) p h g = sym (look-find l e h) ∙ g
-agree l none (some e) h g = sym h ∙ find-look l e g
+  -- The test of a label of encoding e: it is looked up as e.
+  unfoldable pub looked : ℕ → String → Bool
+  looked e m = isSome e (look (bytes m))
 
-pub right : (l : List ℕ) → look l ≡ find l 0 table
-right l = agree l (look l) (find l 0 table) refl refl
+  -- The test of a group: its labels are known.
+  unfoldable pub goodGroup : ℕ → Bool
+  goodGroup n = known (length (groupAt n)) n (groupAt n)
+
+  -- A row that passes both holds the table.
+  unfoldable pub holds : Bool
+  holds = each looked 0 table && below goodGroup 20
+
+  module _ (t : holds ≡ true) where
+    tests : (each looked 0 table ≡ true) × (below goodGroup 20 ≡ true)
+    unfolding holds
+    tests = and-both (each looked 0 table) (below goodGroup 20) t
+
+    -- What is looked up is in the table, with its number.
+    look-find : (l : List ℕ) (e : ℕ) → look l ≡ some e → find l 0 table ≡ some e
+    unfolding goodGroup
+    look-find l e h = split (ltb 19 (length l))
+        (λ f. let j : none ≡ some e = rw f at h in let z : _≡_ {A = ℕ} 0 1 = cc in absurd (omega arith))
+        (λ f. sought (length (groupAt (length l))) l (groupAt (length l)) e (below-at goodGroup 20 (length l) (tests .1) (omega (arith, ltb-false 19 (length l) f))) (rw f at h))
+
+    -- What is in the table is looked up as its number.
+    find-look : (l : List ℕ) (e : ℕ) → find l 0 table ≡ some e → look l ≡ some e
+    unfolding looked statements.labels
+    find-look l e h =
+        let i = each-rule looked l 0 table e (tests .0) (good-stands e l h) in
+        let p : look (bytes (i .text)) ≡ some (0 + e) = is-some (0 + e) (look (bytes (i .text))) (i .passes) in
+        ap look (i .is) ∙ p ∙ ap some (zero-add e)
+
+    -- So the two agree.
+    agree : (l : List ℕ) (o p : Option ℕ) → look l ≡ o → find l 0 table ≡ p → o ≡ p
+    agree l none none h g = refl
+    agree l (some e) p h g = sym (look-find l e h) ∙ g
+    agree l none (some e) h g = sym h ∙ find-look l e g
+
+    -- The code's answer for a label of at most 19 bytes.
+    pub near : (label : List ℕ) (r from to : ℕ) → length label ≤ 19 → from ≡ getD labelStarts (length label) 0 →
+        to ≡ getD labelStarts (length label + 1) 0 →
+        r ≡ number (seek (map fold label) (take (to - from) (drop from row))) → r ≡ number (find (map fold label) 0 table)
+    near label r from to h p q e =
+        let l = map fold label in
+        let n : length l ≡ length label = length-map label fold in
+        let g : take (to - from) (drop from row) ≡ groupAt (length l) = rw (p, q, n) in
+        let k : look l ≡ seek l (groupAt (length l)) = rw (le-ltb 19 (length l) (omega arith)) in
+        e ∙ ap number (ap (seek l) g ∙ sym k ∙ agree l (look l) (find l 0 table) refl refl)
+
+-- No label of the table has more than 19 bytes.
+short : ℕ → String → Bool
+short e m = leb (length (bytes m)) 19
+
+all-short : each short 0 table ≡ true
+unfolding each eachOf short table bytes
+all-short = refl
+
+-- The code's answer for a longer one.
+pub far : (label : List ℕ) → 19 < length label → 40 ≡ number (find (map fold label) 0 table)
+unfolding short statements.labels
+far label h = go (find (map fold label) 0 table) refl
+  where
+    go : (o : Option ℕ) → find (map fold label) 0 table ≡ o → 40 ≡ number o
+    go none e = refl
+    go (some k) e =
+        let i = each-rule short (map fold label) 0 table k all-short (good-stands k (map fold label) e) in
+        absurd (omega (arith, length-map label fold, ap length (i .is), leb-true (length (bytes (i .text))) 19 (i .passes)))
 
 -- Are two lists the same? A constant of the code is compared with its definition by this test.
 unfoldable pub alike : List ℕ → List ℕ → Bool
@@ -198,21 +230,6 @@ alike-same (x ∷ xs) [] h = absurd (subst T (sym h) tt)
 alike-same (x ∷ xs) (y ∷ ys) h =
     let k : (eqb x y ≡ true) × (alike xs ys ≡ true) = and-both (eqb x y) (alike xs ys) h in
     rw (eqb-true x y (k .0), alike-same xs ys (k .1))
-
--- The code's answer for a label of more than 19 bytes.
-pub far : (label : List ℕ) → 19 < length label → 40 ≡ number (find (map fold label) 0 table)
-far label h =
-    let p : look (map fold label) ≡ none = rw (lt-ltb 19 (length (map fold label)) (omega (arith, length-map label fold))) in
-    ap number (sym p ∙ right (map fold label))
-
--- The code's answer for another.
-pub near : (label constant : List ℕ) (r from to : ℕ) → length label ≤ 19 → from ≡ getD labelStarts (length label) 0 → to ≡ getD labelStarts (length label + 1) 0 →
-    r ≡ number (seek (map fold label) (take (to - from) (drop from constant))) → alike constant labelBytes ≡ true → r ≡ number (find (map fold label) 0 table)
-near label constant r from to h p q e t =
-    let n : length (map fold label) ≡ length label = length-map label fold in
-    let g : take (to - from) (drop from constant) ≡ groupAt (length (map fold label)) = rw (p, q, n, alike-same constant labelBytes t) in
-    let k : look (map fold label) ≡ seek (map fold label) (groupAt (length (map fold label))) = rw (le-ltb 19 (length (map fold label)) (omega arith)) in
-    e ∙ ap number (ap (seek (map fold label)) g ∙ sym k ∙ right (map fold label))
 
 -- What is found has a number below 40.
 found-below : (l : List ℕ) (e : ℕ) → find l 0 table ≡ some e → e < 40
@@ -237,5 +254,6 @@ module _ (xs part : List ℕ) (e : ℕ) (p : part ≡ trimmed xs) (h : e ≡ num
   pub call-unknown : e ≡ 40 → _≡_ {A = Found} (record { start = 0; length = 0; refusal = 1; encoding = 0 }) (label xs)
   call-unknown z = sym (called ∙ ap (answer xs) (nothing (find (map fold part) 0 table) refl z))
 
-  pub call-known : (a : ℕ) → a ≡ start xs → (e ≡ 40 → ⊥) → _≡_ {A = Found} (record { start = a; length = length part; refusal = 0; encoding = e }) (label xs)
+  pub call-known : (a : ℕ) → a ≡ start xs → (e ≡ 40 → ⊥) →
+      _≡_ {A = Found} (record { start = a; length = length part; refusal = 0; encoding = e }) (label xs)
   call-known a q z = sym (called ∙ ap (answer xs) (something (find (map fold part) 0 table) refl z) ∙ rw (q, p))

@@ -11,10 +11,10 @@ use lib.Seq.{drop-cons, take-suc, length-take-le, getD-drop, set-at}
 use borrow.Author.Tests.{lt-ltb, le-ltb, leb-true}
 use Rattle.standard.specs.Text.{bytes}
 use Rattle.standard.proofs.Tests.{and-both}
-use Rattle.labels.specs.Labels.{table, name, same, Naming, unnamed, naming}
+use Rattle.labels_spec.specs.Labels.{table, name, same, Naming, unnamed, naming}
 use Rattle.labels.specs.LookUp.{namesOf, nameStartsFrom, nameBytes, nameStarts}
-use Rattle.labels.specs.declared.Named.{Named}
-use Rattle.labels.proofs.Known.{same-bytes}
+use Rattle.labels_spec.specs.declared.Named.{Named}
+use Rattle.labels_spec.proofs.Known.{same-bytes}
 use Rattle.labels.proofs.LookUp.{below, below-at, alike, alike-same}
 
 -- The test of a name: the code's part of the names is the name.
@@ -59,14 +59,16 @@ module _ (e a b : ℕ) (room : List ℕ) (p : a ≡ getD nameStarts e 0) (q : b 
   unfolding naming
   name-short f = rw (le-ltb 39 e (omega arith), lt-ltb (length room) (length (name e)) (omega (arith, name-length)))
 
-  fits : b - a ≤ length room → naming e room ≡ record { answer = record { length = length (name e); refusal = 0 }; room = name e ++ drop (length (name e)) room }
+  fits : b - a ≤ length room →
+      naming e room ≡ record { answer = record { length = length (name e); refusal = 0 }; room = name e ++ drop (length (name e)) room }
   unfolding naming
   fits f = rw (le-ltb 39 e (omega arith), le-ltb (length room) (length (name e)) (omega (arith, name-length)))
 
   pub name-answer : b - a ≤ length room → _≡_ {A = Named} (record { length = b - a; refusal = 0 }) (naming e room .answer)
   name-answer f = sym (ap (λ (n : Naming). n .answer) (fits f) ∙ rw (← name-length))
 
-  pub name-room : (constant after : List ℕ) → b - a ≤ length room → after ≡ take (b - a) (drop a constant) ++ drop (b - a) room → alike constant nameBytes ≡ true → after ≡ naming e room .room
+  pub name-room : (constant after : List ℕ) → b - a ≤ length room → after ≡ take (b - a) (drop a constant) ++ drop (b - a) room →
+      alike constant nameBytes ≡ true → after ≡ naming e room .room
   name-room constant after f o t =
       let c : take (b - a) (drop a constant) ≡ name e = ap (λ l. take (b - a) (drop a l)) (alike-same constant nameBytes t) ∙ placed in
       o ∙ rw c (sym (ap (λ (n : Naming). n .room) (fits f) ∙ rw (← name-length)))
@@ -88,5 +90,6 @@ copied bs room from i h g =
     p ∙ rw (add-one, q) (sym (append-assoc (take i (drop from bs)) (getD bs (from + i) 0 ∷ []) (drop (suc i) room)))
 
 -- The whole of it.
-pub copy-end : (bs room₀ room : List ℕ) (from i count : ℕ) → i ≤ count → count ≤ i → room ≡ take i (drop from bs) ++ drop i room₀ → room ≡ take count (drop from bs) ++ drop count room₀
+pub copy-end : (bs room₀ room : List ℕ) (from i count : ℕ) → i ≤ count → count ≤ i → room ≡ take i (drop from bs) ++ drop i room₀ →
+    room ≡ take count (drop from bs) ++ drop count room₀
 copy-end bs room₀ room from i count h g e = let p : count ≡ i = omega arith in rw p e

@@ -1,3 +1,1 @@
-pub mod Labels
-pub mod Statements
 pub mod LookUp

@@ -9,35 +9,13 @@ use lib.Dec.{ltb, eqb}
 use lib.ListN.{length, getD, drop}
 use Rattle.standard.specs.Base.{_then_else_}
 use Rattle.standard.specs.Text.{bytes}
-use Rattle.labels.specs.Labels.{table, start}
+use Rattle.labels_spec.specs.Labels.{table, start}
 
--- The labels of n bytes of a row, each with the row's number behind it.
-unfoldable pub rowGroup : ℕ → ℕ → List String → List ℕ
-rowGroup n e [] = []
-rowGroup n e (m ∷ ms) = eqb (length (bytes m)) n then bytes m ++ (e ∷ rowGroup n e ms) else rowGroup n e ms
-
--- Those of all rows, the first being number e.
-unfoldable pub group : ℕ → ℕ → List (String × List String) → List ℕ
-group n e [] = []
-group n e (r ∷ rs) = rowGroup n e (r .1) ++ group n (suc e) rs
-
--- The groups of n bytes and more, k of them.
-unfoldable pub groups : ℕ → ℕ → List ℕ
-groups n zero = []
-groups n (suc k) = group n 0 table ++ groups (suc n) k
-
--- The labels of 0 to 19 bytes.
-unfoldable pub labelBytes : List ℕ
-labelBytes = groups 0 20
-
--- Where each of k groups starts, the first at a, and where the last ends.
-unfoldable pub startsFrom : ℕ → ℕ → ℕ → List ℕ
-startsFrom a n zero = a ∷ []
-startsFrom a n (suc k) = a ∷ startsFrom (a + length (group n 0 table)) (suc n) k
-
--- Where the labels of each length start.
+-- Where the labels of each length start in the code's row of labels: those of n bytes stand from place n to place n + 1 of this list.
 unfoldable pub labelStarts : List ℕ
-labelStarts = startsFrom 0 0 20
+labelStarts =
+    0 ∷ 0 ∷ 0 ∷ 21 ∷ 37 ∷ 57 ∷ 105 ∷ 322 ∷ 418 ∷ 706 ∷ 896 ∷
+    1314 ∷ 1686 ∷ 1868 ∷ 1910 ∷ 1985 ∷ 2225 ∷ 2259 ∷ 2277 ∷ 2296 ∷ 2316 ∷ []
 
 -- The names of some rows, and where each starts.
 unfoldable pub namesOf : List (String × List String) → List ℕ

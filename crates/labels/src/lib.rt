@@ -1,6 +1,8 @@
 // Labels to encodings: document 01, "Labels and encoding numbers".
 mod tables;
 
+use labels_spec::Found;
+use labels_spec::Named;
 use tables::LABELS;
 use tables::NAME_STARTS;
 use tables::NAMES;
@@ -9,24 +11,9 @@ ghost use mathlib.Core.Path.{_≡_};
 ghost use mathlib.Core.List.{map, _++_};
 ghost use Prim.Native.Nat.{_+_, _-_, _≤_, _<_};
 ghost use lib.ListN.{length, getD, take, drop};
-ghost use Rattle.labels.specs.Labels.{table, white, fold, start, trimmed, find, label, naming};
+ghost use denote.Ref.{ptr};
+ghost use Rattle.labels_spec.specs.Labels.{table, white, fold, start, TrimmedPart, find, label, naming};
 ghost use Rattle.labels.specs.LookUp.{labelStarts, nameStarts, untail, begins, seek, number};
-
-// What the label call answers: where the trimmed label lies in the caller's bytes, the refusal number or 0, and the encoding number.
-#[repr(C)]
-pub struct Found {
-    pub start: usize,
-    pub length: usize,
-    pub refusal: u8,
-    pub encoding: u8,
-}
-
-// What the name call answers: how many bytes the name has, 0 where it is refused, and the refusal number or 0.
-#[repr(C)]
-pub struct Named {
-    pub length: usize,
-    pub refusal: u8,
-}
 
 // White space: 09, 0A, 0C, 0D, 20.
 fn white(b: u8) -> bool
@@ -90,7 +77,7 @@ fn back(s: &[u8]) -> usize
 
 // The label without the white space on both sides, as a part of the caller's bytes.
 pub fn trim<'a>(label: &'a [u8]) -> &'a [u8]
-    ensures { λ r. ⌜ now r ≡ trimmed (now (label .entry)) ⌝ }
+    ensures { λ r. ⌜ TrimmedPart (now (label .entry)) (ptr (label .entry)) (now r) (ptr r) ⌝ }
 {
     let a = front(label);
     let s = &label[a..];
@@ -152,7 +139,9 @@ fn encoding_of(label: &[u8]) -> u8
     if n > 19 {
         return 40;
     }
-    seek_between(label, &LABELS, group_start(n), group_start(n + 1))
+    let from = group_start(n);
+    let to = group_start(n + 1);
+    seek_between(label, &LABELS, from, to)
 }
 
 // The label call.
@@ -200,7 +189,8 @@ fn copy(bytes: &[u8], from: usize, count: usize, room: &mut [u8])
 
 // The name call: writes the name of an encoding to the front of the room.
 pub fn name(encoding: u8, room: &mut [u8]) -> Named
-    ensures { λ r. ⌜ (r ≡ naming encoding (now (room .entry)) .answer) × (now (room .exit) ≡ naming encoding (now (room .entry)) .room) ⌝ }
+    ensures { λ r. ⌜ (r ≡ naming encoding (now (room .entry)) .answer) ×
+        (now (room .exit) ≡ naming encoding (now (room .entry)) .room) ⌝ }
 {
     if encoding > 39 {
         return Named {

@@ -1,10 +1,9 @@
+pub mod Below
 pub mod Patches
 pub mod Fronts
+pub mod Guard
 pub mod Running
 pub mod Steps
-pub mod Values
-pub mod Rows
-pub mod Utf16Runs
-pub mod WordBytes
-pub mod ByteRuns
-pub mod Families
+pub mod Scalars
+pub mod Or
+pub mod Stretches

@@ -1,3 +1,2 @@
 pub mod Run
-pub mod Units
-pub mod Bytes
+pub mod Stretch

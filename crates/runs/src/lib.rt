@@ -1,17 +1,18 @@
-// Runs of sequences over part of a chunk: what they are, and those of single-byte text and UTF-16.
+// What runs share: a place, the guard, the sequence at a place, and stretches of ASCII.
+// A run goes over part of a chunk, sequence after sequence. It may stop anywhere; what it has read stands in the room.
 
-mod single_byte;
-mod utf_16;
-mod words;
+pub mod ascii;
 
+use sequences::Sequence;
+use sequences::next;
 ghost use mathlib.Core.Path.{_≡_};
-ghost use Prim.Native.Nat.{_+_, _-_, _≤_};
 ghost use lib.Dec.{eqb};
-ghost use lib.ListN.{length};
+ghost use lib.ListN.{drop};
 ghost use Rattle.standard.specs.Encodings.{family, lent};
-ghost use Rattle.standard.specs.Sequence.{shift};
+ghost use Rattle.standard.specs.Sequence.{shift, plain};
 ghost use Rattle.standard.specs.Next.{next};
-ghost use Rattle.runs.specs.Run.{Runs};
+ghost use Rattle.sequences.specs.Code.{nextOf};
+ghost use Rattle.runs.specs.Run.{ready, readyPlain, left, Gives};
 
 // Where a run has come to: its place in the chunk and in the room, and the shift.
 pub struct Place {
@@ -21,98 +22,117 @@ pub struct Place {
     pub flag: u8,
 }
 
-// A run from a place of the chunk on. It may stop anywhere; what it has read stands in the room.
-pub fn run(
-    encoding: u8,
-    mode: u8,
-    chunk: &[u8],
+// The guard of every run: is there space for a scalar of each byte that is left, and are there not too many?
+pub fn ready(bytes: usize, from: usize, space: usize, place: usize) -> bool
+    ensures { λ r. ⌜ r ≡ ready bytes from space place ⌝ }
+{
+    if bytes < from {
+        return false;
+    }
+    if 65536 < bytes {
+        return false;
+    }
+    if space < place {
+        return false;
+    }
+    bytes - from <= space - place
+}
+
+// The guard of a run that begins without a shift.
+pub fn ready_plain(bytes: usize, space: usize, p: Place) -> bool
+    ensures { λ r. ⌜ r ≡ readyPlain bytes space p ⌝ }
+{
+    if p.state != 0 {
+        return false;
+    }
+    if p.flag != 0 {
+        return false;
+    }
+    ready(bytes, p.at, space, p.written)
+}
+
+// The scalar of an ASCII byte.
+pub fn wide(b: u8) -> u32
+    ensures { λ r. ⌜ r ≡ b ⌝ }
+{
+    b as u32
+}
+
+// The sequence at a place of a chunk; width 0 where fewer than four bytes are left.
+pub fn next_at(
     t1: &[u32],
     t2: &[u32],
-    from: usize,
-    room: &mut [u32],
-    place: usize,
+    encoding: u8,
     state: u8,
     flag: u8,
-) -> Place
-    ensures { λ r. ⌜ Runs (next (lent (now (t1 .entry)) (now (t2 .entry))) (family encoding)) mode (now (chunk .entry)) from (r .at) (shift state (eqb flag 1)) (shift (r .state) (eqb (r .flag) 1)) place (r .written) (now (room .entry)) (now (room .exit)) ⌝ }
+    chunk: &[u8],
+    i: usize,
+) -> Sequence
+    ensures { λ r. ⌜ ((r .width ≡ 0 → ⊥) →
+        nextOf r ≡ next (lent (now (t1 .entry)) (now (t2 .entry))) (family encoding) (shift state (eqb flag 1)) (drop i (now (chunk .entry)))) ⌝ }
 {
-    if chunk.len() < from {
-        return still(from, place, state, flag);
+    if chunk.len() < i {
+        return none();
     }
-    if 65536 < chunk.len() {
-        return still(from, place, state, flag);
+    if chunk.len() - i < 4 {
+        return none();
     }
-    if room.len() < place {
-        return still(from, place, state, flag);
-    }
-    if room.len() - place < chunk.len() - from {
-        return still(from, place, state, flag);
-    }
-    go(
-        encoding,
-        mode,
-        chunk,
+    next(
         t1,
         t2,
-        from,
-        room,
-        place,
+        encoding,
         state,
         flag,
+        chunk[i],
+        chunk[i + 1],
+        chunk[i + 2],
+        chunk[i + 3],
+        4,
     )
 }
 
-// A place that has not moved.
-fn still(at: usize, written: usize, state: u8, flag: u8) -> Place
-    ensures { λ r. ⌜ r ≡ record { at = at; written = written; state = state; flag = flag } ⌝ }
+// No sequence.
+fn none() -> Sequence
+    ensures { λ r. ⌜ r .width ≡ 0 ⌝ }
 {
-    Place {
-        at,
-        written,
-        state,
-        flag,
+    Sequence {
+        first: 0,
+        second: 0,
+        width: 0,
+        state: 0,
+        flag: 0,
+        count: 0,
     }
 }
 
-// The run of an encoding.
-fn go(
-    encoding: u8,
-    mode: u8,
-    chunk: &[u8],
-    t1: &[u32],
-    t2: &[u32],
-    from: usize,
-    room: &mut [u32],
-    place: usize,
-    state: u8,
-    flag: u8,
-) -> Place
-    requires { ⌜ (from ≤ length (now chunk)) × (length (now chunk) ≤ 65536) × (place + (length (now chunk) - from) ≤ length (now room)) ⌝ }
-    ensures { λ r. ⌜ Runs (next (lent (now (t1 .entry)) (now (t2 .entry))) (family encoding)) mode (now (chunk .entry)) from (r .at) (shift state (eqb flag 1)) (shift (r .state) (eqb (r .flag) 1)) place (r .written) (now (room .entry)) (now (room .exit)) ⌝ }
+// The only scalar of a sequence, U+FFFD for an error in a mode other than 1; 0 for none.
+pub fn scalar_of(mode: u8, q: Sequence) -> u32
+    ensures { λ r. ⌜ ((r ≡ 0 → ⊥) → Gives mode (nextOf q) (q .width) (left q) r) ⌝ }
 {
-    if state != 0 {
-        return still(from, place, state, flag);
+    if q.width == 0 {
+        return 0;
     }
-    if flag != 0 {
-        return still(from, place, state, flag);
+    if q.count == 1 {
+        return q.first;
     }
-    if encoding == 21 {
-        return single_byte::windows_1252_run(chunk, from, room, place);
+    if q.count != 3 {
+        return 0;
     }
-    if encoding == 37 {
-        return utf_16::utf_16_run(true, mode, chunk, from, room, place);
+    if mode == 1 {
+        return 0;
     }
-    if encoding == 38 {
-        return utf_16::utf_16_run(false, mode, chunk, from, room, place);
+    0xFFFD
+}
+
+// The same of a sequence that leaves no shift; 0 for another.
+pub fn plain_scalar_of(mode: u8, q: Sequence) -> u32
+    ensures { λ r. ⌜ ((r ≡ 0 → ⊥) → Gives mode (nextOf q) (q .width) plain r) ⌝ }
+{
+    if q.state != 0 {
+        return 0;
     }
-    if encoding == 0 {
-        return still(from, place, state, flag);
+    if q.flag != 0 {
+        return 0;
     }
-    if 28 < encoding {
-        return still(from, place, state, flag);
-    }
-    if t1.len() < 128 {
-        return still(from, place, state, flag);
-    }
-    single_byte::single_byte_run(mode, chunk, t1, t2, from, room, place)
+    scalar_of(mode, q)
 }

@@ -2,16 +2,16 @@
 use mathlib.Core.Path.{_≡_, refl}
 use mathlib.Core.Bool.{Bool, true, false, _||_}
 use mathlib.Core.List.{List, [], _∷_}
-use Prim.Native.Nat.{ℕ, zero, suc, _+_, _-_, _*_, _≤_, _<_}
+use Prim.Native.Nat.{ℕ, _+_, _-_, _≤_, _<_}
 use native.Mathlib.Omega.{arith}
 use lib.Dec.{leb, eqb}
 use lib.ListN.{take}
 use borrow.Author.Tests.{le-leb, lt-leb, ne-eqb, eq-eqb}
 use Rattle.standard.specs.Base.{_then_else_, within}
 use Rattle.standard.specs.Encodings.{Tables}
-use Rattle.standard.specs.Sequence.{Shift, Next, text, error, more, item, shift, cell}
-use Rattle.standard.specs.Sequences.Iso2022Jp.{iso2022Jp, escaped, escapeEnd, escapeNext, byteOut, katakanaOut, codeOut, isoPointer, trailNext}
-use Rattle.sequences.specs.Code.{front}
+use Rattle.standard.specs.Layouts.{leads, pairCode, iso2022JpLayout}
+use Rattle.standard.specs.Sequence.{Shift, Next, text, error, more, item, shift}
+use Rattle.standard.specs.Sequences.Iso2022Jp.{iso2022Jp, escaped, escapeEnd, escapeNext, byteOut, katakanaOut, trailNext}
 use Rattle.sequences.proofs.Leaves.{one-more, no-more}
 
 -- the output state that an escape chooses
@@ -71,20 +71,16 @@ module _ (s : Shift) (c d x : ℕ) (e : x ≡ escaped c d) where
   end-first h g = rw (← e, lt-leb 4 x h, g)
 
 -- after an escape byte
-escape-rest : (s : Shift) (c d n : ℕ) (xs : List ℕ) → escapeNext s c (take n (d ∷ xs)) ≡ escapeNext s c (take n (d ∷ []))
-escape-rest s c d zero xs = refl
-escape-rest s c d (suc n) xs = refl
-
-module _ (s : Shift) (n c d : ℕ) where
-  pub escape-none : eqb c 0x24 || eqb c 0x28 ≡ false → escapeNext s c (take (n - 2) (d ∷ [])) ≡ item 1 (shift (s .state) false) error
+module _ (s : Shift) (n c d : ℕ) (xs : List ℕ) where
+  pub escape-none : eqb c 0x24 || eqb c 0x28 ≡ false → escapeNext s c (take (n - 2) (d ∷ xs)) ≡ item 1 (shift (s .state) false) error
   escape-none h = rw h
 
   module _ (h : eqb c 0x24 || eqb c 0x28 ≡ true) where
-    pub escape-wait : n < 3 → escapeNext s c (take (n - 2) (d ∷ [])) ≡ more
-    escape-wait g = rw (h, no-more (n - 2) (d ∷ []) (omega arith))
+    pub escape-wait : n < 3 → escapeNext s c (take (n - 2) (d ∷ xs)) ≡ more
+    escape-wait g = rw (h, no-more (n - 2) (d ∷ xs) (omega arith))
 
-    pub escape-whole : 3 ≤ n → escapeNext s c (take (n - 2) (d ∷ [])) ≡ escapeEnd s c d
-    escape-whole g = rw (h, one-more (n - 2) d [] (omega arith))
+    pub escape-whole : 3 ≤ n → escapeNext s c (take (n - 2) (d ∷ xs)) ≡ escapeEnd s c d
+    escape-whole g = rw (h, one-more (n - 2) d xs (omega arith))
 
 -- a byte that is no character
 module _ (b : ℕ) where
@@ -146,58 +142,42 @@ kana-none b h = rw h
 
 -- a lead and a trail byte
 module _ (t : List ℕ) (b c : ℕ) where
-  module _ (x : ℕ) (e : x ≡ cell t ((b - 0x21) * 94 + (c - 0x21))) where
-    pub pair-null : x ≡ 0 → codeOut (cell t (isoPointer b c)) ≡ error
-    unfolding isoPointer
-    pair-null h = rw (← e, h)
-
-    pub pair-some : (x ≡ 0 → ⊥) → codeOut (cell t (isoPointer b c)) ≡ text (x ∷ [])
-    unfolding isoPointer
-    pair-some h = rw (← e, ne-eqb x 0 h)
-
   pub trail-1B : c ≡ 0x1B → trailNext t b c ≡ item 1 (shift 3 false) error
   trail-1B h = rw h
 
-  module _ (h : c ≡ 0x1B → ⊥) where
-    pub trail-pair : within 0x21 c 0x7E ≡ true → trailNext t b c ≡ item 2 (shift 3 false) (codeOut (cell t (isoPointer b c)))
-    trail-pair g = rw (ne-eqb c 0x1B h, g)
+  module _ (h : c ≡ 0x1B → ⊥) (x : ℕ) (e : x ≡ pairCode iso2022JpLayout t b c) where
+    pub trail-null : x ≡ 0 → trailNext t b c ≡ item 2 (shift 3 false) error
+    trail-null g = rw (ne-eqb c 0x1B h, ← e, g)
 
-    pub trail-other : within 0x21 c 0x7E ≡ false → trailNext t b c ≡ item 2 (shift 3 false) error
-    trail-other g = rw (ne-eqb c 0x1B h, g)
+    pub trail-some : (x ≡ 0 → ⊥) → trailNext t b c ≡ item 2 (shift 3 false) (text (x ∷ []))
+    trail-some g = rw (ne-eqb c 0x1B h, ← e, ne-eqb x 0 g)
 
 -- the first byte
-module _ (t : Tables) (s : Shift) (n b c d e : ℕ) where
-  pub iso-nothing : n ≡ 0 → iso2022Jp t s (front n b c d e) ≡ more
-  unfolding iso2022Jp
-  iso-nothing h = rw h
+module _ (t : Tables) (s : Shift) (n b c d : ℕ) (xs : List ℕ) where
+  module _ (h : b ≡ 0x1B) where
+    pub iso-2022-jp-1B-wait : n < 2 → iso2022Jp t s (b ∷ take (n - 1) (c ∷ d ∷ xs)) ≡ more
+    unfolding iso2022Jp
+    iso-2022-jp-1B-wait g = rw (h, no-more (n - 1) (c ∷ d ∷ xs) (omega arith))
 
-  module _ (h : 1 ≤ n) where
-    module _ (g : b ≡ 0x1B) where
-      pub iso-1B-wait : n < 2 → iso2022Jp t s (front n b c d e) ≡ more
+    pub iso-2022-jp-1B : 2 ≤ n → iso2022Jp t s (b ∷ take (n - 1) (c ∷ d ∷ xs)) ≡ escapeNext s c (take (n - 2) (d ∷ xs))
+    unfolding iso2022Jp
+    iso-2022-jp-1B g = let z : n - 2 ≡ n - 1 - 1 = omega arith in rw (h, one-more (n - 1) c (d ∷ xs) (omega arith), z)
+
+  module _ (h : b ≡ 0x1B → ⊥) where
+    pub iso-2022-jp-byte : (s .state ≡ 3 → ⊥) → iso2022Jp t s (b ∷ take (n - 1) (c ∷ d ∷ xs)) ≡ byteItem (s .state) b
+    unfolding iso2022Jp
+    iso-2022-jp-byte g = rw (ne-eqb b 0x1B h, ne-eqb (s .state) 3 g)
+
+    module _ (g : s .state ≡ 3) where
+      pub iso-2022-jp-bad : leads iso2022JpLayout b ≡ false → iso2022Jp t s (b ∷ take (n - 1) (c ∷ d ∷ xs)) ≡ item 1 (shift 3 false) error
       unfolding iso2022Jp
-      iso-1B-wait w = rw (one-more n b (c ∷ d ∷ e ∷ []) h, g, no-more (n - 1) (c ∷ d ∷ e ∷ []) (omega arith))
+      iso-2022-jp-bad k = rw (ne-eqb b 0x1B h, eq-eqb (s .state) 3 g, k)
 
-      pub iso-1B : 2 ≤ n → iso2022Jp t s (front n b c d e) ≡ escapeNext s c (take (n - 2) (d ∷ []))
-      unfolding iso2022Jp
-      iso-1B w =
-          let z : n - 1 - 1 ≡ n - 2 = omega arith in
-          rw (one-more n b (c ∷ d ∷ e ∷ []) h, g, one-more (n - 1) c (d ∷ e ∷ []) (omega arith), z) (escape-rest s c d (n - 2) (e ∷ []))
-
-    module _ (g : b ≡ 0x1B → ⊥) where
-      pub iso-byte : (s .state ≡ 3 → ⊥) → iso2022Jp t s (front n b c d e) ≡ byteItem (s .state) b
-      unfolding iso2022Jp
-      iso-byte k = rw (one-more n b (c ∷ d ∷ e ∷ []) h, ne-eqb b 0x1B g, ne-eqb (s .state) 3 k)
-
-      module _ (k : s .state ≡ 3) where
-        pub iso-no-lead : within 0x21 b 0x7E ≡ false → iso2022Jp t s (front n b c d e) ≡ item 1 (shift 3 false) error
+      module _ (k : leads iso2022JpLayout b ≡ true) where
+        pub iso-2022-jp-wait : n < 2 → iso2022Jp t s (b ∷ take (n - 1) (c ∷ d ∷ xs)) ≡ more
         unfolding iso2022Jp
-        iso-no-lead f = rw (one-more n b (c ∷ d ∷ e ∷ []) h, ne-eqb b 0x1B g, eq-eqb (s .state) 3 k, f)
+        iso-2022-jp-wait w = rw (ne-eqb b 0x1B h, eq-eqb (s .state) 3 g, k, no-more (n - 1) (c ∷ d ∷ xs) (omega arith))
 
-        module _ (f : within 0x21 b 0x7E ≡ true) where
-          pub iso-lead-wait : n < 2 → iso2022Jp t s (front n b c d e) ≡ more
-          unfolding iso2022Jp
-          iso-lead-wait w = rw (one-more n b (c ∷ d ∷ e ∷ []) h, ne-eqb b 0x1B g, eq-eqb (s .state) 3 k, f, no-more (n - 1) (c ∷ d ∷ e ∷ []) (omega arith))
-
-          pub iso-lead : 2 ≤ n → iso2022Jp t s (front n b c d e) ≡ trailNext (t .first) b c
-          unfolding iso2022Jp
-          iso-lead w = rw (one-more n b (c ∷ d ∷ e ∷ []) h, ne-eqb b 0x1B g, eq-eqb (s .state) 3 k, f, one-more (n - 1) c (d ∷ e ∷ []) (omega arith))
+        pub iso-2022-jp-pair : 2 ≤ n → iso2022Jp t s (b ∷ take (n - 1) (c ∷ d ∷ xs)) ≡ trailNext (t .first) b c
+        unfolding iso2022Jp
+        iso-2022-jp-pair w = rw (ne-eqb b 0x1B h, eq-eqb (s .state) 3 g, k, one-more (n - 1) c (d ∷ xs) (omega arith))

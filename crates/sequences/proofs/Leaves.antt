@@ -1,36 +1,26 @@
 -- What a sequence is, from facts on numbers: what the returns of the code cite. Assumes nothing.
-use mathlib.Core.Path.{_≡_, refl, sym, ap, _∙_}
-use mathlib.Core.Bool.{Bool, true, false, not}
+use mathlib.Core.Path.{_≡_, refl, ap}
+use mathlib.Core.Bool.{Bool, true, false}
 use mathlib.Core.List.{List, [], _∷_}
 use Prim.Native.Nat.{ℕ, zero, suc, _-_, _≤_, _<_}
 use native.Mathlib.Omega.{arith}
-use lib.Dec.{ltb, leb, eqb}
+use lib.Dec.{ltb, eqb}
 use lib.ListN.{take}
-use borrow.Author.Tests.{ltb-true, ltb-false, leb-false, not-true, not-false, le-ltb, lt-ltb, le-leb, ne-eqb, eq-eqb}
-use Rattle.standard.specs.Base.{_then_else_, within}
+use borrow.Author.Tests.{ltb-true, ltb-false, le-ltb, lt-ltb, ne-eqb, eq-eqb}
+use Rattle.standard.specs.Base.{_then_else_}
 use Rattle.standard.specs.Sequence.{more, item, Shift, Out, await, scalar, bad, code, pair, trailed}
-
--- a range, from facts
-pub in-range : (l b h : ℕ) → l ≤ b → b ≤ h → within l b h ≡ true
-in-range l b h p q = rw (le-leb l b p, le-leb b h q)
-
-pub out-above : (l b h : ℕ) → within l b h ≡ false → l ≤ b → h < b
-out-above l b h e g = leb-false b h (rw (le-leb l b g) at e)
-
-pub from-low : (l b h : ℕ) → l ≤ b → within l b h ≡ leb b h
-from-low l b h p = rw (le-leb l b p)
-
--- a test that the code turns round
-pub fails : {r t : Bool} → r ≡ t → not r ≡ true → t ≡ false
-fails {r} e h = sym e ∙ not-true r h
-
-pub holds : {r t : Bool} → r ≡ t → not r ≡ false → t ≡ true
-holds {r} e h = sym e ∙ not-false r h
+use Rattle.sequences.specs.Code.{front}
 
 -- there is a byte more, or none
 pub one-more : (n b : ℕ) (xs : List ℕ) → 1 ≤ n → take n (b ∷ xs) ≡ b ∷ take (n - 1) xs
 one-more zero b xs h = absurd (omega arith)
 one-more (suc n) b xs h = let e : n ≡ suc n - 1 = omega arith in ap (λ (k : ℕ). b ∷ take k xs) e
+
+pub front-some : (n b c d e : ℕ) → (n ≡ 0 → ⊥) → front n b c d e ≡ b ∷ take (n - 1) (c ∷ d ∷ e ∷ [])
+front-some n b c d e h = one-more n b (c ∷ d ∷ e ∷ []) (omega arith)
+
+pub front-none : (n b c d e : ℕ) → n ≡ 0 → front n b c d e ≡ []
+front-none n b c d e h = rw h
 
 pub no-more : (n : ℕ) (xs : List ℕ) → n ≤ 0 → take n xs ≡ []
 no-more zero xs h = refl

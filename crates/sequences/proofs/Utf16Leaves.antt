@@ -1,15 +1,14 @@
 -- UTF-16, leaf by leaf. Assumes nothing.
-use mathlib.Core.Path.{_≡_, refl, _∙_}
+use mathlib.Core.Path.{_≡_, _∙_}
 use mathlib.Core.Bool.{Bool, true, false}
-use mathlib.Core.List.{[], _∷_}
+use mathlib.Core.List.{List, _∷_}
 use Prim.Native.Nat.{ℕ, zero, suc, _+_, _-_, _*_, _≤_, _<_}
 use native.Mathlib.Omega.{arith}
 use lib.ListN.{take}
 use Rattle.standard.specs.Sequence.{more, scalar, bad}
 use Rattle.standard.specs.Sequences.Utf16.{utf16, utf16Unit, utf16Pair, unit}
-use Rattle.standard.proofs.Tests.{under, above}
-use Rattle.sequences.specs.Code.{front}
-use Rattle.sequences.proofs.Leaves.{in-range, one-more}
+use Rattle.standard.proofs.Tests.{under, above, in-range}
+use Rattle.sequences.proofs.Leaves.{one-more, no-more}
 
 -- a code unit
 pub unit-be : (be : Bool) (b c : ℕ) → be ≡ true → unit be b c ≡ b * 256 + c
@@ -31,40 +30,35 @@ module _ (lead u : ℕ) where
   pub pair-trail : 0xDC00 ≤ u → u ≤ 0xDFFF → utf16Pair lead u ≡ scalar 4 (0x10000 + (lead - 0xD800) * 1024 + (u - 0xDC00))
   pair-trail h g = rw (in-range 0xDC00 u 0xDFFF h g)
 
--- no whole unit
-pub utf-short : (be : Bool) (n b c d e : ℕ) → n < 2 → utf16 be (front n b c d e) ≡ more
-unfolding utf16
-utf-short be zero b c d e h = refl
-utf-short be (suc zero) b c d e h = refl
-utf-short be (suc (suc n)) b c d e h = absurd (omega arith)
-
 -- a leading surrogate and no whole unit
-lead-short : (be : Bool) (u n d e : ℕ) → 0xD800 ≤ u → u ≤ 0xDBFF → n < 2 → utf16Unit be u (take n (d ∷ e ∷ [])) ≡ more
-lead-short be u zero d e h g k = rw (under 0xDC00 u 0xDFFF (omega arith), in-range 0xD800 u 0xDBFF h g)
-lead-short be u (suc zero) d e h g k = rw (under 0xDC00 u 0xDFFF (omega arith), in-range 0xD800 u 0xDBFF h g)
-lead-short be u (suc (suc n)) d e h g k = absurd (omega arith)
+lead-short : (be : Bool) (u n d e : ℕ) (xs : List ℕ) → 0xD800 ≤ u → u ≤ 0xDBFF → n < 2 → utf16Unit be u (take n (d ∷ e ∷ xs)) ≡ more
+lead-short be u zero d e xs h g k = rw (under 0xDC00 u 0xDFFF (omega arith), in-range 0xD800 u 0xDBFF h g)
+lead-short be u (suc zero) d e xs h g k = rw (under 0xDC00 u 0xDFFF (omega arith), in-range 0xD800 u 0xDBFF h g)
+lead-short be u (suc (suc n)) d e xs h g k = absurd (omega arith)
 
 -- a unit, by its range
-module _ (be : Bool) (n b c d e : ℕ) where
+module _ (be : Bool) (n b c d e : ℕ) (xs : List ℕ) where
+  pub utf-16-short : n < 2 → utf16 be (b ∷ take (n - 1) (c ∷ d ∷ e ∷ xs)) ≡ more
+  unfolding utf16
+  utf-16-short h = rw (no-more (n - 1) (c ∷ d ∷ e ∷ xs) (omega arith))
+
   module _ (u : ℕ) (i : u ≡ unit be b c) (h : 2 ≤ n) where
-    utf-unit : utf16 be (front n b c d e) ≡ utf16Unit be u (take (n - 2) (d ∷ e ∷ []))
+    utf-unit : utf16 be (b ∷ take (n - 1) (c ∷ d ∷ e ∷ xs)) ≡ utf16Unit be u (take (n - 2) (d ∷ e ∷ xs))
     unfolding utf16
-    utf-unit =
-        let z : n - 2 ≡ n - 1 - 1 = omega arith in
-        rw (one-more n b (c ∷ d ∷ e ∷ []) (omega arith), one-more (n - 1) c (d ∷ e ∷ []) (omega arith), z, i)
+    utf-unit = let z : n - 2 ≡ n - 1 - 1 = omega arith in rw (one-more (n - 1) c (d ∷ e ∷ xs) (omega arith), z, i)
 
-    pub utf-low : u < 0xD800 → utf16 be (front n b c d e) ≡ scalar 2 u
-    utf-low g = utf-unit ∙ rw (under 0xDC00 u 0xDFFF (omega arith), under 0xD800 u 0xDBFF g)
+    pub utf-16-low : u < 0xD800 → utf16 be (b ∷ take (n - 1) (c ∷ d ∷ e ∷ xs)) ≡ scalar 2 u
+    utf-16-low g = utf-unit ∙ rw (under 0xDC00 u 0xDFFF (omega arith), under 0xD800 u 0xDBFF g)
 
-    pub utf-high : 0xDFFF < u → utf16 be (front n b c d e) ≡ scalar 2 u
-    utf-high g = utf-unit ∙ rw (above 0xDC00 u 0xDFFF g, above 0xD800 u 0xDBFF (omega arith))
+    pub utf-16-high : 0xDFFF < u → utf16 be (b ∷ take (n - 1) (c ∷ d ∷ e ∷ xs)) ≡ scalar 2 u
+    utf-16-high g = utf-unit ∙ rw (above 0xDC00 u 0xDFFF g, above 0xD800 u 0xDBFF (omega arith))
 
-    pub utf-trail : 0xDBFF < u → u ≤ 0xDFFF → utf16 be (front n b c d e) ≡ bad 2
-    utf-trail g k = utf-unit ∙ rw (in-range 0xDC00 u 0xDFFF g k)
+    pub utf-16-trail : 0xDBFF < u → u ≤ 0xDFFF → utf16 be (b ∷ take (n - 1) (c ∷ d ∷ e ∷ xs)) ≡ bad 2
+    utf-16-trail g k = utf-unit ∙ rw (in-range 0xDC00 u 0xDFFF g k)
 
     module _ (g : 0xD800 ≤ u) (k : u ≤ 0xDBFF) where
-      pub utf-lead-wait : n < 4 → utf16 be (front n b c d e) ≡ more
-      utf-lead-wait w = utf-unit ∙ lead-short be u (n - 2) d e g k (omega arith)
+      pub utf-16-wait : n < 4 → utf16 be (b ∷ take (n - 1) (c ∷ d ∷ e ∷ xs)) ≡ more
+      utf-16-wait w = utf-unit ∙ lead-short be u (n - 2) d e xs g k (omega arith)
 
-      pub utf-lead : 4 ≤ n → utf16 be (front n b c d e) ≡ utf16Pair u (unit be d e)
-      utf-lead w = utf-unit ∙ rw (under 0xDC00 u 0xDFFF (omega arith), in-range 0xD800 u 0xDBFF g k, one-more (n - 2) d (e ∷ []) (omega arith), one-more (n - 2 - 1) e [] (omega arith))
+      pub utf-16-pair : 4 ≤ n → utf16 be (b ∷ take (n - 1) (c ∷ d ∷ e ∷ xs)) ≡ utf16Pair u (unit be d e)
+      utf-16-pair w = utf-unit ∙ rw (under 0xDC00 u 0xDFFF (omega arith), in-range 0xD800 u 0xDBFF g k, one-more (n - 2) d (e ∷ xs) (omega arith), one-more (n - 2 - 1) e xs (omega arith))

@@ -1,121 +1,162 @@
 -- UTF-8, leaf by leaf. Assumes nothing.
-use mathlib.Core.Path.{_≡_, refl, _∙_}
+use mathlib.Core.Path.{_≡_, sym, _∙_}
 use mathlib.Core.Bool.{Bool, true, false}
-use mathlib.Core.List.{[], _∷_}
-use Prim.Native.Nat.{ℕ, zero, suc, _+_, _-_, _*_, _≤_, _<_}
+use mathlib.Core.List.{List, _∷_}
+use Prim.Native.Nat.{ℕ, _+_, _-_, _*_, _≤_, _<_}
 use native.Mathlib.Omega.{arith}
-use lib.Dec.{eqb}
+use lib.Dec.{ltb, eqb}
 use lib.ListN.{take}
-use borrow.Author.Tests.{le-ltb, lt-ltb, ne-eqb}
-use Rattle.standard.specs.Base.{within}
+use borrow.Author.Tests.{le-ltb, lt-ltb, ltb-true, ltb-false, ne-eqb}
+use Rattle.standard.specs.Base.{_then_else_, within}
 use Rattle.standard.specs.Sequence.{Next, more, await, scalar, bad}
 use Rattle.standard.specs.Sequences.Utf8.{utf8, utf8Low, utf8High, follows, utf8Two, utf8Three, utf8Four}
-use Rattle.standard.proofs.Tests.{split, within-low, under, above}
-use Rattle.sequences.specs.Code.{front}
-use Rattle.sequences.proofs.Leaves.{in-range, one-more, no-more}
+use Rattle.standard.proofs.Tests.{split, within-low, under, above, in-range}
+use Rattle.sequences.specs.Code.{begun}
+use Rattle.sequences.proofs.Leaves.{one-more, no-more}
 
 -- what a lead of two, three, four makes of the bytes after it
-abbrev pub Two : (n b c : ℕ) → Next
-Two n b c = await (take (n - 1) (c ∷ [])) (λ c xs. utf8Two b c)
+abbrev pub Two : (n b c : ℕ) → List ℕ → Next
+Two n b c xs = await (take (n - 1) (c ∷ xs)) (λ c xs. utf8Two b c)
 
-abbrev pub Three : (n b c d : ℕ) → Next
-Three n b c d = await (take (n - 1) (c ∷ d ∷ [])) (λ c xs. utf8Three b c xs)
+abbrev pub Three : (n b c d : ℕ) → List ℕ → Next
+Three n b c d xs = await (take (n - 1) (c ∷ d ∷ xs)) (λ c xs. utf8Three b c xs)
 
-abbrev pub Four : (n b c d e : ℕ) → Next
-Four n b c d e = await (take (n - 1) (c ∷ d ∷ e ∷ [])) (λ c xs. utf8Four b c xs)
+abbrev pub Four : (n b c d e : ℕ) → List ℕ → Next
+Four n b c d e xs = await (take (n - 1) (c ∷ d ∷ e ∷ xs)) (λ c xs. utf8Four b c xs)
 
--- bytes behind the last are not looked at
-two-only : (m b c d e : ℕ) → await (take m (c ∷ d ∷ e ∷ [])) (λ c xs. utf8Two b c) ≡ await (take m (c ∷ [])) (λ c xs. utf8Two b c)
-two-only zero b c d e = refl
-two-only (suc m) b c d e = refl
-
-three-only : (m b c d e : ℕ) → await (take m (c ∷ d ∷ e ∷ [])) (λ c xs. utf8Three b c xs) ≡ await (take m (c ∷ d ∷ [])) (λ c xs. utf8Three b c xs)
-three-only zero b c d e = refl
-three-only (suc zero) b c d e = refl
-three-only (suc (suc m)) b c d e = refl
-
-pub utf8-none : (n b c d e : ℕ) → n ≡ 0 → utf8 (front n b c d e) ≡ more
-unfolding utf8
-utf8-none n b c d e h = rw h
-
-module _ (n b c d e : ℕ) (h : 1 ≤ n) where
-  pub utf8-ascii : b < 0x80 → utf8 (front n b c d e) ≡ scalar 1 b
+-- the first byte
+module _ (n b c d e : ℕ) (xs : List ℕ) where
+  pub utf8-ascii : b < 0x80 → utf8 (b ∷ take (n - 1) (c ∷ d ∷ e ∷ xs)) ≡ scalar 1 b
   unfolding utf8
-  utf8-ascii g = rw (one-more n b (c ∷ d ∷ e ∷ []) h, lt-ltb b 0x80 g)
+  utf8-ascii g = rw (lt-ltb b 0x80 g)
 
-  pub utf8-low : 0x80 ≤ b → b < 0xC2 → utf8 (front n b c d e) ≡ bad 1
+  pub utf8-low : 0x80 ≤ b → b < 0xC2 → utf8 (b ∷ take (n - 1) (c ∷ d ∷ e ∷ xs)) ≡ bad 1
   unfolding utf8
-  utf8-low g k = rw (one-more n b (c ∷ d ∷ e ∷ []) h, le-ltb b 0x80 g, under 0xC2 b 0xDF k, under 0xE0 b 0xEF (omega arith), under 0xF0 b 0xF4 (omega arith))
+  utf8-low g k = rw (le-ltb b 0x80 g, under 0xC2 b 0xDF k, under 0xE0 b 0xEF (omega arith), under 0xF0 b 0xF4 (omega arith))
 
-  pub utf8-high : 0xF5 ≤ b → utf8 (front n b c d e) ≡ bad 1
+  pub utf8-high : 0xF5 ≤ b → utf8 (b ∷ take (n - 1) (c ∷ d ∷ e ∷ xs)) ≡ bad 1
   unfolding utf8
-  utf8-high g = rw (one-more n b (c ∷ d ∷ e ∷ []) h, le-ltb b 0x80 (omega arith), above 0xC2 b 0xDF (omega arith), above 0xE0 b 0xEF (omega arith), above 0xF0 b 0xF4 (omega arith))
+  utf8-high g = rw (le-ltb b 0x80 (omega arith), above 0xC2 b 0xDF (omega arith), above 0xE0 b 0xEF (omega arith), above 0xF0 b 0xF4 (omega arith))
 
-  pub utf8-two : 0xC2 ≤ b → b < 0xE0 → utf8 (front n b c d e) ≡ Two n b c
+  pub utf8-two : 0xC2 ≤ b → b < 0xE0 → utf8 (b ∷ take (n - 1) (c ∷ d ∷ e ∷ xs)) ≡ Two n b c (d ∷ e ∷ xs)
   unfolding utf8
-  utf8-two g k = rw (one-more n b (c ∷ d ∷ e ∷ []) h, le-ltb b 0x80 (omega arith), in-range 0xC2 b 0xDF g (omega arith)) (two-only (n - 1) b c d e)
+  utf8-two g k = rw (le-ltb b 0x80 (omega arith), in-range 0xC2 b 0xDF g (omega arith))
 
-  pub utf8-three : 0xE0 ≤ b → b < 0xF0 → utf8 (front n b c d e) ≡ Three n b c d
+  pub utf8-three : 0xE0 ≤ b → b < 0xF0 → utf8 (b ∷ take (n - 1) (c ∷ d ∷ e ∷ xs)) ≡ Three n b c d (e ∷ xs)
   unfolding utf8
-  utf8-three g k = rw (one-more n b (c ∷ d ∷ e ∷ []) h, le-ltb b 0x80 (omega arith), above 0xC2 b 0xDF (omega arith), in-range 0xE0 b 0xEF g (omega arith)) (three-only (n - 1) b c d e)
+  utf8-three g k = rw (le-ltb b 0x80 (omega arith), above 0xC2 b 0xDF (omega arith), in-range 0xE0 b 0xEF g (omega arith))
 
-  pub utf8-four : 0xF0 ≤ b → b < 0xF5 → utf8 (front n b c d e) ≡ Four n b c d e
+  pub utf8-four : 0xF0 ≤ b → b < 0xF5 → utf8 (b ∷ take (n - 1) (c ∷ d ∷ e ∷ xs)) ≡ Four n b c d e xs
   unfolding utf8
-  utf8-four g k = rw (one-more n b (c ∷ d ∷ e ∷ []) h, le-ltb b 0x80 (omega arith), above 0xC2 b 0xDF (omega arith), above 0xE0 b 0xEF (omega arith), in-range 0xF0 b 0xF4 g (omega arith))
+  utf8-four g k = rw (le-ltb b 0x80 (omega arith), above 0xC2 b 0xDF (omega arith), above 0xE0 b 0xEF (omega arith), in-range 0xF0 b 0xF4 g (omega arith))
 
-module _ (n b c : ℕ) where
-  pub two-wait : n < 2 → Two n b c ≡ more
-  two-wait h = rw (no-more (n - 1) (c ∷ []) (omega arith))
+-- the second byte of two
+module _ (n b c : ℕ) (xs : List ℕ) where
+  pub two-wait : n < 2 → Two n b c xs ≡ more
+  two-wait h = rw (no-more (n - 1) (c ∷ xs) (omega arith))
 
-  pub two-bad : 2 ≤ n → follows c ≡ false → Two n b c ≡ bad 1
-  two-bad h g = rw (one-more (n - 1) c [] (omega arith), g)
+  pub two-bad : 2 ≤ n → follows c ≡ false → Two n b c xs ≡ bad 1
+  two-bad h g = rw (one-more (n - 1) c xs (omega arith), g)
 
-  pub two-good : 2 ≤ n → follows c ≡ true → Two n b c ≡ scalar 2 ((b - 0xC0) * 64 + (c - 0x80))
-  two-good h g = rw (one-more (n - 1) c [] (omega arith), g)
+  pub two-good : 2 ≤ n → follows c ≡ true → Two n b c xs ≡ scalar 2 ((b - 0xC0) * 64 + (c - 0x80))
+  two-good h g = rw (one-more (n - 1) c xs (omega arith), g)
 
+-- how three or four bytes begin
 module _ (n b c d : ℕ) where
-  pub three-wait : n < 2 → Three n b c d ≡ more
-  three-wait h = rw (no-more (n - 1) (c ∷ d ∷ []) (omega arith))
+  pub begun-first : n < 2 → begun n b c d ≡ 3
+  unfolding begun
+  begun-first h = rw (lt-ltb n 2 h)
 
   module _ (h : 2 ≤ n) where
-    pub three-second : within (utf8Low b) c (utf8High b) ≡ false → Three n b c d ≡ bad 1
-    three-second g = rw (one-more (n - 1) c (d ∷ []) (omega arith), g)
+    pub begun-second : within (utf8Low b) c (utf8High b) ≡ false → begun n b c d ≡ 1
+    unfolding begun
+    begun-second g = rw (le-ltb n 2 h, g)
 
     module _ (g : within (utf8Low b) c (utf8High b) ≡ true) where
-      pub three-wait-third : n < 3 → Three n b c d ≡ more
-      three-wait-third k = rw (one-more (n - 1) c (d ∷ []) (omega arith), g, no-more (n - 1 - 1) (d ∷ []) (omega arith))
+      pub begun-wait : n < 3 → begun n b c d ≡ 3
+      unfolding begun
+      begun-wait k = rw (le-ltb n 2 h, g, lt-ltb n 3 k)
 
-      pub three-third : 3 ≤ n → follows d ≡ false → Three n b c d ≡ bad 2
-      three-third k f = rw (one-more (n - 1) c (d ∷ []) (omega arith), g, one-more (n - 1 - 1) d [] (omega arith), f)
+      pub begun-third : 3 ≤ n → follows d ≡ false → begun n b c d ≡ 2
+      unfolding begun
+      begun-third k f = rw (le-ltb n 2 h, g, le-ltb n 3 k, f)
 
-      pub three-good : 3 ≤ n → follows d ≡ true → Three n b c d ≡ scalar 3 ((b - 0xE0) * 4096 + (c - 0x80) * 64 + (d - 0x80))
-      three-good k f = rw (one-more (n - 1) c (d ∷ []) (omega arith), g, one-more (n - 1 - 1) d [] (omega arith), f)
+      pub begun-right : 3 ≤ n → follows d ≡ true → begun n b c d ≡ 0
+      unfolding begun
+      begun-right k f = rw (le-ltb n 2 h, g, le-ltb n 3 k, f)
 
-module _ (n b c d e : ℕ) where
-  pub four-wait : n < 2 → Four n b c d e ≡ more
-  four-wait h = rw (no-more (n - 1) (c ∷ d ∷ e ∷ []) (omega arith))
+-- what three or four bytes give, by how they begin and whatever the third is followed by
+abbrev Begun : (n b c d : ℕ) → List ℕ → (ℕ → ℕ → List ℕ → Next) → Next
+Begun n b c d xs f =
+    await (take (n - 1) (c ∷ d ∷ xs)) (λ c xs. within (utf8Low b) c (utf8High b) then await xs (λ d xs. follows d then f c d xs else bad 2) else bad 1)
 
-  module _ (h : 2 ≤ n) where
-    pub four-second : within (utf8Low b) c (utf8High b) ≡ false → Four n b c d e ≡ bad 1
-    four-second g = rw (one-more (n - 1) c (d ∷ e ∷ []) (omega arith), g)
+pub record Right (n b c d : ℕ) : Type 0 where
+  pub there : 3 ≤ n
+  pub second : within (utf8Low b) c (utf8High b) ≡ true
+  pub third : follows d ≡ true
 
-    module _ (g : within (utf8Low b) c (utf8High b) ≡ true) where
-      pub four-wait-third : n < 3 → Four n b c d e ≡ more
-      four-wait-third k = rw (one-more (n - 1) c (d ∷ e ∷ []) (omega arith), g, no-more (n - 1 - 1) (d ∷ e ∷ []) (omega arith))
+-- by the tests: short, a wrong second byte, short again, a wrong third byte, right
+module _ (n b c d : ℕ) {A : Type 0}
+    (wait : begun n b c d ≡ 3 → ((xs : List ℕ) (f : ℕ → ℕ → List ℕ → Next) → Begun n b c d xs f ≡ more) → A)
+    (wrong : (w : ℕ) → 1 ≤ w → w < 3 → begun n b c d ≡ w → ((xs : List ℕ) (f : ℕ → ℕ → List ℕ → Next) → Begun n b c d xs f ≡ bad w) → A)
+    (right : begun n b c d ≡ 0 → Right n b c d → A) where
+  pub by-begun : A
+  by-begun =
+      split (ltb n 2) (λ s. let l = ltb-true n 2 s in wait (begun-first n b c d l) (λ xs f. rw (no-more (n - 1) (c ∷ d ∷ xs) (omega arith)))) (λ s.
+      let l = ltb-false n 2 s in
+      split (within (utf8Low b) c (utf8High b)) (λ g.
+      split (ltb n 3) (λ t. let m = ltb-true n 3 t in wait (begun-wait n b c d l g m) (λ xs f. rw (one-more (n - 1) c (d ∷ xs) (omega arith), g, no-more (n - 1 - 1) (d ∷ xs) (omega arith)))) (λ t.
+      let m = ltb-false n 3 t in
+      split (follows d) (λ k. right (begun-right n b c d l g m k) (record { there = m; second = g; third = k }))
+      (λ k. wrong 2 (omega arith) (omega arith) (begun-third n b c d l g m k) (λ xs f. rw (one-more (n - 1) c (d ∷ xs) (omega arith), g, one-more (n - 1 - 1) d xs (omega arith), k)))))
+      (λ g. wrong 1 (omega arith) (omega arith) (begun-second n b c d l g) (λ xs f. rw (one-more (n - 1) c (d ∷ xs) (omega arith), g))))
 
-      module _ (k : 3 ≤ n) where
-        pub four-third : follows d ≡ false → Four n b c d e ≡ bad 2
-        four-third f = rw (one-more (n - 1) c (d ∷ e ∷ []) (omega arith), g, one-more (n - 1 - 1) d (e ∷ []) (omega arith), f)
+module _ (n b c d k : ℕ) (e : k ≡ begun n b c d) where
+  -- where they go no further
+  stopped : (k ≡ 0 → ⊥) → (xs : List ℕ) (f : ℕ → ℕ → List ℕ → Next) → Begun n b c d xs f ≡ (eqb k 3 then more else bad k)
+  stopped h xs f = by-begun n b c d
+      (λ z g. let q : k ≡ 3 = e ∙ z in rw q (g xs f))
+      (λ w l m z g. let q : k ≡ w = e ∙ z in rw (q, ne-eqb w 3 (λ y. omega arith)) (g xs f))
+      (λ z r. absurd (h (e ∙ z)))
 
-        module _ (f : follows d ≡ true) where
-          pub four-wait-fourth : n < 4 → Four n b c d e ≡ more
-          four-wait-fourth l = rw (one-more (n - 1) c (d ∷ e ∷ []) (omega arith), g, one-more (n - 1 - 1) d (e ∷ []) (omega arith), f, no-more (n - 1 - 1 - 1) (e ∷ []) (omega arith))
+  pub right : k ≡ 0 → Right n b c d
+  right h = by-begun n b c d
+      (λ z g. absurd (omega (arith, e, z, h)))
+      (λ w l m z g. absurd (omega (arith, e, z, h)))
+      (λ z r. r)
 
-          pub four-fourth : 4 ≤ n → follows e ≡ false → Four n b c d e ≡ bad 3
-          four-fourth l i = rw (one-more (n - 1) c (d ∷ e ∷ []) (omega arith), g, one-more (n - 1 - 1) d (e ∷ []) (omega arith), f, one-more (n - 1 - 1 - 1) e [] (omega arith), i)
+  pub three-stopped : (k ≡ 0 → ⊥) → (xs : List ℕ) → Three n b c d xs ≡ (eqb k 3 then more else bad k)
+  three-stopped h xs = stopped h xs (λ c d xs. scalar 3 ((b - 0xE0) * 4096 + (c - 0x80) * 64 + (d - 0x80)))
 
-          pub four-good : 4 ≤ n → follows e ≡ true → Four n b c d e ≡ scalar 4 ((b - 0xF0) * 262144 + (c - 0x80) * 4096 + (d - 0x80) * 64 + (e - 0x80))
-          four-good l i = rw (one-more (n - 1) c (d ∷ e ∷ []) (omega arith), g, one-more (n - 1 - 1) d (e ∷ []) (omega arith), f, one-more (n - 1 - 1 - 1) e [] (omega arith), i)
+  pub four-stopped : (k ≡ 0 → ⊥) → (x : ℕ) (xs : List ℕ) → Four n b c d x xs ≡ (eqb k 3 then more else bad k)
+  four-stopped h x xs = stopped h (x ∷ xs) (λ c d xs. await xs (λ e xs. follows e then scalar 4 ((b - 0xF0) * 262144 + (c - 0x80) * 4096 + (d - 0x80) * 64 + (e - 0x80)) else bad 3))
+
+pub stop-wait : (k : ℕ) → k ≡ 3 → (eqb k 3 then more else bad k) ≡ more
+stop-wait k h = rw h
+
+pub stop-bad : (k : ℕ) → (k ≡ 3 → ⊥) → (eqb k 3 then more else bad k) ≡ bad k
+stop-bad k h = rw (ne-eqb k 3 h)
+
+-- the last byte
+module _ (n b c d : ℕ) (r : Right n b c d) (xs : List ℕ) where
+  pub three-good : Three n b c d xs ≡ scalar 3 ((b - 0xE0) * 4096 + (c - 0x80) * 64 + (d - 0x80))
+  three-good = let l = r .there in rw (one-more (n - 1) c (d ∷ xs) (omega arith), r .second, one-more (n - 1 - 1) d xs (omega arith), r .third)
+
+  module _ (e : ℕ) where
+    four-third : Four n b c d e xs ≡ await (take (n - 3) (e ∷ xs)) (λ e xs. follows e then scalar 4 ((b - 0xF0) * 262144 + (c - 0x80) * 4096 + (d - 0x80) * 64 + (e - 0x80)) else bad 3)
+    four-third =
+        let l = r .there in
+        let z : n - 3 ≡ n - 1 - 1 - 1 = omega arith in
+        rw (one-more (n - 1) c (d ∷ e ∷ xs) (omega arith), r .second, one-more (n - 1 - 1) d (e ∷ xs) (omega arith), r .third, z)
+
+    pub four-wait : n < 4 → Four n b c d e xs ≡ more
+    four-wait h = four-third ∙ rw (no-more (n - 3) (e ∷ xs) (omega arith))
+
+    pub four-bad : 4 ≤ n → follows e ≡ false → Four n b c d e xs ≡ bad 3
+    four-bad h g = four-third ∙ rw (one-more (n - 3) e xs (omega arith), g)
+
+    pub four-good : 4 ≤ n → follows e ≡ true → Four n b c d e xs ≡ scalar 4 ((b - 0xF0) * 262144 + (c - 0x80) * 4096 + (d - 0x80) * 64 + (e - 0x80))
+    four-good h g = four-third ∙ rw (one-more (n - 3) e xs (omega arith), g)
 
 -- the range of the second byte
 module _ (b : ℕ) where

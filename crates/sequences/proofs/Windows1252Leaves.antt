@@ -1,6 +1,7 @@
 -- windows-1252, leaf by leaf. Assumes nothing.
 use mathlib.Core.Path.{_≡_, refl, _∙_}
 use mathlib.Core.Bool.{Bool, true, _&&_, not}
+use mathlib.Core.List.{List, _∷_}
 use Prim.Native.Nat.{ℕ, zero, suc, _+_, _-_, _≤_, _<_}
 use native.Mathlib.Omega.{arith}
 use lib.Dec.{ltb, eqb}
@@ -11,7 +12,6 @@ use Rattle.standard.specs.Indexes.{irregular, countFrom, windows1252}
 use Rattle.standard.specs.Sequence.{scalar, code, cell}
 use Rattle.standard.specs.Sequences.SingleByte.{singleByte}
 use Rattle.standard.proofs.Tests.{split, and-left, and-right}
-use Rattle.sequences.specs.Code.{front}
 use Rattle.sequences.proofs.SingleByteLeaves.{single-cell}
 
 -- Does a test hold of every number below n?
@@ -43,13 +43,13 @@ is-wanted i h =
     let z = not-true (eqb (cell windows1252 i) 0) (and-right (eqb (cell windows1252 i) (wanted i)) (not (eqb (cell windows1252 i) 0)) e) in
     rw (z, eqb-true (cell windows1252 i) (wanted i) (and-left (eqb (cell windows1252 i) (wanted i)) (not (eqb (cell windows1252 i) 0)) e))
 
-module _ (n b c d e : ℕ) (h : 1 ≤ n) where
-  pub windows-irregular : 0x80 ≤ b → b < 0xA0 → singleByte windows1252 (front n b c d e) ≡ scalar 1 (getD irregular (b - 0x80) 0)
+module _ (b : ℕ) (xs : List ℕ) where
+  pub windows-irregular : 0x80 ≤ b → b < 0xA0 → singleByte windows1252 (b ∷ xs) ≡ scalar 1 (getD irregular (b - 0x80) 0)
   unfolding wanted
-  windows-irregular g k = single-cell windows1252 n b c d e h g ∙ is-wanted (b - 0x80) (omega arith) ∙ rw (lt-ltb (b - 0x80) 32 (omega arith))
+  windows-irregular g k = single-cell windows1252 b xs g ∙ is-wanted (b - 0x80) (omega arith) ∙ rw (lt-ltb (b - 0x80) 32 (omega arith))
 
-  pub windows-itself : 0xA0 ≤ b → b < 0x100 → singleByte windows1252 (front n b c d e) ≡ scalar 1 b
+  pub windows-itself : 0xA0 ≤ b → b < 0x100 → singleByte windows1252 (b ∷ xs) ≡ scalar 1 b
   unfolding wanted
   windows-itself g k =
       let q : b - 0x80 + 0x80 ≡ b = omega arith in
-      single-cell windows1252 n b c d e h (omega arith) ∙ is-wanted (b - 0x80) (omega arith) ∙ rw (le-ltb (b - 0x80) 32 (omega arith), q)
+      single-cell windows1252 b xs (omega arith) ∙ is-wanted (b - 0x80) (omega arith) ∙ rw (le-ltb (b - 0x80) 32 (omega arith), q)

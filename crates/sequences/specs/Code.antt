@@ -1,10 +1,12 @@
 -- The values of the code, as the definitions have them. Assumes nothing.
+use mathlib.Core.Bool.{not}
 use mathlib.Core.List.{List, [], _∷_}
 use Prim.Native.Nat.{ℕ}
-use lib.Dec.{eqb}
+use lib.Dec.{ltb, eqb}
 use lib.ListN.{take, getD}
-use Rattle.standard.specs.Base.{_then_else_}
+use Rattle.standard.specs.Base.{_then_else_, within}
 use Rattle.standard.specs.Sequence.{Out, text, error, Next, more, item, shift}
+use Rattle.standard.specs.Sequences.Utf8.{utf8Low, utf8High, follows}
 use Rattle.sequences.specs.declared.Sequence.{Sequence}
 
 -- What a sequence gives: count 3 says error, else so many scalars.
@@ -18,6 +20,14 @@ nextOf q = eqb (q .width) 0 then more else item (q .width) (shift (q .state) (eq
 -- the first `have` of four bytes
 abbrev pub front : ℕ → ℕ → ℕ → ℕ → ℕ → List ℕ
 front have b0 b1 b2 b3 = take have (b0 ∷ b1 ∷ b2 ∷ b3 ∷ [])
+
+-- how a sequence of three or four bytes begins: 0 where its first three are there and right, 3 where more are wanted, else the width of the error
+unfoldable pub begun : ℕ → ℕ → ℕ → ℕ → ℕ
+begun have b0 b1 b2 =
+    ltb have 2 then 3 else
+    not (within (utf8Low b0) b1 (utf8High b0)) then 1 else
+    ltb have 3 then 3 else
+    follows b2 then 0 else 2
 
 -- four pointers of Big5 that give two scalars: pointer, first scalar, second scalar
 abbrev pub pairs : List (List ℕ)

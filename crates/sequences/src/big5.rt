@@ -1,19 +1,23 @@
 // Big5.
 
 use crate::Sequence;
+use crate::code_point;
 use crate::gives;
 use crate::gives_trailed;
 use crate::waits;
-use crate::within;
 use crate::wrong;
-use index::cell;
+use layouts::leads;
+use layouts::pointer;
 ghost use mathlib.Core.Path.{_≡_};
-ghost use mathlib.Core.List.{[], _∷_};
-ghost use Prim.Native.Nat.{_≤_, _<_};
+ghost use mathlib.Core.Bool.{true};
+ghost use mathlib.Core.List.{List, [], _∷_};
+ghost use Prim.Native.Nat.{ℕ, _-_, _<_};
+ghost use lib.ListN.{take};
 ghost use Rattle.standard.specs.Encodings.{lent};
-ghost use Rattle.standard.specs.Sequence.{item, plain, text, pair, cell};
-ghost use Rattle.standard.specs.Sequences.Big5.{big5, big5Pointer, big5Pair, big5Trail};
-ghost use Rattle.sequences.specs.Code.{nextOf, front, pairCell, pairRow};
+ghost use Rattle.standard.specs.Layouts.{leads, big5Layout};
+ghost use Rattle.standard.specs.Sequence.{item, plain, text};
+ghost use Rattle.standard.specs.Sequences.Big5.{big5, big5Trail};
+ghost use Rattle.sequences.specs.Code.{nextOf, pairCell, pairRow};
 
 // Four pointers that give two scalars: pointer, first scalar, second scalar.
 const PAIRS: [[u32; 3]; 4] = [
@@ -23,16 +27,13 @@ const PAIRS: [[u32; 3]; 4] = [
     [1166, 0x00EA, 0x030C],
 ];
 
-pub fn big5(table: &[u32], b0: u8, b1: u8, b2: u8, b3: u8, have: usize) -> Sequence
-    ensures { λ r. ⌜ nextOf r ≡ big5 (lent (now (table .entry)) []) (front have b0 b1 b2 b3) ⌝ }
+pub fn big5(table: &[u32], b0: u8, b1: u8, have: usize) -> Sequence
+    ensures { λ r. ⌜ ((xs : List ℕ) → nextOf r ≡ big5 (lent (now (table .entry)) []) (b0 ∷ take (have - 1) (b1 ∷ xs))) ⌝ }
 {
-    if have == 0 {
-        return waits();
-    }
     if b0 < 0x80 {
         return gives(1, b0 as u32);
     }
-    if !within(0x81, b0, 0xFE) {
+    if !leads(31, b0) {
         return wrong(1);
     }
     if have < 2 {
@@ -43,56 +44,30 @@ pub fn big5(table: &[u32], b0: u8, b1: u8, b2: u8, b3: u8, have: usize) -> Seque
 
 // A lead and a trail byte.
 fn pair(table: &[u32], lead: u8, trail: u8) -> Sequence
-    requires { ⌜ 0x81 ≤ lead ⌝ }
+    requires { ⌜ leads big5Layout lead ≡ true ⌝ }
     ensures { λ r. ⌜ nextOf r ≡ big5Trail (now (table .entry)) lead trail ⌝ }
 {
-    if within(0x40, trail, 0x7E) {
-        return in_range(table, lead, trail);
-    }
-    if within(0xA1, trail, 0xFE) {
-        return in_range(table, lead, trail);
-    }
-    gives_trailed(1, 2, trail, 0)
-}
-
-// The same, where the trail byte is in its range.
-fn in_range(table: &[u32], lead: u8, trail: u8) -> Sequence
-    requires { ⌜ (0x81 ≤ lead) × (0x40 ≤ trail) ⌝ }
-    ensures { λ r. ⌜ nextOf r ≡ big5Pair lead trail (pair trail (cell (now (table .entry)) (big5Pointer lead trail))) ⌝ }
-{
-    let p = pointer(lead, trail);
-    let i = row(p);
+    let i = row(pointer(31, lead, trail));
     if i < 4 {
         return gives_row(i);
     }
-    gives_trailed(1, 2, trail, cell(table, p as usize))
-}
-
-fn pointer(lead: u8, trail: u8) -> u32
-    requires { ⌜ (0x81 ≤ lead) × (0x40 ≤ trail) ⌝ }
-    ensures { λ r. ⌜ r ≡ big5Pointer lead trail ⌝ }
-{
-    let row = ((lead - 0x81) as u32) * 157;
-    if trail < 0x7F {
-        return row + ((trail - 0x40) as u32);
-    }
-    row + ((trail - 0x62) as u32)
+    gives_trailed(1, 2, trail, code_point(31, table, lead, trail))
 }
 
 // The row of PAIRS that has the pointer, 4 for none.
-fn row(p: u32) -> usize
+fn row(p: usize) -> usize
     ensures { λ r. ⌜ r ≡ pairRow p ⌝ }
 {
-    if p == entry(0, 0) {
+    if p == entry(0, 0) as usize {
         return 0;
     }
-    if p == entry(1, 0) {
+    if p == entry(1, 0) as usize {
         return 1;
     }
-    if p == entry(2, 0) {
+    if p == entry(2, 0) as usize {
         return 2;
     }
-    if p == entry(3, 0) {
+    if p == entry(3, 0) as usize {
         return 3;
     }
     4

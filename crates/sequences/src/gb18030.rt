@@ -1,38 +1,39 @@
 // gb18030, and GBK, which is decoded the same way.
 
 use crate::Sequence;
+use crate::code_point;
 use crate::gives;
 use crate::gives_code;
 use crate::gives_pair;
 use crate::waits;
-use crate::within;
 use crate::wrong;
-use index::cell;
 use index::mapped;
+use layouts::gb18030::four_pointer;
+use layouts::gb18030::gap;
+use layouts::leads;
+use layouts::within;
 ghost use mathlib.Core.Path.{_≡_};
-ghost use mathlib.Core.Bool.{_||_};
-ghost use mathlib.Core.List.{_∷_, []};
-ghost use Prim.Native.Nat.{_+_, _-_, _≤_};
-ghost use lib.Dec.{ltb, leb};
+ghost use mathlib.Core.Bool.{true};
+ghost use mathlib.Core.List.{List, _∷_};
+ghost use Prim.Native.Nat.{ℕ, _+_, _-_};
+ghost use lib.Dec.{leb};
 ghost use lib.ListN.{take};
 ghost use Rattle.standard.specs.Base.{_then_else_, within};
 ghost use Rattle.standard.specs.Encodings.{lent};
-ghost use Rattle.standard.specs.Sequences.Gb18030.{gb18030, gbCode, gbRange, gbFourCode, gbFourPointer, gbFourth, gbThird};
-ghost use Rattle.sequences.specs.Code.{nextOf, front};
+ghost use Rattle.standard.specs.Layouts.{leads, gb18030Layout};
+ghost use Rattle.standard.specs.Sequences.Gb18030.{gb18030, gb18030Range, gb18030FourCode, gb18030Third};
+ghost use Rattle.sequences.specs.Code.{nextOf};
 
 pub fn gb18030(t1: &[u32], t2: &[u32], b0: u8, b1: u8, b2: u8, b3: u8, have: usize) -> Sequence
-    ensures { λ r. ⌜ nextOf r ≡ gb18030 (lent (now (t1 .entry)) (now (t2 .entry))) (front have b0 b1 b2 b3) ⌝ }
+    ensures { λ r. ⌜ ((xs : List ℕ) → nextOf r ≡ gb18030 (lent (now (t1 .entry)) (now (t2 .entry))) (b0 ∷ take (have - 1) (b1 ∷ b2 ∷ b3 ∷ xs))) ⌝ }
 {
-    if have == 0 {
-        return waits();
-    }
     if b0 < 0x80 {
         return gives(1, b0 as u32);
     }
     if b0 == 0x80 {
         return gives(1, 0x20AC);
     }
-    if 0xFE < b0 {
+    if !leads(30, b0) {
         return wrong(1);
     }
     if within(0x30, b1, 0x39) {
@@ -41,34 +42,13 @@ pub fn gb18030(t1: &[u32], t2: &[u32], b0: u8, b1: u8, b2: u8, b3: u8, have: usi
         }
         return third(t2, b0, b1, b2, b3, have);
     }
-    gives_pair(have, b1, code_point(t1, b0, b1))
+    gives_pair(have, b1, code_point(30, t1, b0, b1))
 }
 
-// The code point of a pair, 0 for none.
-fn code_point(table: &[u32], lead: u8, trail: u8) -> u32
-    requires { ⌜ 0x81 ≤ lead ⌝ }
-    ensures { λ r. ⌜ r ≡ gbCode (now (table .entry)) lead trail ⌝ }
-{
-    let row = ((lead - 0x81) as usize) * 190;
-    if trail < 0x40 {
-        return 0;
-    }
-    if trail < 0x7F {
-        return cell(table, row + ((trail - 0x40) as usize));
-    }
-    if trail == 0x7F {
-        return 0;
-    }
-    if 0xFE < trail {
-        return 0;
-    }
-    cell(table, row + ((trail - 0x41) as usize))
-}
-
-// The third byte: another byte puts back the second and itself.
+// The third byte and the fourth: where one of them is another byte, all behind the first are put back.
 fn third(ranges: &[u32], b: u8, c: u8, d: u8, e: u8, have: usize) -> Sequence
-    requires { ⌜ (0x81 ≤ b) × (0x30 ≤ c) ⌝ }
-    ensures { λ r. ⌜ nextOf r ≡ gbThird (now (ranges .entry)) b c d (take (have - 3) (e ∷ [])) ⌝ }
+    requires { ⌜ (leads gb18030Layout b ≡ true) × (within 0x30 c 0x39 ≡ true) ⌝ }
+    ensures { λ r. ⌜ ((xs : List ℕ) → nextOf r ≡ gb18030Third (now (ranges .entry)) b c d (take (have - 3) (e ∷ xs))) ⌝ }
 {
     if !within(0x81, d, 0xFE) {
         return wrong(1);
@@ -76,31 +56,15 @@ fn third(ranges: &[u32], b: u8, c: u8, d: u8, e: u8, have: usize) -> Sequence
     if have < 4 {
         return waits();
     }
-    fourth(ranges, b, c, d, e)
-}
-
-// The fourth byte: another byte puts back the second, the third and itself.
-fn fourth(ranges: &[u32], b: u8, c: u8, d: u8, e: u8) -> Sequence
-    requires { ⌜ (0x81 ≤ b) × (0x30 ≤ c) × (0x81 ≤ d) ⌝ }
-    ensures { λ r. ⌜ nextOf r ≡ gbFourth (now (ranges .entry)) b c d e ⌝ }
-{
-    if within(0x30, e, 0x39) {
-        return gives_code(4, four_code(ranges, four_pointer(b, c, d, e)));
+    if !within(0x30, e, 0x39) {
+        return wrong(1);
     }
-    wrong(1)
-}
-
-fn four_pointer(b: u8, c: u8, d: u8, e: u8) -> u32
-    requires { ⌜ (0x81 ≤ b) × (0x30 ≤ c) × (0x81 ≤ d) × (0x30 ≤ e) ⌝ }
-    ensures { λ r. ⌜ r ≡ gbFourPointer b c d e ⌝ }
-{
-    let upper = ((b - 0x81) as u32) * 12600 + ((c - 0x30) as u32) * 1260;
-    upper + ((d - 0x81) as u32) * 10 + ((e - 0x30) as u32)
+    gives_code(4, four_code(ranges, four_pointer(b, c, d, e)))
 }
 
 // The code point of a pointer, 0 for none.
 fn four_code(ranges: &[u32], p: u32) -> u32
-    ensures { λ r. ⌜ r ≡ gbFourCode (now (ranges .entry)) p ⌝ }
+    ensures { λ r. ⌜ r ≡ gb18030FourCode (now (ranges .entry)) p ⌝ }
 {
     if gap(p) {
         return 0;
@@ -116,22 +80,9 @@ fn four_code(ranges: &[u32], p: u32) -> u32
     if mapped(u) { u } else { 0 }
 }
 
-// Is it a pointer that no range has?
-fn gap(p: u32) -> bool
-    ensures { λ r. ⌜ r ≡ within 39420 p 188999 || ltb 1237575 p ⌝ }
-{
-    if p < 39420 {
-        return false;
-    }
-    if p < 189000 {
-        return true;
-    }
-    1237575 < p
-}
-
 // The last pair in list order whose pointer is not above p.
 fn range_code(ranges: &[u32], p: u32) -> u64
-    ensures { λ r. ⌜ r ≡ gbRange (now (ranges .entry)) p 0 ⌝ }
+    ensures { λ r. ⌜ r ≡ gb18030Range (now (ranges .entry)) p 0 ⌝ }
 {
     let mut found: u64 = 0;
     let mut i = 0;

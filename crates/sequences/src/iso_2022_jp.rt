@@ -1,40 +1,28 @@
 // ISO-2022-JP.
 
 use crate::Sequence;
+use crate::code_point;
 use crate::fails;
 use crate::says;
 use crate::says_nothing;
 use crate::waits;
-use crate::within;
-use index::cell;
+use layouts::leads;
+use layouts::within;
 ghost use mathlib.Core.Path.{_≡_};
 ghost use mathlib.Core.Bool.{false, _||_};
-ghost use mathlib.Core.List.{_∷_, []};
-ghost use Prim.Native.Nat.{_-_, _≤_};
+ghost use mathlib.Core.List.{List, _∷_};
+ghost use Prim.Native.Nat.{ℕ, _-_};
 ghost use lib.Dec.{leb, eqb};
 ghost use lib.ListN.{take};
 ghost use Rattle.standard.specs.Base.{_then_else_};
 ghost use Rattle.standard.specs.Encodings.{lent};
-ghost use Rattle.standard.specs.Sequence.{item, shift, cell};
-ghost use Rattle.standard.specs.Sequences.Iso2022Jp.{iso2022Jp, escaped, escapeEnd, escapeNext, byteOut, katakanaOut, codeOut, isoPointer, trailNext};
-ghost use Rattle.sequences.specs.Code.{nextOf, front};
+ghost use Rattle.standard.specs.Sequence.{item, shift};
+ghost use Rattle.standard.specs.Sequences.Iso2022Jp.{iso2022Jp, escaped, escapeEnd, escapeNext, byteOut, katakanaOut, trailNext};
+ghost use Rattle.sequences.specs.Code.{nextOf};
 
-pub fn iso_2022_jp(
-    t1: &[u32],
-    t2: &[u32],
-    state: u8,
-    flag: u8,
-    b0: u8,
-    b1: u8,
-    b2: u8,
-    b3: u8,
-    have: usize,
-) -> Sequence
-    ensures { λ r. ⌜ nextOf r ≡ iso2022Jp (lent (now (t1 .entry)) (now (t2 .entry))) (shift state (eqb flag 1)) (front have b0 b1 b2 b3) ⌝ }
+pub fn iso_2022_jp(t1: &[u32], state: u8, flag: u8, b0: u8, b1: u8, b2: u8, have: usize) -> Sequence
+    ensures { λ r. ⌜ ((second xs : List ℕ) → nextOf r ≡ iso2022Jp (lent (now (t1 .entry)) second) (shift state (eqb flag 1)) (b0 ∷ take (have - 1) (b1 ∷ b2 ∷ xs))) ⌝ }
 {
-    if have == 0 {
-        return waits();
-    }
     if b0 == 0x1B {
         if have < 2 {
             return waits();
@@ -44,18 +32,18 @@ pub fn iso_2022_jp(
     if state != 3 {
         return byte(state, b0);
     }
-    if within(0x21, b0, 0x7E) {
-        if have < 2 {
-            return waits();
-        }
-        return trail(t1, b0, b1);
+    if !leads(33, b0) {
+        return fails(1, 3, 0);
     }
-    fails(1, 3, 0)
+    if have < 2 {
+        return waits();
+    }
+    trail(t1, b0, b1)
 }
 
 // After an escape byte.
 fn escape(state: u8, flag: u8, c: u8, d: u8, have: usize) -> Sequence
-    ensures { λ r. ⌜ nextOf r ≡ escapeNext (shift state (eqb flag 1)) c (take (have - 2) (d ∷ [])) ⌝ }
+    ensures { λ r. ⌜ ((xs : List ℕ) → nextOf r ≡ escapeNext (shift state (eqb flag 1)) c (take (have - 2) (d ∷ xs))) ⌝ }
 {
     if escapes(c) {
         if have < 3 {
@@ -174,26 +162,14 @@ fn roman(b: u8) -> u32
 
 // A trail byte: an escape byte is put back.
 fn trail(jis0208: &[u32], b: u8, c: u8) -> Sequence
-    requires { ⌜ 0x21 ≤ b ⌝ }
     ensures { λ r. ⌜ nextOf r ≡ trailNext (now (jis0208 .entry)) b c ⌝ }
 {
     if c == 0x1B {
         return fails(1, 3, 0);
     }
-    if within(0x21, c, 0x7E) {
-        return pair(jis0208, b, c);
-    }
-    fails(2, 3, 0)
-}
-
-fn pair(jis0208: &[u32], b: u8, c: u8) -> Sequence
-    requires { ⌜ (0x21 ≤ b) × (0x21 ≤ c) ⌝ }
-    ensures { λ r. ⌜ nextOf r ≡ item 2 (shift 3 false) (codeOut (cell (now (jis0208 .entry)) (isoPointer b c))) ⌝ }
-{
-    let row = (b - 0x21) as usize;
-    let code = cell(jis0208, row * 94 + ((c - 0x21) as usize));
-    if code == 0 {
+    let u = code_point(33, jis0208, b, c);
+    if u == 0 {
         return fails(2, 3, 0);
     }
-    says(2, 3, 0, code)
+    says(2, 3, 0, u)
 }

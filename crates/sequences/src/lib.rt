@@ -13,15 +13,32 @@ pub mod utf8;
 pub mod utf_16;
 pub mod windows_1252;
 
+use crate::big5::big5;
+use crate::euc_jp::euc_jp;
+use crate::euc_kr::euc_kr;
+use crate::gb18030::gb18030;
+use crate::iso_2022_jp::iso_2022_jp;
+use crate::replacement::replacement;
+use crate::shift_jis::shift_jis;
+use crate::single_byte::single_byte;
+use crate::user_defined::user_defined;
+use crate::utf_16::utf_16;
+use crate::utf8::utf8;
+use crate::windows_1252::windows_1252;
+use index::cell;
+use layouts::pointer;
 ghost use mathlib.Core.Path.{_≡_};
 ghost use mathlib.Core.Bool.{true, false};
 ghost use mathlib.Core.List.{_∷_, []};
 ghost use Prim.Native.Nat.{_≤_};
 ghost use lib.Dec.{ltb, eqb};
-ghost use Rattle.standard.specs.Base.{_then_else_, within};
+ghost use Rattle.standard.specs.Base.{_then_else_};
+ghost use Rattle.standard.specs.Layouts.{pairCode};
 ghost use Rattle.standard.specs.Sequence.{more, bad, scalar, code, pair, trailed, item, shift, text, error};
-ghost use Rattle.standard.specs.Next.{unmarked};
-ghost use Rattle.sequences.specs.Code.{nextOf, outOf};
+ghost use Rattle.standard.specs.Encodings.{family, lent};
+ghost use Rattle.standard.specs.Next.{next, unmarked};
+ghost use Rattle.layouts.specs.Rows.{layoutOf};
+ghost use Rattle.sequences.specs.Code.{nextOf, outOf, front};
 
 // A sequence: width 0 says that more bytes are wanted, count 3 says error. There is no padding.
 pub struct Sequence {
@@ -112,14 +129,15 @@ fn gives_pair(have: usize, trail: u8, c: u32) -> Sequence
     gives_trailed(1, 2, trail, c)
 }
 
-// low to high, inclusive
-pub fn within(low: u8, b: u8, high: u8) -> bool
-    ensures { λ r. ⌜ r ≡ within low b high ⌝ }
+// The code point of a pair, 0 for none.
+pub fn code_point(encoding: u8, table: &[u32], lead: u8, trail: u8) -> u32
+    ensures { λ r. ⌜ r ≡ pairCode (layoutOf encoding) (now (table .entry)) lead trail ⌝ }
 {
-    if b < low {
-        return false;
+    let p = pointer(encoding, lead, trail);
+    if p < 32768 {
+        return cell(table, p);
     }
-    b <= high
+    0
 }
 
 // Rule "drop": the first scalar is dropped if it is a mark, where one is still to be dropped.
@@ -201,4 +219,60 @@ fn says_nothing(width: u8, state: u8, flag: u8) -> Sequence
         flag,
         count: 0,
     }
+}
+
+// The sequence at the front of up to four bytes, by encoding number.
+pub fn next(
+    t1: &[u32],
+    t2: &[u32],
+    encoding: u8,
+    state: u8,
+    flag: u8,
+    b0: u8,
+    b1: u8,
+    b2: u8,
+    b3: u8,
+    have: usize,
+) -> Sequence
+    ensures { λ r. ⌜ nextOf r ≡ next (lent (now (t1 .entry)) (now (t2 .entry))) (family encoding) (shift state (eqb flag 1)) (front have b0 b1 b2 b3) ⌝ }
+{
+    if have == 0 {
+        return waits();
+    }
+    if encoding == 0 {
+        let q = utf8(b0, b1, b2, b3, have);
+        return drop_mark(q, flag == 1);
+    }
+    if encoding == 21 {
+        return windows_1252(b0);
+    }
+    if encoding <= 28 {
+        return single_byte(t1, b0);
+    }
+    if encoding <= 30 {
+        return gb18030(t1, t2, b0, b1, b2, b3, have);
+    }
+    if encoding == 31 {
+        return big5(t1, b0, b1, have);
+    }
+    if encoding == 32 {
+        return euc_jp(t1, t2, b0, b1, b2, have);
+    }
+    if encoding == 33 {
+        return iso_2022_jp(t1, state, flag, b0, b1, b2, have);
+    }
+    if encoding == 34 {
+        return shift_jis(t1, b0, b1, have);
+    }
+    if encoding == 35 {
+        return euc_kr(t1, b0, b1, have);
+    }
+    if encoding == 36 {
+        return replacement(flag);
+    }
+    if encoding <= 38 {
+        let q = utf_16(encoding == 37, b0, b1, b2, b3, have);
+        return drop_mark(q, flag == 1);
+    }
+    user_defined(b0)
 }

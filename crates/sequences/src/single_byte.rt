@@ -3,18 +3,16 @@
 use crate::Sequence;
 use crate::gives;
 use crate::gives_code;
-use crate::waits;
 use index::cell;
 ghost use mathlib.Core.Path.{_≡_};
+ghost use mathlib.Core.List.{List, _∷_};
+ghost use Prim.Native.Nat.{ℕ};
 ghost use Rattle.standard.specs.Sequences.SingleByte.{singleByte};
-ghost use Rattle.sequences.specs.Code.{nextOf, front};
+ghost use Rattle.sequences.specs.Code.{nextOf};
 
-pub fn single_byte(table: &[u32], b0: u8, b1: u8, b2: u8, b3: u8, have: usize) -> Sequence
-    ensures { λ r. ⌜ nextOf r ≡ singleByte (now (table .entry)) (front have b0 b1 b2 b3) ⌝ }
+pub fn single_byte(table: &[u32], b0: u8) -> Sequence
+    ensures { λ r. ⌜ ((xs : List ℕ) → nextOf r ≡ singleByte (now (table .entry)) (b0 ∷ xs)) ⌝ }
 {
-    if have == 0 {
-        return waits();
-    }
     if b0 < 0x80 {
         return gives(1, b0 as u32);
     }

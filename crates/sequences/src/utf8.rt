@@ -3,22 +3,21 @@
 use crate::Sequence;
 use crate::gives;
 use crate::waits;
-use crate::within;
 use crate::wrong;
+use layouts::within;
 ghost use mathlib.Core.Path.{_≡_};
-ghost use mathlib.Core.List.{[], _∷_};
-ghost use Prim.Native.Nat.{_-_, _≤_};
+ghost use mathlib.Core.List.{List, _∷_};
+ghost use Prim.Native.Nat.{ℕ, _-_, _≤_};
+ghost use lib.Dec.{eqb};
 ghost use lib.ListN.{take};
-ghost use Rattle.standard.specs.Sequence.{await};
+ghost use Rattle.standard.specs.Base.{_then_else_};
+ghost use Rattle.standard.specs.Sequence.{await, more, bad};
 ghost use Rattle.standard.specs.Sequences.Utf8.{utf8, utf8Low, utf8High, utf8Two, utf8Three, utf8Four};
-ghost use Rattle.sequences.specs.Code.{nextOf, front};
+ghost use Rattle.sequences.specs.Code.{nextOf, begun};
 
 pub fn utf8(b0: u8, b1: u8, b2: u8, b3: u8, have: usize) -> Sequence
-    ensures { λ r. ⌜ nextOf r ≡ utf8 (front have b0 b1 b2 b3) ⌝ }
+    ensures { λ r. ⌜ ((xs : List ℕ) → nextOf r ≡ utf8 (b0 ∷ take (have - 1) (b1 ∷ b2 ∷ b3 ∷ xs))) ⌝ }
 {
-    if have == 0 {
-        return waits();
-    }
     if b0 < 0x80 {
         return gives(1, b0 as u32);
     }
@@ -40,7 +39,7 @@ pub fn utf8(b0: u8, b1: u8, b2: u8, b3: u8, have: usize) -> Sequence
 // A lead of two.
 fn two(b0: u8, b1: u8, have: usize) -> Sequence
     requires { ⌜ 0xC0 ≤ b0 ⌝ }
-    ensures { λ r. ⌜ nextOf r ≡ await (take (have - 1) (b1 ∷ [])) (λ c xs. utf8Two b0 c) ⌝ }
+    ensures { λ r. ⌜ ((xs : List ℕ) → nextOf r ≡ await (take (have - 1) (b1 ∷ xs)) (λ c xs. utf8Two b0 c)) ⌝ }
 {
     if have < 2 {
         return waits();
@@ -51,22 +50,44 @@ fn two(b0: u8, b1: u8, have: usize) -> Sequence
     gives(2, ((b0 - 0xC0) as u32) * 64 + ((b1 - 0x80) as u32))
 }
 
+// How three or four bytes begin: 0 where the first three are there and right, 3 where more are wanted, else the width of the error.
+fn begun(b0: u8, b1: u8, b2: u8, have: usize) -> u8
+    ensures { λ r. ⌜ r ≡ begun have b0 b1 b2 ⌝ }
+{
+    if have < 2 {
+        return 3;
+    }
+    if !within(low(b0), b1, high(b0)) {
+        return 1;
+    }
+    if have < 3 {
+        return 3;
+    }
+    if within(0x80, b2, 0xBF) {
+        return 0;
+    }
+    2
+}
+
+// Where they go no further.
+fn stops(k: u8) -> Sequence
+    requires { ⌜ 1 ≤ k ⌝ }
+    ensures { λ r. ⌜ nextOf r ≡ (eqb k 3 then more else bad k) ⌝ }
+{
+    if k == 3 {
+        return waits();
+    }
+    wrong(k)
+}
+
 // A lead of three.
 fn three(b0: u8, b1: u8, b2: u8, have: usize) -> Sequence
     requires { ⌜ 0xE0 ≤ b0 ⌝ }
-    ensures { λ r. ⌜ nextOf r ≡ await (take (have - 1) (b1 ∷ b2 ∷ [])) (λ c xs. utf8Three b0 c xs) ⌝ }
+    ensures { λ r. ⌜ ((xs : List ℕ) → nextOf r ≡ await (take (have - 1) (b1 ∷ b2 ∷ xs)) (λ c xs. utf8Three b0 c xs)) ⌝ }
 {
-    if have < 2 {
-        return waits();
-    }
-    if !within(low(b0), b1, high(b0)) {
-        return wrong(1);
-    }
-    if have < 3 {
-        return waits();
-    }
-    if !within(0x80, b2, 0xBF) {
-        return wrong(2);
+    let k = begun(b0, b1, b2, have);
+    if k != 0 {
+        return stops(k);
     }
     gives(
         3,
@@ -77,19 +98,11 @@ fn three(b0: u8, b1: u8, b2: u8, have: usize) -> Sequence
 // A lead of four.
 fn four(b0: u8, b1: u8, b2: u8, b3: u8, have: usize) -> Sequence
     requires { ⌜ 0xF0 ≤ b0 ⌝ }
-    ensures { λ r. ⌜ nextOf r ≡ await (take (have - 1) (b1 ∷ b2 ∷ b3 ∷ [])) (λ c xs. utf8Four b0 c xs) ⌝ }
+    ensures { λ r. ⌜ ((xs : List ℕ) → nextOf r ≡ await (take (have - 1) (b1 ∷ b2 ∷ b3 ∷ xs)) (λ c xs. utf8Four b0 c xs)) ⌝ }
 {
-    if have < 2 {
-        return waits();
-    }
-    if !within(low(b0), b1, high(b0)) {
-        return wrong(1);
-    }
-    if have < 3 {
-        return waits();
-    }
-    if !within(0x80, b2, 0xBF) {
-        return wrong(2);
+    let k = begun(b0, b1, b2, have);
+    if k != 0 {
+        return stops(k);
     }
     if have < 4 {
         return waits();

@@ -5,12 +5,14 @@ use crate::gives;
 use crate::waits;
 use crate::wrong;
 ghost use mathlib.Core.Path.{_≡_};
-ghost use Prim.Native.Nat.{_≤_};
+ghost use mathlib.Core.List.{List, _∷_};
+ghost use Prim.Native.Nat.{ℕ, _-_, _≤_};
+ghost use lib.ListN.{take};
 ghost use Rattle.standard.specs.Sequences.Utf16.{utf16, utf16Pair, unit};
-ghost use Rattle.sequences.specs.Code.{nextOf, front};
+ghost use Rattle.sequences.specs.Code.{nextOf};
 
 pub fn utf_16(be: bool, b0: u8, b1: u8, b2: u8, b3: u8, have: usize) -> Sequence
-    ensures { λ r. ⌜ nextOf r ≡ utf16 be (front have b0 b1 b2 b3) ⌝ }
+    ensures { λ r. ⌜ ((xs : List ℕ) → nextOf r ≡ utf16 be (b0 ∷ take (have - 1) (b1 ∷ b2 ∷ b3 ∷ xs))) ⌝ }
 {
     if have < 2 {
         return waits();
@@ -32,7 +34,7 @@ pub fn utf_16(be: bool, b0: u8, b1: u8, b2: u8, b3: u8, have: usize) -> Sequence
 }
 
 // A code unit; `be`: its first byte is the upper one.
-fn unit(be: bool, b: u8, c: u8) -> u32
+pub fn unit(be: bool, b: u8, c: u8) -> u32
     ensures { λ r. ⌜ r ≡ unit be b c ⌝ }
 {
     if be {

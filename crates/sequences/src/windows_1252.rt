@@ -2,19 +2,17 @@
 
 use crate::Sequence;
 use crate::gives;
-use crate::waits;
 use index::IRREGULAR;
 ghost use mathlib.Core.Path.{_≡_};
+ghost use mathlib.Core.List.{List, _∷_};
+ghost use Prim.Native.Nat.{ℕ};
 ghost use Rattle.standard.specs.Indexes.{windows1252};
 ghost use Rattle.standard.specs.Sequences.SingleByte.{singleByte};
-ghost use Rattle.sequences.specs.Code.{nextOf, front};
+ghost use Rattle.sequences.specs.Code.{nextOf};
 
-pub fn windows_1252(b0: u8, b1: u8, b2: u8, b3: u8, have: usize) -> Sequence
-    ensures { λ r. ⌜ nextOf r ≡ singleByte windows1252 (front have b0 b1 b2 b3) ⌝ }
+pub fn windows_1252(b0: u8) -> Sequence
+    ensures { λ r. ⌜ ((xs : List ℕ) → nextOf r ≡ singleByte windows1252 (b0 ∷ xs)) ⌝ }
 {
-    if have == 0 {
-        return waits();
-    }
     if b0 < 0x80 {
         return gives(1, b0 as u32);
     }

@@ -12,20 +12,19 @@ use borrow.Author.Tests.{lt-ltb, le-ltb, eq-eqb, ne-eqb, ltb-true, ltb-false, eq
 use Rattle.standard.specs.Base.{_then_else_}
 use Rattle.standard.specs.Text.{bytes}
 use Rattle.standard.specs.Encodings.{family, Tables, noTables}
-use Rattle.standard.specs.Sequence.{Out}
 use Rattle.standard.specs.Next.{next}
-use Rattle.standard.specs.Decode.{Read, decode, ending, shown, broken, before}
+use Rattle.standard.specs.Decode.{Item, Read, decode, ending, shown, broken, before}
 use Rattle.standard.proofs.Tests.{split}
-use Rattle.labels.specs.Labels.{label, name}
-use Rattle.labels.specs.declared.Found.{Found}
-use Rattle.decoder.specs.Valid.{shiftOf, heldOf}
-use Rattle.decoder.specs.Calls.{holding, closed, Outcome, refuse, write, handOut, handOutRead, opening, feedRefusal, feeding, finishRefusal, finishing}
+use Rattle.labels_spec.specs.Labels.{label, name}
+use Rattle.labels_spec.specs.declared.Found.{Found}
+use Rattle.decoder.specs.Record.{shiftOf, heldOf, holding, closed}
+use Rattle.decoder.specs.Calls.{Outcome, refuse, write, handOut, handOutRead, opening, feedRefusal, feeding, finishRefusal, finishing}
 use Rattle.decoder.specs.declared.Decoder.{Decoder}
 use Rattle.decoder.specs.declared.Answer.{Answer}
-use Rattle.decoder.proofs.Rooms.{room-kept}
+use Rattle.demands.proofs.Rooms.{room-kept}
 use Rattle.showtext.specs.Output.{firstLine, afterLine, count, line, refused, scalarLines}
 use Rattle.showtext.specs.Places.{Put}
-use Rattle.showtext.specs.Program.{Answers, Left, leave, linesOf, beginning, goingOn, closing}
+use Rattle.showtext.specs.Program.{Answers, Left, leave, linesOf, beginning, goingOn, closing, turning}
 use Rattle.showtext.specs.declared.Shown.{Shown}
 use Rattle.showtext.proofs.Named.{name-few}
 use Rattle.showtext.proofs.Texts.{then-put, lines-few, number-few}
@@ -47,7 +46,7 @@ pub ahead : {d : Decoder} {n number : ℕ} {out mid us vs : List ℕ} {at : ℕ}
 ahead p a = record { decoder = a .decoder; count = a .count; refusal = a .refusal; put = then-put p (a .put) }
 
 -- No more scalars are written than the room has cells.
-handed-few : (e m : ℕ) (is : List Out) (d : Decoder) (room : List ℕ) → length (handOut e m is d room .room) ≡ length room → handOut e m is d room .answer .written ≤ length room
+handed-few : (e m : ℕ) (is : List Item) (d : Decoder) (room : List ℕ) → length (handOut e m is d room .room) ≡ length room → handOut e m is d room .answer .written ≤ length room
 handed-few e m is d room = go (eqb m 1 && broken is)
   where
     given : Bool → Outcome
@@ -75,7 +74,7 @@ pub finish-few : (d : Decoder) (room : List ℕ) → finishing d room .answer .w
 unfolding finishing
 finish-few d room = go (eqb (finishRefusal d room) 0) (room-kept d .finished room)
   where
-    is : List Out
+    is : List Item
     is = ending noTables (family (d .encoding)) (shiftOf d) (heldOf d)
 
     given : Bool → Outcome
@@ -239,8 +238,29 @@ module _ {shown : Shown} {room′ out′ : List ℕ} where
       let few = feed-few d noTables chunk room in
       rw (l .answer) (omega (arith, few), omega (arith, h, few, shown-few n (o .answer .written) (o .room)))
 
-  pub closed-few : (d : Decoder) (n : ℕ) (room out : List ℕ) → 32 * length room + 32 ≤ length out → Left (closing d n room out) shown room′ out′ → shown .length ≤ length out
+  pub closed-few : (d : Decoder) (n : ℕ) (room out : List ℕ) → 32 * length room + 32 ≤ length out → Left (closing d n room out) shown room′ out′ →
+      (shown .count ≤ n + length room) × (shown .length ≤ length out)
   unfolding closing bytes
   closed-few d n room out h l =
       let o = finishing d room in
-      rw (l .answer) (omega (arith, h, finish-few d room, shown-few n (o .answer .written) (o .room), length-append (linesOf n o) (line (bytes "end") (count (n + o .answer .written))), number-few (bytes "end") (n + o .answer .written)))
+      let few = finish-few d room in
+      rw (l .answer) (
+        omega (arith, few),
+        omega (
+          arith,
+          h,
+          few,
+          shown-few n (o .answer .written) (o .room),
+          length-append (linesOf n o) (line (bytes "end") (count (n + o .answer .written))),
+          number-few (bytes "end") (n + o .answer .written),
+        ),
+      )
+
+  pub turned-few : (step : ℕ) (s : Shown) (chunk room out : List ℕ) → 32 * length room + 32 ≤ length out → Left (turning step s chunk room out) shown room′ out′ →
+      (shown .count ≤ s .count + length room) × (shown .length ≤ length out)
+  unfolding turning
+  turned-few step s chunk room out h l = split (eqb step 0)
+      (λ e. let f = begun-few chunk room out h (rw e at l) in (omega (arith, f .0), f .1))
+      (λ e. split (eqb step 1)
+      (λ e′. went-few (s .decoder) (s .count) chunk room out h (rw (e, e′) at l))
+      (λ e′. closed-few (s .decoder) (s .count) room out h (rw (e, e′) at l)))

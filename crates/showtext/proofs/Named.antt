@@ -10,9 +10,9 @@ use lib.Seq.{take-append-seam}
 use borrow.Author.Tests.{leb-true, ltb-true, ltb-false, le-ltb}
 use Rattle.standard.specs.Text.{bytes}
 use Rattle.standard.proofs.Tests.{split}
-use Rattle.labels.specs.Labels.{table, name, naming}
-use Rattle.labels.specs.declared.Named.{Named}
-use Rattle.labels.proofs.Known.{the-table}
+use Rattle.labels_spec.specs.Labels.{table, name, naming}
+use Rattle.labels_spec.specs.declared.Named.{Named}
+use Rattle.labels_spec.proofs.Known.{the-table}
 use Rattle.labels.proofs.LookUp.{below, below-at}
 
 short : ℕ → Bool

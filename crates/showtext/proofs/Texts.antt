@@ -10,7 +10,7 @@ use lib.Seq.{sets, take-suc, take-all, length-take-le}
 use Rattle.standard.specs.Text.{bytes}
 use Rattle.showtext.specs.Output.{digit, digits, count, codePoint, line, scalarLines}
 use Rattle.showtext.specs.Places.{Put}
-use Rattle.showtext.proofs.Numbers.{count-one, count-more, count-few, four, more-than-four, hexadecimal-few}
+use Rattle.showtext.proofs.Numbers.{last, count-few, hexadecimal-few}
 
 -- Stores one after the other.
 pub sets-append : (l : List ℕ) (i : ℕ) (us vs : List ℕ) → sets l i (us ++ vs) ≡ sets (sets l i us) (i + length us) vs
@@ -37,24 +37,17 @@ module _ {room : List ℕ} {at : ℕ} where
   nothing = record { behind = sym (add-zero at); stands = refl }
 
 -- Digits.
-module _ (room : List ℕ) (at : ℕ) where
-  pub put-one : (n : ℕ) → n < 10 → (v : ℕ) → v ≡ digit n → Put room at (count n) (at + 1) (set room at v)
-  put-one n h v e = rw e (same (sym (count-one n h)) (then-byte (digit n) nothing))
+module _ (b most extra n : ℕ) where
+  pub put-none-of : {room : List ℕ} {at : ℕ} → digits b most (most - extra) n ≡ [] → Put room at (digits b most (most - extra) n) at room
+  put-none-of e = same (sym e) nothing
 
-  pub put-more : (n : ℕ) → 10 ≤ n → n < 2 ^ 64 → {place : ℕ} {after : List ℕ} → Put room at (count (n / 10)) place after → (v : ℕ) → v ≡ digit (n % 10) → Put room at (count n) (place + 1) (set after place v)
-  put-more n h g p v e = rw e (same (sym (count-more n h g)) (then-byte (digit (n % 10)) p))
+  module _ (p : 0 < most) (h : most ≤ extra → n ≡ 0 → ⊥) {m : ℕ} (e : m ≡ n / b) where
+    pub last-length : length (digits b most (most - extra) n) ≡ length (digits b (most - 1) (most - 1 - extra) m) + 1
+    last-length = rw e (ap length (last b most extra n p h) ∙ length-append (digits b (most - 1) (most - 1 - extra) (n / b)) (digit (n % b) ∷ []))
 
-  pub put-four : (c : ℕ) → c < 0x10000 → (v w x y : ℕ) → v ≡ digit (c / 4096) → w ≡ digit (c / 256 % 16) → x ≡ digit (c / 16 % 16) → y ≡ digit (c % 16) →
-      Put room at (digits 16 8 4 c) (at + 4) (set (set (set (set room at v) (at + 1) w) (at + 2) x) (at + 3) y)
-  put-four c h v w x y p q r s = rw (p, q, r, s) (same (sym (four c h)) (
-      let two : at + 2 ≡ suc (suc at) = omega arith in
-      let three : at + 3 ≡ suc (suc (suc at)) = omega arith in
-      record { behind = refl; stands = rw (three, two, add-one) refl }
-      ))
-
-  pub put-fifth : (c : ℕ) → 0x10000 ≤ c → c < 2 ^ 32 → {place : ℕ} {after : List ℕ} → Put room at (digits 16 8 4 (c / 16)) place after → (v : ℕ) → v ≡ digit (c % 16) →
-      Put room at (digits 16 8 4 c) (place + 1) (set after place v)
-  put-fifth c h g p v e = rw e (same (sym (more-than-four c h g)) (then-byte (digit (c % 16)) p))
+    pub put-last : {room : List ℕ} {at place v : ℕ} {after : List ℕ} → Put room at (digits b (most - 1) (most - 1 - extra) m) place after → v ≡ digit (n % b) →
+        Put room at (digits b most (most - extra) n) (place + 1) (set after place v)
+    put-last q v = same (sym (last b most extra n p h)) (rw v (then-byte (digit (n % b)) (rw e at q)))
 
 -- Lines.
 module _ (room : List ℕ) (at : ℕ) where

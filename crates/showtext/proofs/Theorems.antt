@@ -1,5 +1,5 @@
 -- The promises of specs/Statements.antt. Assumes nothing.
-use mathlib.Core.Path.{_≡_, refl, sym, ap, _∙_}
+use mathlib.Core.Path.{_≡_, refl, sym, ap, _∙_, subst}
 use mathlib.Core.Bool.{Bool, true, false}
 use mathlib.Core.List.{List, [], _∷_, _++_, append-assoc, append-nil, map}
 use mathlib.Core.Option.{Option, some, none}
@@ -21,23 +21,25 @@ use Rattle.standard.specs.Next.{next}
 use Rattle.standard.specs.Decode.{reads, decode, oneError, ending, shown, everything}
 use Rattle.standard.proofs.Tests.{split}
 use Rattle.standard.proofs.Reading.{empty}
-use Rattle.labels.specs.Labels.{table, trimmed, fold, same, among, find, answer, label, name}
-use Rattle.labels.specs.Labels.{start as startOf}
-use Rattle.labels.specs.declared.Found.{Found}
-use Rattle.labels.proofs.Known.{encodings}
-use Rattle.decoder.specs.Calls.{Outcome, holding, newShift, openRefusal, opening, feedRefusal, feeding, finishing}
-use Rattle.decoder.specs.Histories.{Call, History, noted, after, start}
-use Rattle.decoder.specs.Statements.{Piece, cutting, Account, account, Roomy, Accepts}
-use Rattle.decoder.specs.Statements.{joined as joinedPieces}
-use Rattle.decoder.specs.Whole.{dealt, wholeAccount}
+use Rattle.labels_spec.specs.Labels.{table, trimmed, fold, same, among, find, answer, label, name}
+use Rattle.labels_spec.specs.Labels.{start as startOf}
+use Rattle.labels_spec.specs.declared.Found.{Found}
+use Rattle.labels_spec.proofs.Known.{encodings}
+use Rattle.decoder.specs.Record.{holding, newShift}
+use Rattle.decoder.specs.Calls.{Outcome, openRefusal, opening, feedRefusal, feeding, finishing}
+use Rattle.demands.specs.Histories.{Call, History, noted, after, start}
+use Rattle.demands.specs.Statements.{Piece, cutting, Account, account, Roomy, Accepts}
+use Rattle.demands.specs.Statements.{joined as joinedPieces}
+use Rattle.demands.specs.Whole.{dealt, wholeAccount}
 use Rattle.decoder.specs.declared.Decoder.{Decoder}
-use Rattle.decoder.proofs.Steps.{opened-is, feed-holding}
-use Rattle.decoder.proofs.Validity.{valid-opening}
-use Rattle.decoder.proofs.Cutting.{cut-is-whole}
-use Rattle.decoder.proofs.Rooms.{roomy, room-kept}
+use Rattle.demands.proofs.Steps.{opened-is, feed-holding}
+use Rattle.demands.proofs.Validity.{valid-opening}
+use Rattle.demands.proofs.Cutting.{cut-is-whole}
+use Rattle.demands.proofs.Rooms.{roomy, room-kept}
 use Rattle.showtext.specs.Output.{firstLine, afterLine, digits, count, line, refused, scalarLines, printed}
-use Rattle.showtext.specs.Program.{Leaves, leave, linesOf, beginning, goingOn, closing, text, later, program}
-use Rattle.showtext.specs.Statements.{joined, Small, Prints}
+use Rattle.showtext.specs.Program.{Leaves, leave, linesOf, beginning, goingOn, closing, turning, nextStep, text, later, program, byStep}
+use Rattle.showtext.specs.declared.Shown.{Shown}
+use Rattle.showtext.specs.Statements.{joined, Small, Filled, Prints}
 use Rattle.showtext.proofs.Texts.{scalarLines-append}
 use Rattle.showtext.proofs.Buffers.{feed-few, finish-few, found, opened, fed, at-long, at-unknown, at-refused, at-fed}
 
@@ -158,6 +160,39 @@ later-is (b ∷ bs) l taken handed k =
     behind handed n k o few (later l′ bs) ∙
     later-is bs l′ (noted (record { taken = taken; handed = handed; decoder = d }) b o .taken) (now handed n k o few) (counted handed n k o few)
 
+-- A feed in replacing mode that is accepted reports nothing.
+fed-on : (d : Decoder) (b room : List ℕ) → d .mode ≡ 0 → feedRefusal d noTables b room ≡ 0 →
+    (feeding d noTables b room .answer .refusal ≡ 0) × (feeding d noTables b room .answer .decoder .mode ≡ 0)
+unfolding feeding
+fed-on d b room m z = rw (eq-eqb (feedRefusal d noTables b room) 0 z, m) (refl, refl)
+
+-- No further buffer is refused.
+GoesOn : Leaves → List (List ℕ) → Type 0
+GoesOn l [] = Unit
+GoesOn l (b ∷ bs) = let l′ = goingOn (l .shown .decoder) (l .shown .count) b (l .room) (l .out) in (l′ .shown .refusal ≡ 0) × GoesOn l′ bs
+
+goes-on : (bs : List (List ℕ)) (l : Leaves) (taken handed last : List ℕ) → l .shown .decoder .mode ≡ 0 →
+    Accepts noTables (record { taken = taken; handed = handed; decoder = l .shown .decoder }) (pieces (l .shown .decoder) (l .room) bs) last → GoesOn l bs
+unfolding GoesOn goingOn pieces Accepts
+goes-on [] l taken handed last m a = tt
+goes-on (b ∷ bs) l taken handed last m a =
+    let d = l .shown .decoder in
+    let o = feeding d noTables b (l .room) in
+    let h = noted (record { taken = taken; handed = handed; decoder = d }) b o in
+    let ok = fed-on d b (l .room) m (a .0) in
+    (ok .0, goes-on bs (goingOn d (l .shown .count) b (l .room) (l .out)) (h .taken) (h .handed) last (ok .1) (a .1 (rw (ok .0) refl)))
+
+-- The steps behind a buffer print what comes later.
+rest-is : (full : ℕ) (b : List ℕ) (bs : List (List ℕ)) (l : Leaves) (step : ℕ) → eqb step 2 ≡ false → GoesOn l bs → Filled full b bs →
+    (ltb (nextStep step 0 (length b) full) 3 then byStep full (nextStep step 0 (length b) full) (l .shown) (l .room) (l .out) (bs ++ ([] ∷ [])) else []) ≡ later l bs
+unfolding later byStep turning GoesOn Filled
+rest-is full b [] l step e g f = rw (e, lt-ltb (length b) full f) (append-nil _)
+rest-is full b (c ∷ bs) l step e g f =
+    let l′ = goingOn (l .shown .decoder) (l .shown .count) c (l .room) (l .out) in
+    let behind : ℕ → List ℕ = λ r. ltb (nextStep 1 r (length c) full) 3 then byStep full (nextStep 1 r (length c) full) (l′ .shown) (l′ .room) (l′ .out) (bs ++ ([] ∷ [])) else [] in
+    let k : full ≤ length b = omega (arith, f .0) in
+    rw (e, le-ltb (length b) full k) (ap (λ (r : ℕ). text l′ ++ behind r) (g .0) ∙ ap (λ (t : List ℕ). text l′ ++ t) (rest-is full c bs l′ 1 refl (g .1) (f .1)))
+
 -- The first feed, of an encoding that may be opened.
 module _ (e : ℕ) (o : openRefusal e 0 0 ≡ 0) (chunk room : List ℕ) where
   abbrev new : Decoder
@@ -236,6 +271,15 @@ module _ (room out first : List ℕ) (bs : List (List ℕ)) (h : 4099 ≤ length
         unfolding Accepts start
         accepted = feed-accepted (F .encoding) opens (afterLine first) room (accepts .0)
 
+        goes-on-listed : GoesOn (beginning first room out) bs
+        unfolding Accepts start
+        goes-on-listed =
+            let d : D .mode ≡ 0 = ap (λ (d : Decoder). d .mode) (new-is (F .encoding) opens (afterLine first) room) in
+            let n = noted (start (F .encoding) 0 0) (afterLine first) O in
+            let l = leave (O .answer .decoder) (O .answer .written) 0 (line (bytes "encoding") (name (F .encoding)) ++ linesOf 0 O) (O .room) out in
+            subst (λ (l : Leaves). GoesOn l bs) (sym (at-fed first room out few e accepted))
+            (goes-on bs l (n .taken) (n .handed) last (fed-on D (afterLine first) room d (accepts .0) .1) (accepts .1 (rw accepted refl)))
+
         all : List ℕ
         all = shown (everything noTables (family (F .encoding)) (newShift (F .encoding) 0) (afterLine (first ++ joined bs)))
 
@@ -261,6 +305,28 @@ module _ (room out first : List ℕ) (bs : List (List ℕ)) (h : 4099 ≤ length
             ap whole-from (at-fed first room out few e accepted) ∙ ap (λ (t : List ℕ). t ++ later l bs) (text-is (O .answer .decoder) (O .answer .written) 0 (us ++ linesOf 0 O) (O .room) out) ∙
             append-assoc us (linesOf 0 O) (later l bs) ∙ ap (λ (t : List ℕ). us ++ t) lines ∙ sym (rw (cut .0, le-ltb 255 (length (firstLine first)) few, ne-eqb (F .refusal) 1 e, f))
 
+  abbrev number : Leaves → ℕ
+  number l = l .shown .refusal
+
+  -- behind a first buffer that is not refused
+  goes-on-all : beginning first room out .shown .refusal ≡ 0 → GoesOn (beginning first room out) bs
+  goes-on-all z = split (ltb 255 (length (firstLine first)))
+      (λ l. absurd (omega (arith, z, ap number (at-long first room out (ltb-true 255 (length (firstLine first)) l)))))
+      (λ l. let few = ltb-false 255 (length (firstLine first)) l in split (eqb (F .refusal) 1)
+      (λ e. absurd (omega (arith, z, ap number (at-unknown first room out few (eqb-true (F .refusal) 1 e)))))
+      (λ e. let known = eqb-false (F .refusal) 1 e in split (fits (family (F .encoding)) noTables) (goes-on-listed few known)
+      (λ f. let four = feed-refused (F .encoding) (opens few known) (afterLine first) room f in
+      let w : O .answer .refusal ≡ 0 → ⊥ = λ q. omega (arith, four, q) in
+      absurd (omega (arith, z, four, ap number (at-refused first room out few known w))))))
+
+  by-steps : (full : ℕ) (s₀ : Shown) → Filled full first bs → byStep full 0 s₀ room out (first ∷ bs ++ ([] ∷ [])) ≡ program room out first bs
+  unfolding byStep turning program
+  by-steps full s₀ f =
+      let l = beginning first room out in
+      split (eqb (l .shown .refusal) 0)
+      (λ z. rw z (ap (λ (t : List ℕ). text l ++ t) (rest-is full first bs l 0 refl (goes-on-all (eqb-true (l .shown .refusal) 0 z)) f)))
+      (λ z. rw z (append-nil (text l)))
+
   all-cases : program room out first bs ≡ printed (first ++ joined bs)
   all-cases = split (ltb 255 (length (firstLine first)))
       (λ l. long (ltb-true 255 (length (firstLine first)) l))
@@ -268,6 +334,24 @@ module _ (room out first : List ℕ) (bs : List (List ℕ)) (h : 4099 ≤ length
       (λ e. unknown few (eqb-true (F .refusal) 1 e))
       (λ e. let known = eqb-false (F .refusal) 1 e in split (fits (family (F .encoding)) noTables) (listed few known) (missing few known)))
 
+-- Buffers that are filled are small, and the first is long or the whole input.
+filled-small : (full : ℕ) (b : List ℕ) (bs : List (List ℕ)) → full ≤ 4096 → Filled full b bs → Small (b ∷ bs)
+unfolding Filled Small
+filled-small full b [] h f = (omega (arith, h, f), tt)
+filled-small full b (c ∷ bs) h f = (omega (arith, h, f .0), filled-small full c bs h (f .1))
+
+filled-first : (full : ℕ) (b : List ℕ) (bs : List (List ℕ)) → 256 ≤ full → Filled full b bs → length b < 256 → bs ≡ []
+unfolding Filled
+filled-first full b [] h f l = refl
+filled-first full b (c ∷ bs) h f l = absurd (omega (arith, h, l, f .0))
+
+steps-print : (full : ℕ) (s : Shown) (room out first : List ℕ) (bs : List (List ℕ)) → 4099 ≤ length room → 256 ≤ full → full ≤ 4096 → Filled full first bs →
+    byStep full 0 s room out (first ∷ bs ++ ([] ∷ [])) ≡ printed (first ++ joined bs)
+steps-print full s room out first bs h low high f =
+    let c = filled-first full first bs low f in
+    let small = filled-small full first bs high f in
+    by-steps room out first bs h c small full s f ∙ all-cases room out first bs h c small
+
 pub prints : Prints
 unfolding printed digits scalarLines firstLine afterLine bytes name label table startOf trimmed same among find family traits fits everything decode reads ending oneError shown next singleByte cell windows1252 irregular countFrom
-prints = record { whole = all-cases; example = refl; missing = refl }
+prints = record { whole = all-cases; steps = steps-print; example = refl; missing = refl }

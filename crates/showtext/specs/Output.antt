@@ -7,8 +7,8 @@ use Rattle.standard.specs.Base.{_then_else_}
 use Rattle.standard.specs.Text.{bytes}
 use Rattle.standard.specs.Encodings.{family, noTables, fits}
 use Rattle.standard.specs.Decode.{shown, everything}
-use Rattle.labels.specs.Labels.{label, name}
-use Rattle.decoder.specs.Calls.{newShift}
+use Rattle.labels_spec.specs.Labels.{label, name}
+use Rattle.decoder.specs.Record.{newShift}
 
 -- The first line, closed by a line feed or the end of input, and the rest behind it.
 unfoldable pub firstLine : List ℕ → List ℕ
@@ -56,6 +56,8 @@ listing e cs = line (bytes "encoding") (name e) ++ (scalarLines 0 cs ++ line (by
 unfoldable pub printed : List ℕ → List ℕ
 printed input =
     let found = label (firstLine input) in
+    let e = found .encoding in
     ltb 255 (length (firstLine input)) then refused 1 else
     eqb (found .refusal) 1 then refused 1 else
-    fits (family (found .encoding)) noTables then listing (found .encoding) (shown (everything noTables (family (found .encoding)) (newShift (found .encoding) 0) (afterLine input))) else refused 4
+    fits (family e) noTables then listing e (shown (everything noTables (family e) (newShift e 0) (afterLine input))) else
+    refused 4

@@ -7,7 +7,7 @@ use lib.ListN.{length, take, drop}
 use Rattle.standard.specs.Base.{_then_else_}
 use Rattle.standard.specs.Text.{bytes}
 use Rattle.standard.specs.Encodings.{noTables}
-use Rattle.labels.specs.Labels.{label, name}
+use Rattle.labels_spec.specs.Labels.{label, name}
 use Rattle.decoder.specs.Calls.{Outcome, opening, feeding, finishing}
 use Rattle.decoder.specs.declared.Decoder.{Decoder}
 use Rattle.showtext.specs.Output.{firstLine, afterLine, count, line, refused, scalarLines}
@@ -48,22 +48,42 @@ beginning input room out =
     let found = label (firstLine input) in
     let d = opening (found .encoding) 0 0 .decoder in
     let fed = feeding d noTables (afterLine input) room in
+    let a = fed .answer in
+    let heading = line (bytes "encoding") (name (found .encoding)) in
     ltb 255 (length (firstLine input)) then leave d 0 1 (refused 1) room out else
     eqb (found .refusal) 1 then leave d 0 1 (refused 1) room out else
-    eqb (fed .answer .refusal) 0 then leave (fed .answer .decoder) (fed .answer .written) 0 (line (bytes "encoding") (name (found .encoding)) ++ linesOf 0 fed) (fed .room) out else
-    leave d 0 (fed .answer .refusal) (refused (fed .answer .refusal)) (fed .room) out
+    eqb (a .refusal) 0 then leave (a .decoder) (a .written) 0 (heading ++ linesOf 0 fed) (fed .room) out else
+    leave d 0 (a .refusal) (refused (a .refusal)) (fed .room) out
 
 -- A further buffer, after n scalars.
 unfoldable pub goingOn : Decoder → ℕ → List ℕ → List ℕ → List ℕ → Leaves
 goingOn d n chunk room out =
     let fed = feeding d noTables chunk room in
-    leave (fed .answer .decoder) (n + fed .answer .written) (fed .answer .refusal) (linesOf n fed) (fed .room) out
+    let a = fed .answer in
+    leave (a .decoder) (n + a .written) (a .refusal) (linesOf n fed) (fed .room) out
 
 -- The end of input, after n scalars.
 unfoldable pub closing : Decoder → ℕ → List ℕ → List ℕ → Leaves
 closing d n room out =
     let last = finishing d room in
-    leave (last .answer .decoder) (n + last .answer .written) (last .answer .refusal) (linesOf n last ++ line (bytes "end") (count (n + last .answer .written))) (last .room) out
+    let a = last .answer in
+    let all = n + a .written in
+    leave (a .decoder) all (a .refusal) (linesOf n last ++ line (bytes "end") (count all)) (last .room) out
+
+-- The steps are numbered: 0 the first buffer, 1 a further one, 2 the end of input, 3 the program is over.
+-- What a step leaves, after what the one before it left.
+unfoldable pub turning : ℕ → Shown → List ℕ → List ℕ → List ℕ → Leaves
+turning step s chunk room out =
+    eqb step 0 then beginning chunk room out else
+    eqb step 1 then goingOn (s .decoder) (s .count) chunk room out else
+    closing (s .decoder) (s .count) room out
+
+-- The step after a step that ended with a refusal number or 0, and for which n bytes were read into a buffer of `full`. A refusal
+-- ends the program, and so does the end of input; a buffer that is not full was the last one.
+abbrev pub nextStep : ℕ → ℕ → ℕ → ℕ → ℕ
+nextStep step refusal n full =
+    eqb step 2 then 3 else
+    eqb refusal 0 then (ltb n full then 2 else 1) else 3
 
 -- What a call prints.
 abbrev pub text : Leaves → List ℕ
@@ -81,3 +101,11 @@ unfoldable pub program : List ℕ → List ℕ → List ℕ → List (List ℕ) 
 program room out first bs =
     let l = beginning first room out in
     eqb (l .shown .refusal) 0 then text l ++ later l bs else text l
+
+-- All that is printed by the steps, from one of them on, for what is read before each: a buffer, and nothing before the last step.
+unfoldable pub byStep : ℕ → ℕ → Shown → List ℕ → List ℕ → List (List ℕ) → List ℕ
+byStep full step s room out [] = []
+byStep full step s room out (b ∷ bs) =
+    let l = turning step s b room out in
+    let next = nextStep step (l .shown .refusal) (length b) full in
+    text l ++ (ltb next 3 then byStep full next (l .shown) (l .room) (l .out) bs else [])

@@ -1,10 +1,11 @@
 // The lines that are printed, written into a lent room of bytes.
 
 ghost use mathlib.Core.Path.{_≡_};
-ghost use Prim.Native.Nat.{_+_, _*_, _≤_, _<_, _^_};
+ghost use mathlib.Core.Logic.{_⊎_};
+ghost use Prim.Native.Nat.{_+_, _-_, _*_, _/_, _%_, _≤_, _<_, _^_};
 ghost use lib.ListN.{length};
 ghost use Rattle.standard.specs.Text.{bytes};
-ghost use Rattle.labels.specs.Labels.{name};
+ghost use Rattle.labels_spec.specs.Labels.{name};
 ghost use Rattle.showtext.specs.Output.{digit, digits, count, codePoint, line, scalarLines};
 ghost use Rattle.showtext.specs.Places.{Put};
 
@@ -19,35 +20,52 @@ fn digit(d: u32) -> u8
     d as u8 + 0x37
 }
 
-// A count in decimal, written from a place on; the place behind it.
+// The last digit of a number in base 10 or 16. The bases are written out here and below: a division by a variable is slow.
+fn last_digit(base: u64, n: u64) -> u8
+    requires { ⌜ (base ≡ 10) ⊎ (base ≡ 16) ⌝ }
+    ensures { λ r. ⌜ r ≡ digit (n % base) ⌝ }
+{
+    if base == 10 {
+        return digit((n % 10) as u32);
+    }
+    digit((n % 16) as u32)
+}
+
+// The number without that digit.
+fn without_last(base: u64, n: u64) -> u64
+    requires { ⌜ (base ≡ 10) ⊎ (base ≡ 16) ⌝ }
+    ensures { λ r. ⌜ r ≡ n / base ⌝ }
+{
+    if base == 10 {
+        return n / 10;
+    }
+    n / 16
+}
+
+// A number in a base, of `most` digits at the most and at least `most - extra`, written from a place on; the place behind it.
+fn put_digits(out: &mut [u8], at: usize, base: u64, most: u8, extra: u8, n: u64) -> usize
+    requires { ⌜ ((base ≡ 10) ⊎ (base ≡ 16)) × (at + length (digits base most (most - extra) n) ≤ length (now out)) ⌝ }
+    ensures { λ r. ⌜ Put (now (out .entry)) at (digits base most (most - extra) n) r (now (out .exit)) ⌝ }
+{
+    if most == 0 {
+        return at;
+    }
+    if most <= extra {
+        if n == 0 {
+            return at;
+        }
+    }
+    let last = put_digits(out, at, base, most - 1, extra, without_last(base, n));
+    out[last] = last_digit(base, n);
+    last + 1
+}
+
+// A count in decimal.
 fn put_count(out: &mut [u8], at: usize, n: u64) -> usize
     requires { ⌜ at + length (count n) ≤ length (now out) ⌝ }
     ensures { λ r. ⌜ Put (now (out .entry)) at (count n) r (now (out .exit)) ⌝ }
 {
-    if n < 10 {
-        out[at] = digit(n as u32);
-        return at + 1;
-    }
-    let last = put_count(out, at, n / 10);
-    out[last] = digit((n % 10) as u32);
-    last + 1
-}
-
-// The hexadecimal digits of a number, at least four, written from a place on; the place behind them.
-fn put_hexadecimal(out: &mut [u8], at: usize, c: u32) -> usize
-    requires { ⌜ at + length (digits 16 8 4 c) ≤ length (now out) ⌝ }
-    ensures { λ r. ⌜ Put (now (out .entry)) at (digits 16 8 4 c) r (now (out .exit)) ⌝ }
-{
-    if c < 0x10000 {
-        out[at] = digit(c / 4096);
-        out[at + 1] = digit(c / 256 % 16);
-        out[at + 2] = digit(c / 16 % 16);
-        out[at + 3] = digit(c % 16);
-        return at + 4;
-    }
-    let last = put_hexadecimal(out, at, c / 16);
-    out[last] = digit(c % 16);
-    last + 1
+    put_digits(out, at, 10, 20, 19, n)
 }
 
 // The line of a scalar and its count; the place behind it.
@@ -59,7 +77,7 @@ fn put_scalar(out: &mut [u8], at: usize, n: u64, c: u32) -> usize
     out[tab] = 0x09;
     out[tab + 1] = b'U';
     out[tab + 2] = b'+';
-    let end = put_hexadecimal(out, tab + 3, c);
+    let end = put_digits(out, tab + 3, 16, 8, 4, c as u64);
     out[end] = 0x0A;
     end + 1
 }

@@ -15,7 +15,18 @@ ghost use lib.ListN.{length, take};
 ghost use Rattle.standard.specs.Encodings.{noTables};
 ghost use Rattle.decoder.specs.Calls.{feeding};
 ghost use Rattle.showtext.specs.Output.{firstLine, afterLine, refused, scalarLines};
-ghost use Rattle.showtext.specs.Program.{Answers, Left, beginning, goingOn, closing};
+ghost use Rattle.showtext.specs.Program.{Answers, Left, beginning, goingOn, closing, turning, nextStep};
+
+// The steps: the first buffer, a further one, the end of input. Then the program is over, or a read or a write failed.
+const FIRST: u8 = 0;
+
+const FURTHER: u8 = 1;
+
+const LAST: u8 = 2;
+
+const OVER: u8 = 3;
+
+const FAILED: u8 = 4;
 
 // What a buffer leaves: the decoder, the scalars so far, the bytes of text at the front of `out`, and the refusal number or 0.
 struct Shown {
@@ -27,7 +38,8 @@ struct Shown {
 
 // How many bytes the first line has, without its line feed.
 fn first_line(input: &[u8]) -> usize
-    ensures { λ r. ⌜ (r ≡ length (firstLine (now (input .entry)))) × (r ≤ length (now (input .entry))) × (take r (now (input .entry)) ≡ firstLine (now (input .entry))) ⌝ }
+    ensures { λ r. ⌜ (r ≡ length (firstLine (now (input .entry)))) × (r ≤ length (now (input .entry))) ×
+        (take r (now (input .entry)) ≡ firstLine (now (input .entry))) ⌝ }
 {
     let mut i: usize = 0;
     while i < input.len() {
@@ -67,7 +79,8 @@ fn refuse(decoder: Decoder, refusal: u8, out: &mut [u8]) -> Shown
 // The lines of the scalars that a feed or finish wrote, from a place on.
 fn show(answer: Answer, count: u64, room: &[u32], out: &mut [u8], at: usize) -> Shown
     requires { ⌜ (answer .written ≤ length (now room)) × (at + 32 * answer .written ≤ length (now out)) × (count + answer .written < 2 ^ 64) ⌝ }
-    ensures { λ r. ⌜ Answers (answer .decoder) (count + answer .written) (answer .refusal) (now (out .entry)) at (scalarLines count (take (answer .written) (now (room .entry)))) r (now (out .exit)) ⌝ }
+    ensures { λ r. ⌜ Answers (answer .decoder) (count + answer .written) (answer .refusal) (now (out .entry)) at
+        (scalarLines count (take (answer .written) (now (room .entry)))) r (now (out .exit)) ⌝ }
 {
     let written = answer.written;
     let decoder = answer.decoder;
@@ -82,7 +95,8 @@ fn show(answer: Answer, count: u64, room: &[u32], out: &mut [u8], at: usize) -> 
 
 // A feed with empty tables.
 fn feed(decoder: Decoder, chunk: &[u8], room: &mut [u32]) -> Answer
-    ensures { λ r. ⌜ (r ≡ feeding decoder noTables (now (chunk .entry)) (now (room .entry)) .answer) × (now (room .exit) ≡ feeding decoder noTables (now (chunk .entry)) (now (room .entry)) .room) ⌝ }
+    ensures { λ r. ⌜ (r ≡ feeding decoder noTables (now (chunk .entry)) (now (room .entry)) .answer) ×
+        (now (room .exit) ≡ feeding decoder noTables (now (chunk .entry)) (now (room .entry)) .room) ⌝ }
 {
     let none = [0u32; 1];
     let empty = &none[0..0];
@@ -126,22 +140,51 @@ fn close(decoder: Decoder, count: u64, room: &mut [u32], out: &mut [u8]) -> Show
     ensures { λ r. ⌜ Left (closing decoder count (now (room .entry)) (now (out .entry))) r (now (room .exit)) (now (out .exit)) ⌝ }
 {
     let last = decoder.finish(room);
-    let s = show(last, count, room, out, 0);
-    let decoder = s.decoder;
-    let length = put_number(out, s.length, b"end", s.count);
-    Shown {
-        decoder,
-        refusal: s.refusal,
-        length,
-        count: s.count,
+    let mut s = show(last, count, room, out, 0);
+    s.length = put_number(out, s.length, b"end", s.count);
+    s
+}
+
+// One step: the first buffer, a further one, or the end of input. What it prints stands at the front of `out`.
+fn turn(step: u8, s: Shown, chunk: &[u8], room: &mut [u32], out: &mut [u8]) -> Shown
+    requires { ⌜ (step < 3) × (32 * length (now room) + 32 ≤ length (now out)) × (s .count + length (now room) < 2 ^ 64) ⌝ }
+    ensures { λ r. ⌜ Left (turning step s (now (chunk .entry)) (now (room .entry)) (now (out .entry)))
+        r (now (room .exit)) (now (out .exit)) ⌝ }
+{
+    if step == FIRST {
+        return begin(chunk, room, out);
     }
+    if step == FURTHER {
+        return go_on(s.decoder, s.count, chunk, room, out);
+    }
+    close(s.decoder, s.count, room, out)
+}
+
+// The step after a step that ended with a refusal number or 0, and for which n bytes were read into a buffer of `full`.
+fn next_step(step: u8, refusal: u8, n: usize, full: usize) -> u8
+    ensures { λ r. ⌜ r ≡ nextStep step refusal n full ⌝ }
+{
+    if step == LAST {
+        return OVER;
+    }
+    if refusal != 0 {
+        return OVER;
+    }
+    if n < full {
+        return LAST;
+    }
+    FURTHER
 }
 
 // Reads until the buffer is full or the input ends; how many bytes there are, one more than the buffer has where a read failed.
-fn fill(buffer: &mut [u8]) -> usize
+// The last step reads nothing.
+fn fill(step: u8, buffer: &mut [u8]) -> usize
     requires { ⌜ length (now buffer) < 2 ^ 32 ⌝ }
     ensures { λ r. ⌜ r ≤ length (now (buffer .entry)) + 1 ⌝ }
 {
+    if step == LAST {
+        return 0;
+    }
     let mut n: usize = 0;
     while n < buffer.len() {
         let got = libc::read(STDIN_FILENO, &mut buffer[n..]);
@@ -169,50 +212,45 @@ fn print(out: &[u8], bytes: usize) -> bool
     whole
 }
 
-// The input behind a first buffer of so many bytes. The turns are more than any input takes.
-fn follow(first: Shown, bytes: usize, buffer: &mut [u8], room: &mut [u32], out: &mut [u8])
-    requires { ⌜ (first .count ≤ 4099) × (length (now buffer) < 2 ^ 32) × (length (now room) ≤ 4099) × (32 * length (now room) + 32 ≤ length (now out)) ⌝ }
+// What stands before the first step.
+fn idle() -> Shown
+    ensures { λ r. ⌜ r .count ≡ 0 ⌝ }
 {
-    let mut decoder = first.decoder;
-    let mut count = first.count;
-    let mut n = bytes;
-    let mut turns: u64 = 0x4_0000_0000_0000;
-    while n == buffer.len() {
-        if turns == 0 {
-            return;
-        }
-        turns -= 1;
-        n = fill(buffer);
-        if n > buffer.len() {
-            return;
-        }
-        let s = go_on(decoder, count, &buffer[0..n], room, out);
-        if !print(out, s.length) {
-            return;
-        }
-        decoder = s.decoder;
-        count = s.count;
+    let opened = Decoder::open(0, 0, 0);
+    let decoder = opened.decoder;
+    Shown {
+        decoder,
+        refusal: 0,
+        length: 0,
+        count: 0,
     }
-    let last = close(decoder, count, room, out);
-    print(out, last.length);
 }
 
-// The whole input, through a buffer, a room for its scalars and a room for their lines.
-fn run(buffer: &mut [u8], room: &mut [u32], out: &mut [u8])
+// The steps over the whole input, through a buffer, a room for its scalars and a room for their lines: the step that is over, or
+// that a read or a write failed. The turns are more than any input takes.
+fn run(buffer: &mut [u8], room: &mut [u32], out: &mut [u8]) -> u8
     requires { ⌜ (length (now buffer) < 2 ^ 32) × (length (now room) ≤ 4099) × (32 * length (now room) + 32 ≤ length (now out)) ⌝ }
+    ensures { λ r. ⌜ 3 ≤ r ⌝ }
 {
-    let n = fill(buffer);
-    if n > buffer.len() {
-        return;
+    let mut s = idle();
+    let mut step = FIRST;
+    let mut turns: u64 = 0x4_0000_0000_0000;
+    while step < OVER {
+        if turns == 0 {
+            return FAILED;
+        }
+        turns -= 1;
+        let n = fill(step, buffer);
+        if n > buffer.len() {
+            return FAILED;
+        }
+        s = turn(step, s, &buffer[0..n], room, out);
+        if !print(out, s.length) {
+            return FAILED;
+        }
+        step = next_step(step, s.refusal, n, buffer.len());
     }
-    let first = begin(&buffer[0..n], room, out);
-    if !print(out, first.length) {
-        return;
-    }
-    if first.refusal != 0 {
-        return;
-    }
-    follow(first, n, buffer, room, out);
+    step
 }
 
 fn main() {

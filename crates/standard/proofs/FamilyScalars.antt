@@ -11,14 +11,15 @@ use Rattle.standard.specs.Base.{_then_else_, within, every, Bytes, isSca
 use Rattle.standard.specs.Encodings.{Tables, Family, UTF-8, single-byte, windows-1252, GB18030, Big5, EUC-JP, ISO-2022-JP, Shift-JIS, EUC-KR, Replacement, UTF-16BE, UTF-16LE, x-user-defined}
 use Rattle.standard.specs.Indexes.{windows1252}
 use Rattle.standard.specs.Sequence.{Shift, Out, text, error, Next, more, item, await, cell, code, trailed}
+use Rattle.standard.specs.Layouts.{Layout, leads, trails, pointerOf, pairCode, gb18030Layout, big5Layout, eucJpLayout, iso2022JpLayout, shiftJisLayout, eucKrLayout}
 use Rattle.standard.specs.Sequences.Utf8.{utf8, utf8Low, utf8High, follows, utf8Three, utf8Four}
 use Rattle.standard.specs.Sequences.SingleByte.{singleByte}
-use Rattle.standard.specs.Sequences.Gb18030.{gb18030, gbCode, gbRange, gbFourCode, gbFourPointer, gbThird}
-use Rattle.standard.specs.Sequences.Big5.{big5, big5Pointer, big5Pair, big5Trail}
-use Rattle.standard.specs.Sequences.EucJp.{eucJp, eucJpCode, eucJpKana}
-use Rattle.standard.specs.Sequences.Iso2022Jp.{iso2022Jp, escaped, byteOut, codeOut, isoPointer, pairOut, escapeNext, leadNext}
-use Rattle.standard.specs.Sequences.ShiftJis.{shiftJis, shiftJisCode}
-use Rattle.standard.specs.Sequences.EucKr.{eucKr, eucKrCode}
+use Rattle.standard.specs.Sequences.Gb18030.{gb18030, gb18030Range, gb18030FourCode, gb18030FourPointer, gb18030Third}
+use Rattle.standard.specs.Sequences.Big5.{big5, big5Pair, big5Trail}
+use Rattle.standard.specs.Sequences.EucJp.{eucJp, eucJpKana}
+use Rattle.standard.specs.Sequences.Iso2022Jp.{iso2022Jp, escaped, byteOut, codeOut, escapeNext, leadNext}
+use Rattle.standard.specs.Sequences.ShiftJis.{shiftJis}
+use Rattle.standard.specs.Sequences.EucKr.{eucKr}
 use Rattle.standard.specs.Sequences.Replacement.{replacement}
 use Rattle.standard.specs.Sequences.Utf16.{utf16, unit, utf16Unit}
 use Rattle.standard.specs.Sequences.UserDefined.{userDefined}
@@ -84,11 +85,18 @@ test-point : (t : Bool) (c : ℕ) → Point c → Point (t then c else 0)
 test-point true c h = h
 test-point false c h = null
 
+pair-point : (y : Layout) (index : List ℕ) (b c : ℕ) → Point (pairCode y index b c)
+unfolding pairCode
+pair-point y index b c = test-point (leads y b && trails y c) _ (cell-point index _)
+
 code-gives : (w c : ℕ) → Point c → Gives (code w c)
 code-gives w c h = front-test (eqb c 0) (λ _. broke) (λ e. good c (h e))
 
 trailed-gives : (leads w x c : ℕ) → Point c → Gives (trailed leads w x c)
 trailed-gives leads w x c h = front-test (eqb c 0) (λ _. broke) (λ e. good c (h e))
+
+pair-gives : (y : Layout) (index : List ℕ) (leads w b c : ℕ) → Gives (trailed leads w c (pairCode y index b c))
+pair-gives y index leads w b c = trailed-gives leads w c (pairCode y index b c) (pair-point y index b c)
 
 single-scalars : (index xs : List ℕ) → Bytes xs → Gives (singleByte index xs)
 unfolding singleByte
@@ -101,21 +109,21 @@ user-scalars xs p = byte xs p (λ b zs q _. front-test (ltb b 0x80) (λ h. ascii
 kana : (b : ℕ) → within 0xA1 b 0xDF ≡ true → T (isScalar (0xFF61 - 0xA1 + b))
 kana b h = high (0xFF61 - 0xA1 + b) (omega (arith, within-low 0xA1 b 0xDF h)) (omega (arith, within-high 0xA1 b 0xDF h))
 
-sjis-scalars : (t : Tables) (xs : List ℕ) → Bytes xs → Gives (shiftJis t xs)
-unfolding shiftJis shiftJisCode
-sjis-scalars t xs p = byte xs p (λ b zs _ r.
+shift-jis-scalars : (t : Tables) (xs : List ℕ) → Bytes xs → Gives (shiftJis t xs)
+unfolding shiftJis
+shift-jis-scalars t xs p = byte xs p (λ b zs _ r.
     front-test (leb b 0x80) (λ h. good b (low b (omega (arith, leb-true b 0x80 h)))) (λ _.
     front-test (within 0xA1 b 0xDF) (λ h. good (0xFF61 - 0xA1 + b) (kana b h)) (λ _.
-    front-test (within 0x81 b 0x9F || within 0xE0 b 0xFC)
-    (λ _. byte zs r (λ c us _ _. trailed-gives 1 2 c (shiftJisCode (t .first) b c) (test-point (within 0x40 c 0x7E || within 0x80 c 0xFC) _ (cell-point (t .first) _))))
+    front-test (leads shiftJisLayout b)
+    (λ _. byte zs r (λ c us _ _. pair-gives shiftJisLayout (t .first) 1 2 b c))
     (λ _. broke))))
 
-kr-scalars : (t : Tables) (xs : List ℕ) → Bytes xs → Gives (eucKr t xs)
-unfolding eucKr eucKrCode
-kr-scalars t xs p = byte xs p (λ b zs _ r.
+euc-kr-scalars : (t : Tables) (xs : List ℕ) → Bytes xs → Gives (eucKr t xs)
+unfolding eucKr
+euc-kr-scalars t xs p = byte xs p (λ b zs _ r.
     front-test (ltb b 0x80) (λ h. ascii b h) (λ _.
-    front-test (within 0x81 b 0xFE)
-    (λ _. byte zs r (λ c us _ _. trailed-gives 1 2 c (eucKrCode (t .first) b c) (test-point (within 0x41 c 0xFE) _ (cell-point (t .first) _))))
+    front-test (leads eucKrLayout b)
+    (λ _. byte zs r (λ c us _ _. pair-gives eucKrLayout (t .first) 1 2 b c))
     (λ _. broke)))
 
 two : {w : ℕ} {s : Shift} (c d : ℕ) → c ≤ 0xD7FF → d ≤ 0xD7FF → Gives (item w s (text (c ∷ d ∷ [])))
@@ -124,64 +132,60 @@ two c d h g = front-item (both (isScalar c) _ (low c h) (one d (low d g)))
 
 big5-trail : (index : List ℕ) (b c : ℕ) → Gives (big5Trail index b c)
 unfolding big5Pair
-big5-trail index b c = front-test (within 0x40 c 0x7E || within 0xA1 c 0xFE)
-    (λ _. front-test (eqb (big5Pointer b c) 1133) (λ _. two 0xCA 0x304 (lit≤ tt) (lit≤ tt)) (λ _.
-    front-test (eqb (big5Pointer b c) 1135) (λ _. two 0xCA 0x30C (lit≤ tt) (lit≤ tt)) (λ _.
-    front-test (eqb (big5Pointer b c) 1164) (λ _. two 0xEA 0x304 (lit≤ tt) (lit≤ tt)) (λ _.
-    front-test (eqb (big5Pointer b c) 1166) (λ _. two 0xEA 0x30C (lit≤ tt) (lit≤ tt)) (λ _.
-    trailed-gives 1 2 c (cell index (big5Pointer b c)) (cell-point index (big5Pointer b c)))))))
+big5-trail index b c = front-test (trails big5Layout c)
+    (λ _. front-test (eqb (pointerOf big5Layout b c) 1133) (λ _. two 0xCA 0x304 (lit≤ tt) (lit≤ tt)) (λ _.
+    front-test (eqb (pointerOf big5Layout b c) 1135) (λ _. two 0xCA 0x30C (lit≤ tt) (lit≤ tt)) (λ _.
+    front-test (eqb (pointerOf big5Layout b c) 1164) (λ _. two 0xEA 0x304 (lit≤ tt) (lit≤ tt)) (λ _.
+    front-test (eqb (pointerOf big5Layout b c) 1166) (λ _. two 0xEA 0x30C (lit≤ tt) (lit≤ tt)) (λ _.
+    trailed-gives 1 2 c (cell index (pointerOf big5Layout b c)) (cell-point index (pointerOf big5Layout b c)))))))
     (λ _. broke)
 
 big5-scalars : (t : Tables) (xs : List ℕ) → Bytes xs → Gives (big5 t xs)
 unfolding big5
 big5-scalars t xs p = byte xs p (λ b zs _ r.
     front-test (ltb b 0x80) (λ h. ascii b h) (λ _.
-    front-test (within 0x81 b 0xFE) (λ _. byte zs r (λ c us _ _. big5-trail (t .first) b c)) (λ _. broke)))
+    front-test (leads big5Layout b) (λ _. byte zs r (λ c us _ _. big5-trail (t .first) b c)) (λ _. broke)))
 
 -- gb18030
-four-point : (ranges : List ℕ) (p : ℕ) → Point (gbFourCode ranges p)
-unfolding gbFourCode
+four-point : (ranges : List ℕ) (p : ℕ) → Point (gb18030FourCode ranges p)
+unfolding gb18030FourCode
 four-point ranges p = go (within 39420 p 188999 || ltb 1237575 p) (eqb p 7457)
   where
-    go : (t u : Bool) → Point (t then 0 else u then 0xE7C7 else mapped (gbRange ranges p 0) then gbRange ranges p 0 else 0)
+    go : (t u : Bool) → Point (t then 0 else u then 0xE7C7 else mapped (gb18030Range ranges p 0) then gb18030Range ranges p 0 else 0)
     go true u = null
     go false true = λ _. high 0xE7C7 (lit≤ tt) (lit≤ tt)
-    go false false = mapped-point (gbRange ranges p 0) (mapped (gbRange ranges p 0)) refl
+    go false false = mapped-point (gb18030Range ranges p 0) (mapped (gb18030Range ranges p 0)) refl
 
-gb-third : (ranges : List ℕ) (b c d : ℕ) (vs : List ℕ) → Bytes vs → Gives (gbThird ranges b c d vs)
-gb-third ranges b c d vs r = front-test (within 0x81 d 0xFE)
-    (λ _. byte vs r (λ e ws _ _. front-test (within 0x30 e 0x39) (λ _. code-gives 4 (gbFourCode ranges (gbFourPointer b c d e)) (four-point ranges (gbFourPointer b c d e))) (λ _. broke)))
+gb18030-third : (ranges : List ℕ) (b c d : ℕ) (vs : List ℕ) → Bytes vs → Gives (gb18030Third ranges b c d vs)
+gb18030-third ranges b c d vs r = front-test (within 0x81 d 0xFE)
+    (λ _. byte vs r (λ e ws _ _. front-test (within 0x30 e 0x39) (λ _. code-gives 4 (gb18030FourCode ranges (gb18030FourPointer b c d e)) (four-point ranges (gb18030FourPointer b c d e))) (λ _. broke)))
     (λ _. broke)
 
-gb-scalars : (t : Tables) (xs : List ℕ) → Bytes xs → Gives (gb18030 t xs)
-unfolding gb18030 gbCode
-gb-scalars t xs p = byte xs p (λ b zs _ r.
+gb18030-scalars : (t : Tables) (xs : List ℕ) → Bytes xs → Gives (gb18030 t xs)
+unfolding gb18030
+gb18030-scalars t xs p = byte xs p (λ b zs _ r.
     front-test (ltb b 0x80) (λ h. ascii b h) (λ _.
     front-test (eqb b 0x80) (λ _. good 0x20AC (low 0x20AC (lit≤ tt))) (λ _.
-    front-test (within 0x81 b 0xFE)
+    front-test (leads gb18030Layout b)
     (λ _. byte zs r (λ c us _ r. front-test (within 0x30 c 0x39)
-    (λ _. byte us r (λ d vs _ r. gb-third (t .second) b c d vs r))
-    (λ _. trailed-gives 1 2 c (gbCode (t .first) b c) (test-point (within 0x40 c 0x7E || within 0x80 c 0xFE) _ (cell-point (t .first) _)))))
+    (λ _. byte us r (λ d vs _ r. gb18030-third (t .second) b c d vs r))
+    (λ _. pair-gives gb18030Layout (t .first) 1 2 b c)))
     (λ _. broke))))
 
 -- EUC-JP
-jp-point : (index : List ℕ) (b c : ℕ) → Point (eucJpCode index b c)
-unfolding eucJpCode
-jp-point index b c = test-point (within 0xA1 c 0xFE) _ (cell-point index _)
-
 kana-point : (c : ℕ) (t : Bool) → within 0xA1 c 0xDF ≡ t → Point (t then 0xFF61 - 0xA1 + c else 0)
 kana-point c true h = λ _. kana c h
 kana-point c false h = null
 
-jp-scalars : (t : Tables) (xs : List ℕ) → Bytes xs → Gives (eucJp t xs)
+euc-jp-scalars : (t : Tables) (xs : List ℕ) → Bytes xs → Gives (eucJp t xs)
 unfolding eucJp
-jp-scalars t xs p = byte xs p (λ b zs _ r.
+euc-jp-scalars t xs p = byte xs p (λ b zs _ r.
     front-test (ltb b 0x80) (λ h. ascii b h) (λ _.
     front-test (eqb b 0x8E) (λ _. byte zs r (λ c us _ _. trailed-gives 1 2 c (eucJpKana c) (kana-point c (within 0xA1 c 0xDF) refl))) (λ _.
-    front-test (eqb b 0x8F) (λ _. byte zs r (λ c us _ r. front-test (within 0xA1 c 0xFE)
-    (λ _. byte us r (λ d vs _ _. trailed-gives 2 3 d (eucJpCode (t .second) c d) (jp-point (t .second) c d)))
+    front-test (eqb b 0x8F) (λ _. byte zs r (λ c us _ r. front-test (leads eucJpLayout c)
+    (λ _. byte us r (λ d vs _ _. pair-gives eucJpLayout (t .second) 2 3 c d))
     (λ _. broke))) (λ _.
-    front-test (within 0xA1 b 0xFE) (λ _. byte zs r (λ c us _ _. trailed-gives 1 2 c (eucJpCode (t .first) b c) (jp-point (t .first) b c))) (λ _. broke)))))
+    front-test (leads eucJpLayout b) (λ _. byte zs r (λ c us _ _. pair-gives eucJpLayout (t .first) 1 2 b c)) (λ _. broke)))))
 
 -- UTF-16
 unit-small : (be : Bool) (b c : ℕ) → b < 256 → c < 256 → unit be b c < 65536
@@ -342,20 +346,14 @@ escape-scalars s c us r = front-test (eqb c 0x24 || eqb c 0x28)
     (λ _. byte us r (λ d vs _ _. front-test (leb 4 (escaped c d)) (λ _. broke) (λ _. front-item (choice (s .flag) error (text []) wrong nothing))))
     (λ _. broke)
 
-pair-scalars : (index : List ℕ) (b c : ℕ) → Scalar (pairOut index b c)
-pair-scalars index b c = choice (within 0x21 c 0x7E) (codeOut (cell index p)) error (code-scalars (cell index p) (cell-point index p)) wrong
-  where
-    p : ℕ
-    p = isoPointer b c
-
 lead-scalars : (index : List ℕ) (b : ℕ) (zs : List ℕ) → Bytes zs → Gives (leadNext index b zs)
-lead-scalars index b zs r = front-test (within 0x21 b 0x7E)
-    (λ _. byte zs r (λ c us _ _. front-test (eqb c 0x1B) (λ _. broke) (λ _. front-item (pair-scalars index b c))))
+lead-scalars index b zs r = front-test (leads iso2022JpLayout b)
+    (λ _. byte zs r (λ c us _ _. front-test (eqb c 0x1B) (λ _. broke) (λ _. front-item (code-scalars (pairCode iso2022JpLayout index b c) (pair-point iso2022JpLayout index b c)))))
     (λ _. broke)
 
-iso-scalars : (t : Tables) (s : Shift) (xs : List ℕ) → Bytes xs → Gives (iso2022Jp t s xs)
+iso-2022-jp-scalars : (t : Tables) (s : Shift) (xs : List ℕ) → Bytes xs → Gives (iso2022Jp t s xs)
 unfolding iso2022Jp
-iso-scalars t s xs p = byte xs p (λ b zs _ r.
+iso-2022-jp-scalars t s xs p = byte xs p (λ b zs _ r.
     front-test (eqb b 0x1B) (λ _. byte zs r (λ c us _ r. escape-scalars s c us r)) (λ _.
     front-test (eqb (s .state) 3) (λ _. lead-scalars (t .first) b zs r) (λ _. front-item (byte-scalars (s .state) b))))
 
@@ -379,12 +377,12 @@ unfolding next
 next-scalars t UTF-8 s xs p = unmarked-scalars (s .flag) (utf8 xs) (utf8-scalars xs p)
 next-scalars t single-byte s xs p = single-scalars (t .first) xs p
 next-scalars t windows-1252 s xs p = single-scalars windows1252 xs p
-next-scalars t GB18030 s xs p = gb-scalars t xs p
+next-scalars t GB18030 s xs p = gb18030-scalars t xs p
 next-scalars t Big5 s xs p = big5-scalars t xs p
-next-scalars t EUC-JP s xs p = jp-scalars t xs p
-next-scalars t ISO-2022-JP s xs p = iso-scalars t s xs p
-next-scalars t Shift-JIS s xs p = sjis-scalars t xs p
-next-scalars t EUC-KR s xs p = kr-scalars t xs p
+next-scalars t EUC-JP s xs p = euc-jp-scalars t xs p
+next-scalars t ISO-2022-JP s xs p = iso-2022-jp-scalars t s xs p
+next-scalars t Shift-JIS s xs p = shift-jis-scalars t xs p
+next-scalars t EUC-KR s xs p = euc-kr-scalars t xs p
 next-scalars t Replacement s xs p = replacement-scalars s xs p
 next-scalars t UTF-16BE s xs p = unmarked-scalars (s .flag) (utf16 true xs) (utf16-scalars true xs p)
 next-scalars t UTF-16LE s xs p = unmarked-scalars (s .flag) (utf16 false xs) (utf16-scalars false xs p)

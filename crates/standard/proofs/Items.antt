@@ -2,44 +2,50 @@
 use mathlib.Core.Path.{_≡_, refl, sym, ap, _∙_, subst}
 use mathlib.Core.Bool.{true, false, _||_}
 use mathlib.Core.List.{List, [], _∷_, _++_, append-assoc}
-use Prim.Native.Nat.{ℕ, _≤_}
+use Prim.Native.Nat.{ℕ, _+_, _≤_}
 use native.Mathlib.Omega.{arith}
 use lib.Dec.{T, lit≤}
 use lib.ListN.{length, length-append}
 use Rattle.standard.specs.Sequence.{Out, text, error}
-use Rattle.standard.specs.Decode.{given, shown, broken, before}
+use Rattle.standard.specs.Decode.{Item, span, given, shown, broken, before, widths}
 
-pub shown-cons : (o : Out) (is : List Out) → shown (o ∷ is) ≡ given o ++ shown is
+pub shown-cons : (w : ℕ) (o : Out) (is : List Item) → shown (span w o ∷ is) ≡ given o ++ shown is
 unfolding shown
-shown-cons (text cs) is = refl
-shown-cons error is = refl
+shown-cons w (text cs) is = refl
+shown-cons w error is = refl
 
-pub shown-append : (is js : List Out) → shown (is ++ js) ≡ shown is ++ shown js
+pub shown-append : (is js : List Item) → shown (is ++ js) ≡ shown is ++ shown js
 unfolding shown
 shown-append [] js = refl
-shown-append (text cs ∷ is) js = ap (λ (l : List ℕ). cs ++ l) (shown-append is js) ∙ sym (append-assoc cs (shown is) (shown js))
-shown-append (error ∷ is) js = ap (_∷_ 0xFFFD) (shown-append is js)
+shown-append (span w (text cs) ∷ is) js = ap (λ (l : List ℕ). cs ++ l) (shown-append is js) ∙ sym (append-assoc cs (shown is) (shown js))
+shown-append (span w error ∷ is) js = ap (_∷_ 0xFFFD) (shown-append is js)
 
-pub broken-append : (is js : List Out) → broken (is ++ js) ≡ broken is || broken js
+pub broken-append : (is js : List Item) → broken (is ++ js) ≡ broken is || broken js
 unfolding broken
 broken-append [] js = refl
-broken-append (text cs ∷ is) js = broken-append is js
-broken-append (error ∷ is) js = refl
+broken-append (span w (text cs) ∷ is) js = broken-append is js
+broken-append (span w error ∷ is) js = refl
 
-pub before-append : (is js : List Out) → broken is ≡ false → before (is ++ js) ≡ shown is ++ before js
+pub before-append : (is js : List Item) → broken is ≡ false → before (is ++ js) ≡ shown is ++ before js
 unfolding before broken shown
 before-append [] js h = refl
-before-append (text cs ∷ is) js h = ap (λ (l : List ℕ). cs ++ l) (before-append is js h) ∙ sym (append-assoc cs (shown is) (before js))
-before-append (error ∷ is) js h = absurd (subst T h tt)
+before-append (span w (text cs) ∷ is) js h = ap (λ (l : List ℕ). cs ++ l) (before-append is js h) ∙ sym (append-assoc cs (shown is) (before js))
+before-append (span w error ∷ is) js h = absurd (subst T h tt)
 
-pub before-broken : (is js : List Out) → broken is ≡ true → before (is ++ js) ≡ before is
+pub before-broken : (is js : List Item) → broken is ≡ true → before (is ++ js) ≡ before is
 unfolding broken before
 before-broken [] js h = absurd (subst T (sym h) tt)
-before-broken (text cs ∷ is) js h = ap (λ (l : List ℕ). cs ++ l) (before-broken is js h)
-before-broken (error ∷ is) js h = refl
+before-broken (span w (text cs) ∷ is) js h = ap (λ (l : List ℕ). cs ++ l) (before-broken is js h)
+before-broken (span w error ∷ is) js h = refl
 
-pub before-length : (is : List Out) → length (before is) ≤ length (shown is)
+pub before-length : (is : List Item) → length (before is) ≤ length (shown is)
 unfolding before shown
 before-length [] = lit≤ tt
-before-length (text cs ∷ is) = simp length-append (omega (arith, before-length is))
-before-length (error ∷ is) = omega arith
+before-length (span w (text cs) ∷ is) = simp length-append (omega (arith, before-length is))
+before-length (span w error ∷ is) = omega arith
+
+-- the bytes of items joined
+pub widths-append : (is js : List Item) → widths (is ++ js) ≡ widths is + widths js
+unfolding widths
+widths-append [] js = omega arith
+widths-append (span w o ∷ is) js = rw (widths-append is js) (omega arith)

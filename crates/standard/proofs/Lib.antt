@@ -1,10 +1,12 @@
 pub mod Tests
+pub mod Layouts
 pub mod Laws
 pub mod FamilyLaws
 pub mod Walk
 pub mod AnyTables
 pub mod Items
 pub mod Reading
+pub mod Widths
 pub mod Every
 pub mod Simulation
 pub mod AgreementsLeaves
@@ -18,3 +20,4 @@ pub mod Whole
 pub mod Paused
 pub mod FamilyScalars
 pub mod OnlyScalars
+pub mod Families

@@ -2,7 +2,7 @@
 use mathlib.Core.Path.{_≡_, refl, sym, ap, _∙_}
 use mathlib.Core.Bool.{Bool, true, false}
 use mathlib.Core.List.{List, [], _∷_, _++_, append-assoc, append-nil}
-use Prim.Native.Nat.{ℕ, _≤_}
+use Prim.Native.Nat.{ℕ, suc, _+_, _≤_}
 use native.Mathlib.Omega.{arith}
 use lib.Dec.{T, ltb, lit≤}
 use lib.ListN.{length, take, drop, length-append, take-append-drop}
@@ -12,7 +12,7 @@ use Rattle.standard.specs.Encodings.{Tables, Family, UTF-8, single-byte,
 use Rattle.standard.specs.Sequence.{Shift, Out, Next, more, item}
 use Rattle.standard.specs.Sequences.Iso2022Jp.{iso2022Jp}
 use Rattle.standard.specs.Next.{next}
-use Rattle.standard.specs.Decode.{Read, put, decode, oneError, lastOut, isoEnd, ending, given, shown}
+use Rattle.standard.specs.Decode.{Item, span, Read, put, decode, widths, oneError, lastOut, isoEnd, ending, given, shown}
 use Rattle.standard.proofs.Laws.{Laws, none0, none1}
 use Rattle.standard.proofs.FamilyLaws.{keeps, next-laws}
 use Rattle.standard.proofs.Walk.{stop, at-item, nothing, walk}
@@ -30,44 +30,49 @@ separators-append (x ∷ xs) ys = go (ltb x 0x30) (separators-append xs ys)
 pub record Reading (k : Bool) (f : Shift → List ℕ → Next) (xs : List ℕ) (r : Read) : Type 0 where
   pub used : List ℕ
   pub split : xs ≡ used ++ r .rest
+  -- the items' widths are the bytes used up
+  pub wide : widths (r .items) ≡ length used
   pub count : length (shown (r .items)) ≤ length used
   pub kept : T k → separators (shown (r .items)) ≡ separators used
   pub waits : f (r .shift) (r .rest) ≡ more
 
 module _ (k : Bool) (f : Shift → List ℕ → Next) (L : Laws k f) where
   reading-stop : (s : Shift) (xs : List ℕ) → f s xs ≡ more → Reading k f xs (stop s xs)
-  unfolding shown
-  reading-stop s xs e = record { used = []; split = refl; count = lit≤ tt; kept = λ t. refl; waits = e }
+  unfolding shown widths
+  reading-stop s xs e = record { used = []; split = refl; wide = refl; count = lit≤ tt; kept = λ t. refl; waits = e }
 
-  reading-put : (s : Shift) (xs : List ℕ) (w : ℕ) (s′ : Shift) (o : Out) (r : Read) → f s xs ≡ item w s′ o → Reading k f (drop w xs) r → Reading k f xs (put o r)
+  reading-put : (s : Shift) (xs : List ℕ) (w : ℕ) (s′ : Shift) (o : Out) (r : Read) → f s xs ≡ item w s′ o → Reading k f (drop w xs) r → Reading k f xs (put w o r)
+  unfolding widths
   reading-put s xs w s′ o r e h =
       let l = at-item k f L s xs e [] in
       record {
         used = take w xs ++ h .used;
         split = sym (take-append-drop w xs) ∙ ap (λ (ys : List ℕ). take w xs ++ ys) (h .split) ∙ sym (append-assoc (take w xs) (h .used) (r .rest));
-        count = rw (shown-cons o (r .items)) (simp length-append (omega (arith, length-take-le w xs (l .2), l .3, h .count)));
-        kept = λ t. ap separators (shown-cons o (r .items)) ∙ separators-append (given o) (shown (r .items)) ∙ rw (← l .4 t, h .kept t) (sym (separators-append (take w xs) (h .used)));
+        wide = rw (length-append (take w xs) (h .used), length-take-le w xs (l .2), h .wide);
+        count = rw (shown-cons w o (r .items)) (simp length-append (omega (arith, length-take-le w xs (l .2), l .3, h .count)));
+        kept = λ t. ap separators (shown-cons w o (r .items)) ∙ separators-append (given o) (shown (r .items)) ∙ rw (← l .4 t, h .kept t) (sym (separators-append (take w xs) (h .used)));
         waits = h .waits;
       }
 
   pub reading : (s : Shift) (xs : List ℕ) → Reading k f xs (decode f s xs)
   reading = walk k f L (λ s xs r. Reading k f xs r) reading-stop reading-put
 
--- The end of input: no more scalars than bytes held, and no separator where separators are kept.
-pub record Ending (k : Bool) (xs : List ℕ) (is : List Out) : Type 0 where
+-- The end of input: the items' widths are the bytes held, no more scalars than bytes held, and no separator where separators are kept.
+pub record Ending (k : Bool) (xs : List ℕ) (is : List Item) : Type 0 where
+  pub wide : widths is ≡ length xs
   pub count : length (shown is) ≤ length xs
   pub kept : T k → separators (shown is) ≡ []
 
 one-error : (k : Bool) (xs : List ℕ) → Ending k xs (oneError xs)
-unfolding oneError shown
-one-error k [] = record { count = lit≤ tt; kept = λ t. none0 }
-one-error k (b ∷ xs) = record { count = omega arith; kept = λ t. none1 (lit≤ tt) }
+unfolding oneError shown widths
+one-error k [] = record { wide = refl; count = lit≤ tt; kept = λ t. none0 }
+one-error k (b ∷ xs) = record { wide = omega arith; count = omega arith; kept = λ t. none1 (lit≤ tt) }
 
 iso-end : (t : Tables) (s : Shift) (xs : List ℕ) → Ending false xs (isoEnd t s xs)
-unfolding isoEnd shown
-iso-end t s [] = record { count = lit≤ tt; kept = λ k. absurd k }
-iso-end t s (b ∷ []) = record { count = lit≤ tt; kept = λ k. absurd k }
-iso-end t s (b ∷ c ∷ xs) = record { count = rw (shown-cons (lastOut (next t ISO-2022-JP s (c ∷ []))) []) (simp append-nil (omega (arith, last (next t ISO-2022-JP s (c ∷ [])) refl))); kept = λ k. absurd k }
+unfolding isoEnd shown widths
+iso-end t s [] = record { wide = refl; count = lit≤ tt; kept = λ k. absurd k }
+iso-end t s (b ∷ []) = record { wide = refl; count = lit≤ tt; kept = λ k. absurd k }
+iso-end t s (b ∷ c ∷ xs) = record { wide = omega arith; count = rw (shown-cons (suc (length xs)) (lastOut (next t ISO-2022-JP s (c ∷ []))) []) (simp append-nil (omega (arith, last (next t ISO-2022-JP s (c ∷ [])) refl))); kept = λ k. absurd k }
   where
     last : (a : Next) → next t ISO-2022-JP s (c ∷ []) ≡ a → length (given (lastOut a)) ≤ 1
     last more h = lit≤ tt
@@ -88,6 +93,27 @@ ending-is t Replacement s xs = one-error false xs
 ending-is t UTF-16BE s xs = one-error false xs
 ending-is t UTF-16LE s xs = one-error false xs
 ending-is t x-user-defined s xs = one-error true xs
+
+-- What holds of both kinds of end holds of the end of input in every family.
+pub either-end : (P : List Item → Type 0) (t : Tables) (f : Family) (s : Shift) (xs : List ℕ) → P (oneError xs) → P (isoEnd t s xs) → P (ending t f s xs)
+unfolding ending
+either-end P t UTF-8 s xs one iso = one
+either-end P t single-byte s xs one iso = one
+either-end P t windows-1252 s xs one iso = one
+either-end P t GB18030 s xs one iso = one
+either-end P t Big5 s xs one iso = one
+either-end P t EUC-JP s xs one iso = one
+either-end P t ISO-2022-JP s xs one iso = iso
+either-end P t Shift-JIS s xs one iso = one
+either-end P t EUC-KR s xs one iso = one
+either-end P t Replacement s xs one iso = one
+either-end P t UTF-16BE s xs one iso = one
+either-end P t UTF-16LE s xs one iso = one
+either-end P t x-user-defined s xs one iso = one
+
+pub no-bytes : (t : Tables) (f : Family) (s : Shift) → ending t f s [] ≡ []
+unfolding oneError isoEnd
+no-bytes t f s = either-end (λ is. is ≡ []) t f s [] refl refl
 
 -- The end of input looks into no table.
 pub ending-any : (t t′ : Tables) (f : Family) (s : Shift) (xs : List ℕ) → ending t f s xs ≡ ending t′ f s xs

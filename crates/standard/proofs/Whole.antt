@@ -11,14 +11,14 @@ use Rattle.standard.specs.Base.{_then_else_, Bytes}
 use Rattle.standard.specs.Encodings.{Tables, Family, UTF-8, single-byte, windows-1252, GB18030, Big5, EUC-JP, ISO-2022-JP, Shift-JIS, EUC-KR, Replacement, UTF-16BE, UTF-16LE, x-user-defined, traits}
 use Rattle.standard.specs.Machine.{Token, token, end-of-stream, finished, Mode, replacement, fatal, run, stream}
 use Rattle.standard.specs.Machine.{error as failed}
-use Rattle.standard.specs.Handlers.{replacement-handler, decoder}
+use Rattle.standard.specs.Handlers.{replacementHandler, decoder}
 use Rattle.standard.specs.Standard.{standard, dropMark}
 use Rattle.standard.specs.Sequence.{Shift, Out, text, error, Next, more, item, shift, plain}
 use Rattle.standard.specs.Sequences.Utf8.{utf8}
 use Rattle.standard.specs.Sequences.Utf16.{utf16}
 use Rattle.standard.specs.Sequences.Replacement.{replacement as replacementNext}
 use Rattle.standard.specs.Next.{unmark, unmarked, next}
-use Rattle.standard.specs.Decode.{Read, put, decode, oneError, ending, shown, broken, before, everything}
+use Rattle.standard.specs.Decode.{Item, span, Read, put, decode, oneError, ending, shown, broken, before, everything}
 use Rattle.standard.proofs.Tests.{true-T}
 use Rattle.standard.proofs.FamilyLaws.{keeps, next-laws}
 use Rattle.standard.proofs.Walk.{stop, walk, decode-more, decode-item}
@@ -37,7 +37,7 @@ module _ (t : Tables) where
       base s [] e = refl
       base s (x ∷ xs) e = cc
 
-  first-item : (told : Bool) (x : ℕ) (xs : List ℕ) → decode (next t Replacement) (shift 0 told) (x ∷ xs) ≡ put (told then text [] else error) (decode (next t Replacement) (shift 0 true) xs)
+  first-item : (told : Bool) (x : ℕ) (xs : List ℕ) → decode (next t Replacement) (shift 0 told) (x ∷ xs) ≡ put 1 (told then text [] else error) (decode (next t Replacement) (shift 0 true) xs)
   unfolding next replacementNext
   first-item told x xs = decode-item (keeps Replacement) (next t Replacement) (next-laws t Replacement) (shift 0 told) (x ∷ xs) {w = 1} refl
 
@@ -66,19 +66,19 @@ module _ (t : Tables) where
   all-early s xs = rw (no-rest s xs, append-nil (decode (next t Replacement) s xs .items))
 
 standard-is : (t : Tables) (f : Family) (m : Mode) (xs : List ℕ) → Bytes xs → standard t f m xs ≡ replay (ends failed) m (everything t f plain xs) [] (ends finished)
-unfolding standard everything total replacement-handler
+unfolding standard everything total replacementHandler
 standard-is t f m xs p = go f (agrees t f)
   where
-    done : (n : ℕ) (input : List Token) (out : List ℕ) → run replacement-handler m (suc n) true input out ≡ ends finished out
-    done n [] out = run-finished replacement-handler m n true [] out refl
-    done n (end-of-stream ∷ input) out = run-finished replacement-handler m n true (end-of-stream ∷ input) out refl
-    done n (token x ∷ input) out = run-finished replacement-handler m n true (token x ∷ input) out refl
+    done : (n : ℕ) (input : List Token) (out : List ℕ) → run replacementHandler m (suc n) true input out ≡ ends finished out
+    done n [] out = run-finished replacementHandler m n true [] out refl
+    done n (end-of-stream ∷ input) out = run-finished replacementHandler m n true (end-of-stream ∷ input) out refl
+    done n (token x ∷ input) out = run-finished replacementHandler m n true (token x ∷ input) out refl
 
     go : (f : Family) → Agrees t f → standard t f m xs ≡ replay (ends failed) m (everything t f plain xs) [] (ends finished)
     go f (steps a) = machine (keeps f) (next t f) (next-laws t f) (decoder t f) (ending t f) a m xs p (5 * length xs + 1) (omega arith)
-    go f early = early-is t (ends failed) m (ends finished) (run replacement-handler m)
-        (λ n b input out. run-out replacement-handler m n false (token b ∷ input) out error refl) (λ n out. run-finished replacement-handler m n false [] out refl) done xs (5 * length xs + 1) (omega arith) ∙
-        ap (λ (is : List Out). replay (ends failed) m is [] (ends finished)) (sym (all-early t plain xs))
+    go f early = early-is t (ends failed) m (ends finished) (run replacementHandler m)
+        (λ n b input out. run-out replacementHandler m n false (token b ∷ input) out error refl) (λ n out. run-finished replacementHandler m n false [] out refl) done xs (5 * length xs + 1) (omega arith) ∙
+        ap (λ (is : List Item). replay (ends failed) m is [] (ends finished)) (sym (all-early t plain xs))
 
 -- In mode "replacement" it finishes with everything shown.
 pub standard-replacing : (t : Tables) (f : Family) (xs : List ℕ) → Bytes xs → standard t f replacement xs ≡ some (record { result = finished; output = shown (everything t f plain xs) })
@@ -111,33 +111,33 @@ utf16-filled : (be : Bool) (xs : List ℕ) → Filled (utf16 be xs)
 unfolding utf16
 utf16-filled be xs = search (front-await, front-test, front-item) depth 20
 
-shown-unmark : (o : Out) (is : List Out) → Solid o → shown (unmark o ∷ is) ≡ dropMark (shown (o ∷ is))
+shown-unmark : (w : ℕ) (o : Out) (is : List Item) → Solid o → shown (span w (unmark o) ∷ is) ≡ dropMark (shown (span w o ∷ is))
 unfolding shown
-shown-unmark error is h = refl
-shown-unmark (text []) is h = absurd h
-shown-unmark (text (c ∷ cs)) is h = go (eqb c 0xFEFF)
+shown-unmark w error is h = refl
+shown-unmark w (text []) is h = absurd h
+shown-unmark w (text (c ∷ cs)) is h = go (eqb c 0xFEFF)
   where
-    go : (t : Bool) → shown ((t then text cs else text (c ∷ cs)) ∷ is) ≡ (t then cs ++ shown is else c ∷ cs ++ shown is)
+    go : (t : Bool) → shown (span w (t then text cs else text (c ∷ cs)) ∷ is) ≡ (t then cs ++ shown is else c ∷ cs ++ shown is)
     go true = refl
     go false = refl
 
-before-unmark : (o : Out) (is : List Out) → Solid o → before (unmark o ∷ is) ≡ dropMark (before (o ∷ is))
+before-unmark : (w : ℕ) (o : Out) (is : List Item) → Solid o → before (span w (unmark o) ∷ is) ≡ dropMark (before (span w o ∷ is))
 unfolding before
-before-unmark error is h = refl
-before-unmark (text []) is h = absurd h
-before-unmark (text (c ∷ cs)) is h = go (eqb c 0xFEFF)
+before-unmark w error is h = refl
+before-unmark w (text []) is h = absurd h
+before-unmark w (text (c ∷ cs)) is h = go (eqb c 0xFEFF)
   where
-    go : (t : Bool) → before ((t then text cs else text (c ∷ cs)) ∷ is) ≡ (t then cs ++ before is else c ∷ cs ++ before is)
+    go : (t : Bool) → before (span w (t then text cs else text (c ∷ cs)) ∷ is) ≡ (t then cs ++ before is else c ∷ cs ++ before is)
     go true = refl
     go false = refl
 
-broken-unmark : (o : Out) (is : List Out) → broken (unmark o ∷ is) ≡ broken (o ∷ is)
+broken-unmark : (w : ℕ) (o : Out) (is : List Item) → broken (span w (unmark o) ∷ is) ≡ broken (span w o ∷ is)
 unfolding broken
-broken-unmark error is = refl
-broken-unmark (text []) is = refl
-broken-unmark (text (c ∷ cs)) is = go (eqb c 0xFEFF)
+broken-unmark w error is = refl
+broken-unmark w (text []) is = refl
+broken-unmark w (text (c ∷ cs)) is = go (eqb c 0xFEFF)
   where
-    go : (t : Bool) → broken ((t then text cs else text (c ∷ cs)) ∷ is) ≡ broken is
+    go : (t : Bool) → broken (span w (t then text cs else text (c ∷ cs)) ∷ is) ≡ broken is
     go true = refl
     go false = refl
 
@@ -178,13 +178,13 @@ unmarked-by t f g same fin filled xs = go (g xs) refl (filled xs)
         }
     go (item w s o) e h =
         let r : Read = decode (next t f) s (drop w xs) in
-        let p : decode (next t f) (shift 0 true) xs ≡ put (unmark o) r = decode-item (keeps f) (next t f) (next-laws t f) (shift 0 true) xs (same (shift 0 true) xs ∙ ap (unmarked true) e) in
-        let q : decode (next t f) plain xs ≡ put o r = decode-item (keeps f) (next t f) (next-laws t f) plain xs (same plain xs ∙ ap (unmarked false) e) in
+        let p : decode (next t f) (shift 0 true) xs ≡ put w (unmark o) r = decode-item (keeps f) (next t f) (next-laws t f) (shift 0 true) xs (same (shift 0 true) xs ∙ ap (unmarked true) e) in
+        let q : decode (next t f) plain xs ≡ put w o r = decode-item (keeps f) (next t f) (next-laws t f) plain xs (same plain xs ∙ ap (unmarked false) e) in
         record {
-          all = rw (p, q) (shown-unmark o (r .items ++ ending t f (r .shift) (r .rest)) (h .holds));
-          before-error = rw (p, q) (before-unmark o (r .items ++ ending t f (r .shift) (r .rest)) (h .holds));
-          error-too = rw (p, q) (broken-unmark o (r .items ++ ending t f (r .shift) (r .rest)));
-          so-far = rw (p, q) (shown-unmark o (r .items) (h .holds));
+          all = rw (p, q) (shown-unmark w o (r .items ++ ending t f (r .shift) (r .rest)) (h .holds));
+          before-error = rw (p, q) (before-unmark w o (r .items ++ ending t f (r .shift) (r .rest)) (h .holds));
+          error-too = rw (p, q) (broken-unmark w o (r .items ++ ending t f (r .shift) (r .rest)));
+          so-far = rw (p, q) (shown-unmark w o (r .items) (h .holds));
           left = rw (p, q);
         }
 

@@ -1,10 +1,10 @@
 //! Each call of the library beside the reference: answer, record and every cell of the room. What is expected is the
 //! reference's, what came is the library's.
 
-use crate::ffi;
-use crate::ffi::Decoder as Record;
-use crate::reference::{self, Answer, Encoded, Tables};
+use crate::reference::{self, Answer, Encoded};
 use std::fmt::Debug;
+use support::ffi::{self, Decoder as Record};
+use support::{calls, Tables};
 
 /// Cells behind the lent room.
 const BEHIND: usize = 4;
@@ -95,26 +95,20 @@ fn answers(library: ffi::Answer, room: &[u32], reference: Answer) -> Result<Answ
 }
 
 pub fn open(encoding: u8, mode: u8, rule: u8) -> Result<Answer, String> {
-    let library = unsafe { ffi::hamvukile_open(encoding, mode, rule) };
+    let library = calls::open(encoding, mode, rule);
     answers(library, &[], reference::open(encoding, mode, rule))
         .map_err(|error| format!("open {encoding} mode {mode} rule {rule}: {error}"))
 }
 
 pub fn feed(record: Record, chunk: &[u8], tables: Tables, room: usize) -> Result<Answer, String> {
     let mut cells: Vec<u32> = (0..room + BEHIND).map(cell_before).collect();
-    let library = unsafe {
-        ffi::hamvukile_feed(
-            record,
-            chunk.as_ptr(),
-            chunk.len(),
-            tables.first.as_ptr(),
-            tables.first.len(),
-            tables.second.as_ptr(),
-            tables.second.len(),
-            cells.as_mut_ptr(),
-            room,
-        )
-    };
+    let library = calls::feed(
+        record,
+        chunk,
+        tables.first,
+        tables.second,
+        &mut cells[..room],
+    );
     answers(
         library,
         &cells,
@@ -124,7 +118,7 @@ pub fn feed(record: Record, chunk: &[u8], tables: Tables, room: usize) -> Result
 
 pub fn finish(record: Record, room: usize) -> Result<Answer, String> {
     let mut cells: Vec<u32> = (0..room + BEHIND).map(cell_before).collect();
-    let library = unsafe { ffi::hamvukile_finish(record, cells.as_mut_ptr(), room) };
+    let library = calls::finish(record, &mut cells[..room]);
     answers(library, &cells, reference::finish(record, room))
 }
 
@@ -136,20 +130,14 @@ pub fn encode(
     room: usize,
 ) -> Result<Encoded, String> {
     let mut cells: Vec<u8> = (0..room + BEHIND).map(byte_before).collect();
-    let library = unsafe {
-        ffi::hamvukile_encode(
-            encoding,
-            mode,
-            scalars.as_ptr(),
-            scalars.len(),
-            tables.first.as_ptr(),
-            tables.first.len(),
-            tables.second.as_ptr(),
-            tables.second.len(),
-            cells.as_mut_ptr(),
-            room,
-        )
-    };
+    let library = calls::encode(
+        encoding,
+        mode,
+        scalars,
+        tables.first,
+        tables.second,
+        &mut cells[..room],
+    );
     let reference = reference::encode(encoding, mode, scalars, tables, room);
     numbers("refusal", library.refusal.into(), reference.refusal.into())?;
     rooms(
@@ -165,9 +153,7 @@ pub fn encode(
 
 pub fn index_line(line: &[u8], table: &mut Vec<u32>) -> Result<reference::Entered, String> {
     let mut filled = table.clone();
-    let library = unsafe {
-        ffi::hamvukile_index_line(line.as_ptr(), line.len(), table.as_mut_ptr(), table.len())
-    };
+    let library = calls::index_line(line, table);
     let reference = reference::index_line(line, &mut filled);
     numbers("refusal", library.refusal.into(), reference.refusal.into())?;
     numbers("entry", library.entry.into(), reference.entry.into())?;

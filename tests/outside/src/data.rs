@@ -1,73 +1,30 @@
 //! The published indexes as lent tables.
 
-use crate::ffi;
-use crate::reference::{Tables, WINDOWS_1252};
-use std::fs;
-use std::path::PathBuf;
-
-pub fn path(name: &str) -> PathBuf {
-    PathBuf::from(env!("CARGO_MANIFEST_DIR"))
-        .join("../data")
-        .join(name)
-}
-
-pub fn read(name: &str) -> Result<String, String> {
-    fs::read_to_string(path(name)).map_err(|error| format!("{name}: {error}"))
-}
-
-/// The lines of a file that are no comments.
-pub fn lines(text: &str) -> impl Iterator<Item = &str> {
-    text.lines()
-        .filter(|line| !line.is_empty() && !line.starts_with('#'))
-}
+use crate::reference::WINDOWS_1252;
+use support::data::{self, single_byte, Index};
+use support::{calls, Tables};
 
 /// A table filled line by line through the library.
-fn table(index: &str, length: usize, entries: &mut usize) -> Result<Vec<u32>, String> {
-    let mut table = vec![0; length];
-    for line in read(&format!("indexes/index-{index}.txt"))?.split('\n') {
-        let answer = unsafe {
-            ffi::hamvukile_index_line(line.as_ptr(), line.len(), table.as_mut_ptr(), length)
-        };
+fn table(index: Index, entries: &mut usize) -> Result<Vec<u32>, String> {
+    let mut table = vec![0; index.cells];
+    for line in index.text()?.split('\n') {
+        let answer = calls::index_line(line.as_bytes(), &mut table);
         if answer.refusal != 0 {
-            return Err(format!("index {index}, {line}: refusal {}", answer.refusal));
+            let refusal = answer.refusal;
+            return Err(format!("index {}, {line}: refusal {refusal}", index.name));
         }
         *entries += usize::from(answer.entry);
     }
-    let parsed = parse(index)?;
-    let mut own = vec![0; length];
-    for (pointer, code_point) in parsed {
-        own[pointer as usize] = code_point;
-    }
-    if own != table {
-        return Err(format!("index {index}: the table is not that of the file"));
+    if index.table()? != table {
+        let name = index.name;
+        return Err(format!("index {name}: the table is not that of the file"));
     }
     Ok(table)
 }
 
-/// The pairs of an index file.
-fn parse(index: &str) -> Result<Vec<(u32, u32)>, String> {
-    let text = read(&format!("indexes/index-{index}.txt"))?;
-    let mut pairs = Vec::new();
-    for line in lines(&text) {
-        let mut fields = line.split('\t');
-        let pointer = fields.next().and_then(|field| field.trim().parse().ok());
-        let code_point = fields
-            .next()
-            .and_then(|field| u32::from_str_radix(field.trim_start_matches("0x"), 16).ok());
-        match (pointer, code_point) {
-            (Some(pointer), Some(code_point)) => pairs.push((pointer, code_point)),
-            _ => return Err(format!("index {index}: {line}")),
-        }
-    }
-    Ok(pairs)
-}
-
 /// Sets the reference's index of windows-1252.
 pub fn read_windows_1252() -> Result<(), String> {
-    let mut index = vec![0; 128];
-    for (pointer, code_point) in parse("windows-1252")? {
-        index[pointer as usize] = code_point;
-    }
+    let index = single_byte("windows-1252").table()?;
     WINDOWS_1252.get_or_init(|| index);
     Ok(())
 }
@@ -90,27 +47,20 @@ impl Published {
     }
 
     fn of(encoding: u8, entries: &mut usize) -> Result<(Vec<u32>, Vec<u32>), String> {
-        let none = Vec::new();
+        let mut table = |index| table(index, entries);
         Ok(match encoding {
-            21 => (none.clone(), none),
+            21 => Default::default(),
             1..=28 => {
                 let name = name(encoding).to_lowercase();
                 let index = if encoding == 9 { "iso-8859-8" } else { &name };
-                (table(index, 128, entries)?, none)
+                (table(single_byte(index))?, Vec::new())
             }
-            29 | 30 => {
-                let pairs = parse("gb18030-ranges")?;
-                let ranges = pairs.into_iter().flat_map(|(a, b)| [a, b]).collect();
-                (table("gb18030", 23940, entries)?, ranges)
-            }
-            31 => (table("big5", 19782, entries)?, none),
-            32 => (
-                table("jis0208", 11280, entries)?,
-                table("jis0212", 8836, entries)?,
-            ),
-            33 | 34 => (table("jis0208", 11280, entries)?, none),
-            35 => (table("euc-kr", 23940, entries)?, none),
-            _ => (none.clone(), none),
+            29 | 30 => (table(data::GB18030)?, data::ranges()?),
+            31 => (table(data::BIG5)?, Vec::new()),
+            32 => (table(data::JIS0208)?, table(data::JIS0212)?),
+            33 | 34 => (table(data::JIS0208)?, Vec::new()),
+            35 => (table(data::EUC_KR)?, Vec::new()),
+            _ => Default::default(),
         })
     }
 
@@ -123,6 +73,6 @@ impl Published {
 /// The name of an encoding.
 pub fn name(encoding: u8) -> String {
     let mut room = [0; 14];
-    let answer = unsafe { ffi::hamvukile_name(encoding, room.as_mut_ptr(), room.len()) };
+    let answer = calls::name(encoding, &mut room);
     String::from_utf8_lossy(&room[..answer.length]).into_owned()
 }

@@ -3,8 +3,9 @@
 use crate::compare;
 use crate::data::{name, Published};
 use crate::differences::{smallest_case, Differences};
-use crate::ffi::Decoder as Record;
-use crate::reference::{is_scalar, Tables};
+use crate::reference::is_scalar;
+use support::ffi::Decoder as Record;
+use support::Tables;
 
 /// Bytes before the pairs: none, and those after which a pair is read otherwise.
 fn fronts(encoding: u8) -> &'static [&'static [u8]] {

@@ -1,7 +1,7 @@
 //! The labels and names of the standard's table, and the look-up of a label.
 
-use crate::data;
 use std::collections::{BTreeMap, HashMap};
+use support::data;
 
 pub struct Labels {
     known: HashMap<String, u8>,

@@ -2,7 +2,7 @@
 
 use crate::compare;
 use crate::differences::smallest_case;
-use crate::random::Random;
+use support::random::Random;
 
 const PIECES: &[&[u8]] = &[
     b" ",
@@ -65,8 +65,8 @@ fn line(random: &mut Random) -> Vec<u8> {
     if random.one_in(4) && !line.is_empty() {
         let place = random.below(line.len());
         match random.below(3) {
-            0 => line[place] = random.next() as u8,
-            1 => line.insert(place, random.next() as u8),
+            0 => line[place] = random.number() as u8,
+            1 => line.insert(place, random.number() as u8),
             _ => drop(line.remove(place)),
         }
     }
@@ -74,7 +74,7 @@ fn line(random: &mut Random) -> Vec<u8> {
 }
 
 pub fn lines(seed: u64) -> Result<String, String> {
-    let mut random = Random(seed);
+    let mut random = Random::new(seed);
     let mut refusals = [0; 16];
     let number = 100_000;
     for _ in 0..number {

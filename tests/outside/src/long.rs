@@ -4,8 +4,10 @@ use crate::compare;
 use crate::data::{name, Published};
 use crate::differences::smallest_case;
 use crate::exhaustive::alphabet;
-use crate::random::{Lists, Random, VARIANTS};
-use crate::reference::{self, Tables};
+use crate::random::{Lists, VARIANTS};
+use crate::reference;
+use support::random::Random;
+use support::Tables;
 
 /// Bytes that may be a sequence of the encoding.
 fn candidate(encoding: u8, random: &mut Random) -> Vec<u8> {
@@ -184,7 +186,7 @@ pub fn borders(published: &Published) -> Result<String, String> {
 }
 
 pub fn texts(published: &Published, seed: u64) -> Result<String, String> {
-    let mut random = Random(seed);
+    let mut random = Random::new(seed);
     let lists = Lists::new(published, &mut random);
     let (mut count, mut total) = (0, 0);
     for encoding in 0..40 {

@@ -10,8 +10,6 @@ mod compare;
 mod data;
 mod differences;
 mod exhaustive;
-#[path = "../../../bindings/rust/src/ffi.rs"]
-mod ffi;
 mod labels;
 mod lines;
 mod long;

@@ -3,8 +3,8 @@
 use crate::compare;
 use crate::data::Published;
 use crate::differences::Differences;
-use crate::ffi::Decoder as Record;
-use crate::reference::Tables;
+use support::ffi::Decoder as Record;
+use support::Tables;
 
 /// The causes that a number stands for, in the order of the call.
 fn causes(order: &[u8], set: usize) -> Vec<u8> {

@@ -1,10 +1,10 @@
 //! The published tests.
 
-use crate::data::{self, Published};
+use crate::data::Published;
 use crate::differences::Differences;
-use crate::ffi;
 use crate::labels::Labels;
-use crate::reference::Tables;
+use support::ffi::Decoder;
+use support::{calls, data, Tables};
 
 struct Spellings<'a> {
     labels: &'a Labels,
@@ -15,7 +15,7 @@ struct Spellings<'a> {
 impl Spellings<'_> {
     fn compare(&mut self, bytes: &[u8]) {
         let expected = self.labels.find(bytes);
-        let found = unsafe { ffi::hamvukile_label(bytes.as_ptr(), bytes.len()) };
+        let found = calls::label(bytes);
         let found = (found.refusal, found.encoding, found.start, found.length);
         self.compared += 1;
         if found != expected {
@@ -80,7 +80,7 @@ pub fn names(labels: &Labels) -> Result<String, String> {
     for encoding in 0..=255 {
         for room in 0..18 {
             let mut cells = [0xA5; 20];
-            let answer = unsafe { ffi::hamvukile_name(encoding, cells.as_mut_ptr(), room) };
+            let answer = calls::name(encoding, &mut cells[..room]);
             let (refusal, name) = match labels.name(encoding) {
                 None => (2, ""),
                 Some(name) if name.len() > room => (7, ""),
@@ -105,7 +105,7 @@ pub fn names(labels: &Labels) -> Result<String, String> {
 }
 
 fn encoding_of(label: &str) -> Result<u8, String> {
-    let found = unsafe { ffi::hamvukile_label(label.as_ptr(), label.len()) };
+    let found = calls::label(label.as_bytes());
     match found.refusal {
         0 => Ok(found.encoding),
         _ => Err(format!("label {label} is unknown")),
@@ -130,13 +130,13 @@ fn scalars_of(text: &str) -> Result<Vec<u32>, String> {
 
 /// A decoder of the library alone, with rooms that are just large enough.
 struct Reader<'a> {
-    decoder: ffi::Decoder,
+    decoder: Decoder,
     tables: Tables<'a>,
 }
 
 impl Reader<'_> {
     fn open(tables: Tables<'_>, encoding: u8, mode: u8, rule: u8) -> Reader<'_> {
-        let answer = unsafe { ffi::hamvukile_open(encoding, mode, rule) };
+        let answer = calls::open(encoding, mode, rule);
         Reader {
             decoder: answer.decoder,
             tables,
@@ -144,21 +144,14 @@ impl Reader<'_> {
     }
 
     fn feed(&mut self, chunk: &[u8]) -> (u8, Vec<u32>) {
-        let tables = self.tables;
         let mut room = vec![0; chunk.len() + usize::from(self.decoder.held)];
-        let answer = unsafe {
-            ffi::hamvukile_feed(
-                self.decoder,
-                chunk.as_ptr(),
-                chunk.len(),
-                tables.first.as_ptr(),
-                tables.first.len(),
-                tables.second.as_ptr(),
-                tables.second.len(),
-                room.as_mut_ptr(),
-                room.len(),
-            )
-        };
+        let answer = calls::feed(
+            self.decoder,
+            chunk,
+            self.tables.first,
+            self.tables.second,
+            &mut room,
+        );
         self.decoder = answer.decoder;
         room.truncate(answer.written);
         (answer.refusal, room)
@@ -166,7 +159,7 @@ impl Reader<'_> {
 
     fn finish(&mut self) -> (u8, Vec<u32>) {
         let mut room = vec![0; usize::from(self.decoder.held)];
-        let answer = unsafe { ffi::hamvukile_finish(self.decoder, room.as_mut_ptr(), room.len()) };
+        let answer = calls::finish(self.decoder, &mut room);
         self.decoder = answer.decoder;
         room.truncate(answer.written);
         (answer.refusal, room)
@@ -413,20 +406,14 @@ pub fn encodings(published: &Published) -> Result<String, String> {
         let scalars = scalars_of(fields[1])?;
         let tables = published.tables(encoding);
         let mut room = vec![0; 10 * scalars.len()];
-        let answer = unsafe {
-            ffi::hamvukile_encode(
-                encoding,
-                0,
-                scalars.as_ptr(),
-                scalars.len(),
-                tables.first.as_ptr(),
-                tables.first.len(),
-                tables.second.as_ptr(),
-                tables.second.len(),
-                room.as_mut_ptr(),
-                room.len(),
-            )
-        };
+        let answer = calls::encode(
+            encoding,
+            0,
+            &scalars,
+            tables.first,
+            tables.second,
+            &mut room,
+        );
         let expected = if (29..39).contains(&encoding) {
             without += 1;
             (9, Vec::new())

@@ -4,34 +4,11 @@ use crate::compare;
 use crate::data::Published;
 use crate::differences::smallest;
 use crate::exhaustive::alphabet;
-use crate::ffi::Decoder as Record;
-use crate::reference::{self, Answer, Tables};
+use crate::reference::{self, Answer};
 use std::fmt;
-
-/// Random numbers from a seed (splitmix64).
-pub struct Random(pub u64);
-
-impl Random {
-    pub fn next(&mut self) -> u64 {
-        self.0 = self.0.wrapping_add(0x9E37_79B9_7F4A_7C15);
-        let mut number = self.0;
-        number = (number ^ (number >> 30)).wrapping_mul(0xBF58_476D_1CE4_E5B9);
-        number = (number ^ (number >> 27)).wrapping_mul(0x94D0_49BB_1331_11EB);
-        number ^ (number >> 31)
-    }
-
-    pub fn below(&mut self, bound: usize) -> usize {
-        (self.next() % bound as u64) as usize
-    }
-
-    pub fn one_in(&mut self, bound: usize) -> bool {
-        self.below(bound) == 0
-    }
-
-    pub fn pick<T: Copy>(&mut self, list: &[T]) -> T {
-        list[self.below(list.len())]
-    }
-}
+use support::ffi::Decoder as Record;
+use support::random::Random;
+use support::Tables;
 
 /// Bytes at the edges of the ranges.
 const EDGES: &[u8] = &[
@@ -263,7 +240,7 @@ impl Lists {
         while bytes.len() < length {
             match random.below(8) {
                 0 => bytes.extend(random.pick(SEQUENCES)),
-                1 | 2 => bytes.push(random.next() as u8),
+                1 | 2 => bytes.push(random.number() as u8),
                 3..=5 => bytes.push(random.pick(alphabet(encoding))),
                 _ => bytes.push(random.pick(EDGES)),
             }
@@ -343,7 +320,7 @@ impl Lists {
             let value = match random.below(3) {
                 0 => random.below(4) as u8,
                 1 => random.pick(EDGES),
-                _ => random.next() as u8,
+                _ => random.number() as u8,
             };
             (random.below(9) as u8, value)
         });
@@ -630,7 +607,7 @@ impl Call {
 }
 
 pub fn calls(published: &Published, number: usize, seed: u64) -> Result<String, String> {
-    let mut random = Random(seed);
+    let mut random = Random::new(seed);
     let lists = Lists::new(published, &mut random);
     let mut counts = Counts::default();
     while counts.calls < number {
@@ -648,7 +625,7 @@ pub fn calls(published: &Published, number: usize, seed: u64) -> Result<String, 
             error.err().unwrap_or_default()
         ));
     }
-    let again = Lists::new(published, &mut Random(seed));
+    let again = Lists::new(published, &mut Random::new(seed));
     for (one, two) in lists.lent.iter().flatten().zip(again.lent.iter().flatten()) {
         if one.first != two.first || one.second != two.second {
             return Err(format!("seed {seed}: a lent table is altered"));

@@ -1,24 +1,13 @@
 //! A second implementation, written from the numbered steps of the standard's handlers: a queue of bytes, bytes
 //! prepended to it, and the variables of each decoder. Around the handlers stand the calls with their refusals.
 
-use crate::ffi::Decoder as Record;
 use std::collections::VecDeque;
 use std::sync::OnceLock;
+use support::ffi::Decoder as Record;
+use support::{Tables, NO_TABLES};
 
 /// The index of windows-1252, from its published file.
 pub static WINDOWS_1252: OnceLock<Vec<u32>> = OnceLock::new();
-
-/// The tables that a call is lent.
-#[derive(Clone, Copy)]
-pub struct Tables<'a> {
-    pub first: &'a [u32],
-    pub second: &'a [u32],
-}
-
-pub const NO_TABLES: Tables = Tables {
-    first: &[],
-    second: &[],
-};
 
 /// Bytes to read; `None` is end-of-stream.
 type Queue = VecDeque<Option<u8>>;

@@ -2,16 +2,17 @@
 
 use crate::differences::smallest_case;
 use crate::exhaustive::alphabet;
-use crate::ffi::Decoder as Record;
 use crate::labels::Labels;
 use crate::program;
-use crate::random::Random;
-use crate::reference::{self, NO_TABLES};
+use crate::reference;
 use std::cell::Cell;
 use std::fs;
 use std::io::{Read, Write};
 use std::path::PathBuf;
 use std::process::ChildStdout;
+use support::ffi::Decoder as Record;
+use support::random::Random;
+use support::NO_TABLES;
 
 /// The lines of a text, by the reference's decoder.
 struct Text {
@@ -370,7 +371,7 @@ impl Showtext {
 
     /// Random inputs in random pieces.
     pub fn random(&self, number: usize, seed: u64) -> Result<String, String> {
-        let mut random = Random(seed);
+        let mut random = Random::new(seed);
         let labels = self.labels.all();
         let text_labels = [
             "utf-8",
@@ -398,7 +399,7 @@ impl Showtext {
             };
             for _ in 0..length {
                 input.push(match random.below(3) {
-                    0 => random.next() as u8,
+                    0 => random.number() as u8,
                     _ => random.pick(alphabet(encoding)),
                 });
             }
@@ -469,12 +470,12 @@ const MEMORY: usize = 16 << 10;
 /// UTF-8 with a few errors. The length is a prime, so that its repetition meets the ends of buffers in every phase.
 fn long_text(seed: u64) -> Vec<u8> {
     let length = 65521;
-    let mut random = Random(seed);
+    let mut random = Random::new(seed);
     let mut text = Vec::new();
     while text.len() < length {
         let scalar = match random.below(16) {
             0 => {
-                text.push(random.next() as u8);
+                text.push(random.number() as u8);
                 continue;
             }
             1 => random.below(0x80),

@@ -1,25 +1,28 @@
+-- `encode`: a refusal, or what is written. Assumes nothing.
 use Rattle.standard.specs.Encodings.{lent}
-use Rattle.encoder.proofs.Refusals.{accepted, tells-refusal, tells-written}
+use Rattle.encoder.proofs.Calls.{accepted, tells-refusal, tells-written}
 use mathlib.Core.Path.{sym, _∙_}
 use borrow.Author.Needs.{needs}
 use Rattle.encoder.proofs.encode.Statement.{statement}
 use Rattle.encoder.proofs.encode.Tie as tie
+
+-- the function's start
+abbrev start : tie.After-refusal → tie.Start
+start c = c .before .before .before .before .before
 
 refusal-requires : tie.Need-refusal-requires
 refusal-requires c κs = search needs
 
 returns : tie.Need-returns
 returns c =
-    let args = c .before .before .before .before .before .before .args in
-    let at-refusal = c .before .refusal in
-    tells-refusal (args .encoding) (args .mode) (lent (args .t1 .now) (args .t2 .now)) (args .scalars .now) (args .room .now) (at-refusal .result) (at-refusal .ensures) (c .if1 .taken)
+    let args = start (c .before) .args in
+    tells-refusal _ _ (lent (args .t1 .now) (args .t2 .now)) _ _ _ (c .before .refusal .ensures) (c .if1 .taken)
 
 write-requires : tie.Need-write-requires
 write-requires c κs =
-    let args = c .before .before .before .before .before .before .before .args in
-    let at-refusal = c .before .before .refusal in
-    let at-if1 = c .before .if1 in
-    let k = accepted (args .encoding) (args .mode) (lent (args .t1 .now) (args .t2 .now)) (args .scalars .now) (args .room .now) (sym (at-refusal .ensures) ∙ at-if1 .left) in
+    let at-refusal = c .before .before in
+    let args = start at-refusal .args in
+    let k = accepted _ _ (lent (args .t1 .now) (args .t2 .now)) _ (args .room .now) (sym (at-refusal .refusal .ensures) ∙ c .before .if1 .left) in
     (k .are-scalars, k .few, k .space)
 
 same-length : tie.Need-same-length
@@ -27,11 +30,11 @@ same-length c = search needs
 
 returns-2 : tie.Need-returns-2
 returns-2 c =
-    let args = c .before .before .before .before .before .before .before .before .before .before .args in
-    let at-refusal = c .before .before .before .before .before .refusal in
-    let at-if1 = c .before .before .before .before .if1 in
-    let at-write = c .before .before .write in
-    tells-written (args .encoding) (args .mode) (lent (args .t1 .now) (args .t2 .now)) (args .scalars .now) (args .room .now) (at-refusal .result) (at-refusal .ensures) (at-if1 .left) (at-write .ensures)
+    let at-write = c .before .before in
+    let at-if1 = at-write .before .before in
+    let at-refusal = at-if1 .before in
+    let args = start at-refusal .args in
+    tells-written _ _ (lent (args .t1 .now) (args .t2 .now)) _ _ _ (at-refusal .refusal .ensures) (at-if1 .if1 .left) (at-write .write .ensures)
 
 pub encode-spec : {M : Type 1} → statement M
 encode-spec = tie.close (tie.spec refusal-requires returns write-requires same-length returns-2)

@@ -1,3 +1,4 @@
+-- `cell`: past the end, mapped, unmapped. Assumes nothing.
 use mathlib.Core.Path.{sym, _∙_}
 use Rattle.index.proofs.Cells.{cell-out, cell-mapped, cell-unmapped}
 use native.Mathlib.Omega.{arith}

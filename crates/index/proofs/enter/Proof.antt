@@ -1,4 +1,6 @@
-use Rattle.index.proofs.Search.{told, enter-out, enter-full, enter-free}
+-- `enter`: no cell, a used cell, a free one. Assumes nothing.
+use Rattle.index_spec.proofs.Call.{enter-out, enter-full, enter-free}
+use Rattle.index.proofs.Search.{told}
 use borrow.Author.Needs.{needs}
 use Rattle.index.proofs.enter.Statement.{statement}
 use Rattle.index.proofs.enter.Tie as tie

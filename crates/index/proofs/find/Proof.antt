@@ -1,3 +1,5 @@
+-- `find`. The loop's invariant: the search from i on gives what it gives from `start` on.
+-- What falls at each turn is the number of cells left. Assumes nothing.
 use Rattle.index.proofs.Search.{stretch-end, stretch-found, stretch-on}
 use Rattle.standard.specs.Indexes.{pointerFrom}
 use lib.Seq.{slice}

@@ -1,14 +1,16 @@
+-- `index_line`: a line that is too long, and each reading of another. Assumes nothing.
 use Rattle.index.specs.IndexCode.{readOf}
 use mathlib.Core.Path.{ap, sym}
-use Rattle.index.specs.IndexRead.{noEntry, bad, entry}
-use Rattle.index.proofs.Search.{told, line-long, line-read}
+use Rattle.index_spec.specs.IndexRead.{noEntry, bad, entry}
+use Rattle.index_spec.proofs.Call.{long, short}
+use Rattle.index.proofs.Search.{told}
 use mathlib.Core.Path.{_∙_}
 use borrow.Author.Needs.{needs}
 use Rattle.index.proofs.index_line.Statement.{statement}
 use Rattle.index.proofs.index_line.Tie as tie
 
 returns : tie.Need-returns
-returns c = told (line-long ((c .before .before .before .args) .line .now) ((c .before .before .before .args) .table .now) (c .if1 .taken))
+returns c = told (long ((c .before .before .before .args) .line .now) ((c .before .before .before .args) .table .now) (c .if1 .taken))
 
 read-requires : tie.Need-read-requires
 read-requires c κs = search needs
@@ -30,27 +32,25 @@ returns-2 c =
     let args = c .before .before .before .before .before .before .args in
     let at-if1 = c .before .before .before .if1 in
     let at-read = c .before .before .read in
-    told (line-read (args .line .now) (args .table .now) (at-if1 .left) {r = noEntry} (ap readOf (sym (c .enum-told .given .1)) ∙ at-read .ensures))
+    told (short (args .line .now) (args .table .now) noEntry (at-if1 .left) (sym (at-read .ensures) ∙ ap readOf (c .enum-told .given .1)))
 
 returns-3 : tie.Need-returns-3
 returns-3 c =
     let args = c .before .before .before .before .before .before .args in
     let at-if1 = c .before .before .before .if1 in
     let at-read = c .before .before .read in
-    told (line-read (args .line .now) (args .table .now) (at-if1 .left) {r = bad} (ap readOf (sym (c .enum-told2 .given .1)) ∙ at-read .ensures))
+    told (short (args .line .now) (args .table .now) bad (at-if1 .left) (sym (at-read .ensures) ∙ ap readOf (c .enum-told2 .given .1)))
 
 same-length : tie.Need-same-length
 same-length c = search needs
 
 returns-4 : tie.Need-returns-4
 returns-4 c =
-    let args = c .before .before .before .before .before .before .before .before .before .before .before .args in
-    let at-pointer = c .before .before .before .before .before .pointer in
-    let at-read = c .before .before .before .before .before .before .before .read in
-    let at-if1 = c .before .before .before .before .before .before .before .before .if1 in
-    let at-enter = c .before .before .enter in
-    let e = ap readOf (sym (at-pointer .given .1)) ∙ at-read .ensures in
-    let t = told (line-read (args .line .now) (args .table .now) (at-if1 .left) {r = entry _ _} e) in (at-enter .ensures .0 ∙ t .0, at-enter .ensures .1 ∙ t .1)
+    let at-enter = c .before .before in
+    let at-pointer = at-enter .before .before .before in
+    let at-read = at-pointer .before .before in
+    let t = told (short _ _ (entry _ _) (at-read .before .if1 .left) (sym (at-read .read .ensures) ∙ ap readOf (at-pointer .pointer .given .1))) in
+    (at-enter .enter .ensures .0 ∙ t .0, at-enter .enter .ensures .1 ∙ t .1)
 
 pub index-line-spec : {M : Type 1} → statement M
 index-line-spec =

@@ -1,3 +1,4 @@
+-- `mapped`, by its ranges. Assumes nothing.
 use mathlib.Core.Path.{sym}
 use Rattle.index.proofs.Cells.{mapped-small, mapped-low, mapped-surrogate, mapped-high}
 use native.Mathlib.Omega.{arith}

@@ -1,3 +1,4 @@
+-- `pointer`: a stretch that is the whole table. Assumes nothing.
 use Rattle.index.proofs.Search.{whole}
 use Rattle.standard.specs.Indexes.{pointerFrom}
 use Prim.Native.Nat.{ℕ}

@@ -1,3 +1,4 @@
+-- `pointer_between`: nothing where the code point is no cell; else the search, to the end of the table at most. Assumes nothing.
 use Rattle.index.proofs.Search.{unmapped-missing, clipped}
 use Rattle.standard.specs.Indexes.{pointerFrom}
 use borrow.Author.Tests.{not-true, not-false}
@@ -26,7 +27,9 @@ returns-2 : tie.Need-returns-2
 returns-2 c =
     let args = c .before .before .before .before .before .args in
     let at-least = c .before .least in
-    c .find .ensures ∙ ap (λ (n : ℕ). pointerFrom (args .start) (slice (args .start) n (args .table .now)) (args .c)) (at-least .ensures) ∙ ap (λ (l : List ℕ). pointerFrom (args .start) l (args .c)) (clipped (args .start) (args .end) (args .table .now))
+    c .find .ensures ∙
+    ap (λ (n : ℕ). pointerFrom (args .start) (slice (args .start) n (args .table .now)) (args .c)) (at-least .ensures) ∙
+    ap (λ (l : List ℕ). pointerFrom (args .start) l (args .c)) (clipped (args .start) (args .end) (args .table .now))
 
 pub pointer-between-spec : {M : Type 1} → statement M
 pointer-between-spec =

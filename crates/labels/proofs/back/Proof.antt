@@ -1,4 +1,5 @@
--- The invariant: what stands before the white space passed has the same end. Assumes nothing.
+-- The loop's invariant: the first e bytes, without white space at their end, are the label without white space at its end.
+-- What falls at each turn is e. Assumes nothing.
 use mathlib.Core.Path.{_≡_, sym, _∙_}
 use Prim.Native.Nat.{_≤_}
 use native.Mathlib.Omega.{arith}

@@ -1,4 +1,5 @@
--- The invariant: so many bytes are copied, and the room behind them is as it was. Assumes nothing.
+-- The loop's invariant: i bytes are copied, and the room behind them is as it was.
+-- What falls at each turn is the number of bytes left. Assumes nothing.
 use mathlib.Core.Path.{refl, ap, _≡_, _∙_}
 use mathlib.Core.List.{_++_}
 use Prim.Native.Nat.{_+_, _-_, _≤_}
@@ -10,7 +11,8 @@ use Rattle.labels.proofs.copy.Statement.{statement}
 use Rattle.labels.proofs.copy.Tie as tie
 
 abbrev Inv-loop : tie.InvT-loop
-Inv-loop bytes from count room₀ i₀ room i = (i ≤ count) × (from + count ≤ length bytes) × (count ≤ length room₀) × (length room ≡ length room₀) × (room ≡ take i (drop from bytes) ++ drop i room₀)
+Inv-loop bytes from count room₀ i₀ room i = (i ≤ count) × (from + count ≤ length bytes) × (count ≤ length room₀) × (length room ≡ length room₀) ×
+    (room ≡ take i (drop from bytes) ++ drop i room₀)
 
 abbrev μ-loop : tie.MeasureT-loop
 μ-loop bytes from count room₀ i₀ room i = count - i
@@ -37,7 +39,13 @@ loop-again : tie.Need-loop-again Inv-loop μ-loop
 loop-again c =
     let args = c .before .before .before .args in
     let at-loop = c .before .before .loop in
-    (search needs, search needs, search needs, simp length-set (omega arith), ap (λ r. set r (at-loop .i) (getD (args .bytes .now) (args .from + at-loop .i) 0)) (at-loop .inv .4) ∙ copied (args .bytes .now) (args .room .now) (args .from) (at-loop .i) (omega arith) (omega arith))
+    let on = copied (args .bytes .now) (args .room .now) (args .from) (at-loop .i) (omega arith) (omega arith) in (
+      search needs,
+      search needs,
+      search needs,
+      simp length-set (omega arith),
+      ap (λ r. set r (at-loop .i) (getD (args .bytes .now) (args .from + at-loop .i) 0)) (at-loop .inv .4) ∙ on,
+    )
 
 same-length : tie.Need-same-length Inv-loop μ-loop
 same-length c = search needs

@@ -1,20 +1,22 @@
--- The constant is the list of labels, by computation; the rest is the rule of a group, and that the look-ups agree. Assumes nothing.
+-- The constant holds the table of 004, by computation, so both look-ups agree. Assumes nothing.
 use mathlib.Core.Path.{refl}
 use native.Mathlib.Omega.{arith}
 use lib.ListN.{length}
 use borrow.Author.Needs.{needs}
 use Rattle.standard.specs.Text.{bytes}
-use Rattle.labels.specs.LookUp.{labelBytes, groups, group, rowGroup}
-use Rattle.labels.specs.Labels.{table}
-use Rattle.labels.proofs.LookUp.{group-rule, alike, far, near}
+use Rattle.labels_spec.specs.Labels.{table, same, among, find}
+use Rattle.labels_spec.proofs.Known.{eachOf, each}
+use Rattle.labels.specs.LookUp.{labelStarts, begins, seekIn}
+use Rattle.labels.proofs.LookUp.{below, known, starts-rule, looked, goodGroup, holds, far, near}
 use Rattle.labels.proofs.encoding_of.Statement.{statement}
 use Rattle.labels.proofs.encoding_of.Tie as tie
 
+-- the function's start
+abbrev start : tie.After-group-start2 → tie.Start
+start c = c .before .before .before .before
+
 returns : tie.Need-returns
 returns c = far ((c .before .before .args) .label .now) (omega arith)
-
-slice-aggregate-seek-between : tie.Need-slice-aggregate-seek-between
-slice-aggregate-seek-between c = search needs
 
 group-start-requires : tie.Need-group-start-requires
 group-start-requires c κs = search needs
@@ -25,27 +27,29 @@ add-group-start c = search needs
 group-start-requires-2 : tie.Need-group-start-requires-2
 group-start-requires-2 c κs = search needs
 
+slice-aggregate-seek-between : tie.Need-slice-aggregate-seek-between
+slice-aggregate-seek-between c = search needs
+
 seek-between-requires : tie.Need-seek-between-requires
 seek-between-requires c κs =
-    let args = c .before .before .before .before .before .args in
-    (omega (arith, group-rule (length (args .label .now)) (omega arith) .ordered), omega (arith, group-rule (length (args .label .now)) (omega arith) .within))
+    let r = starts-rule (length (start (c .before) .args .label .now)) (omega arith) in
+    (omega (arith, r .0), omega (arith, r .1))
 
 returns-2 : tie.Need-returns-2
-unfolding alike labelBytes groups group rowGroup table bytes
+unfolding holds looked goodGroup known below each eachOf labelStarts seekIn begins table bytes same among find
 returns-2 c =
-    let args = c .before .before .before .before .before .before .args in
-    let at-group-start = c .before .before .group-start in
-    let at-group-start2 = c .before .group-start2 in
-    near (args .label .now) _ _ (at-group-start .result) (at-group-start2 .result) (omega arith) (at-group-start .ensures) (at-group-start2 .ensures) (c .seek-between .ensures) refl
+    let to = c .before .before in
+    let from = to .before in
+    near _ refl (start to .args .label .now) _ _ _ (omega arith) (from .group-start .ensures) (to .group-start2 .ensures) (c .seek-between .ensures)
 
 pub encoding-of-spec : {M : Type 1} → statement M
 encoding-of-spec =
     tie.close
     (tie.spec
     returns
-    slice-aggregate-seek-between
     group-start-requires
     add-group-start
     group-start-requires-2
+    slice-aggregate-seek-between
     seek-between-requires
     returns-2)

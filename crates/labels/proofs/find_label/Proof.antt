@@ -18,7 +18,7 @@ returns c =
     let args = c .before .before .before .before .before .args in
     let at-trim = c .before .before .trim in
     let at-encoding-of = c .before .encoding-of in
-    call-unknown (args .bytes .now) (at-trim .result .now) (at-encoding-of .result) (at-trim .ensures) (at-encoding-of .ensures) (c .if1 .taken)
+    call-unknown (args .bytes .now) (at-trim .result .now) (at-encoding-of .result) (at-trim .ensures .same) (at-encoding-of .ensures) (c .if1 .taken)
 
 returns-2 : tie.Need-returns-2
 returns-2 c =
@@ -26,7 +26,7 @@ returns-2 c =
     let at-trim = c .before .before .trim in
     let at-encoding-of = c .before .encoding-of in
     let at-front = c .before .before .before .front in
-    call-known (args .bytes .now) (at-trim .result .now) (at-encoding-of .result) (at-trim .ensures) (at-encoding-of .ensures) (at-front .result) (at-front .ensures .0) (c .if1 .left)
+    call-known (args .bytes .now) (at-trim .result .now) (at-encoding-of .result) (at-trim .ensures .same) (at-encoding-of .ensures) (at-front .result) (at-front .ensures .0) (c .if1 .left)
 
 pub find-label-spec : {M : Type 1} → statement M
 find-label-spec =

@@ -1,4 +1,5 @@
--- The invariant: the bytes passed, and the white space from there on, are the white space in front. Assumes nothing.
+-- The loop's invariant: the i bytes passed, and the white space from there on, are the white space in front.
+-- What falls at each turn is the number of bytes left. Assumes nothing.
 use mathlib.Core.Path.{_≡_, sym, _∙_}
 use Prim.Native.Nat.{_+_, _-_, _≤_}
 use native.Mathlib.Nat.{zero-add}
@@ -6,7 +7,7 @@ use native.Mathlib.Omega.{arith}
 use lib.ListN.{length, drop}
 use borrow.Author.Tests.{not-true, not-false}
 use borrow.Author.Needs.{needs}
-use Rattle.labels.specs.Labels.{start}
+use Rattle.labels_spec.specs.Labels.{start}
 use Rattle.labels.proofs.Ends.{start-white, start-other, start-end}
 use Rattle.labels.proofs.front.Statement.{statement}
 use Rattle.labels.proofs.front.Tie as tie

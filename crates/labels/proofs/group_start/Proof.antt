@@ -1,9 +1,7 @@
 -- The constant is the list of starts, by computation. Assumes nothing.
 use mathlib.Core.Path.{refl}
 use borrow.Author.Needs.{needs}
-use Rattle.standard.specs.Text.{bytes}
-use Rattle.labels.specs.Labels.{table}
-use Rattle.labels.specs.LookUp.{labelStarts, startsFrom, group, rowGroup}
+use Rattle.labels.specs.LookUp.{labelStarts}
 use Rattle.labels.proofs.group_start.Statement.{statement}
 use Rattle.labels.proofs.group_start.Tie as tie
 
@@ -14,7 +12,7 @@ array-read-result : tie.Need-array-read-result
 array-read-result c = search needs
 
 returns : tie.Need-returns
-unfolding labelStarts startsFrom group rowGroup table bytes
+unfolding labelStarts
 returns c = refl
 
 pub group-start-spec : {M : Type 1} → statement M

@@ -2,7 +2,7 @@
 use mathlib.Core.Path.{refl}
 use borrow.Author.Needs.{needs}
 use Rattle.standard.specs.Text.{bytes}
-use Rattle.labels.specs.Labels.{table}
+use Rattle.labels_spec.specs.Labels.{table}
 use Rattle.labels.specs.LookUp.{nameStarts, nameStartsFrom}
 use Rattle.labels.proofs.name_start.Statement.{statement}
 use Rattle.labels.proofs.name_start.Tie as tie

@@ -1,12 +1,13 @@
--- The invariant: the search from here on gives what it gives on the whole group. Assumes nothing.
-use mathlib.Core.List.{map}
+-- The loop's invariant: the search in the rest of the group gives what it gives in the whole group.
+-- What falls at each turn is the length of the rest. Assumes nothing.
+use mathlib.Core.List.{List, map}
 use mathlib.Core.Path.{_≡_, refl, sym, ap, _∙_}
-use Prim.Native.Nat.{_+_}
+use Prim.Native.Nat.{ℕ, _+_}
 use native.Mathlib.Omega.{arith}
 use lib.ListN.{length}
 use borrow.Author.Needs.{needs}
 use Rattle.labels.specs.LookUp.{seek, number}
-use Rattle.labels.specs.Labels.{fold}
+use Rattle.labels_spec.specs.Labels.{fold}
 use Rattle.labels.proofs.Ends.{rest}
 use Rattle.labels.proofs.LookUp.{step-found, step-next, step-end}
 use Rattle.labels.proofs.seek.Statement.{statement}
@@ -17,6 +18,13 @@ Inv-loop label group n rest₀ rest = (n ≡ length label) × (seek (map fold la
 
 abbrev μ-loop : tie.MeasureT-loop
 μ-loop label group n rest₀ rest = length rest
+
+-- the label, the rest of the group at a turn, and whether it begins with the label
+abbrev label : tie.After-begins Inv-loop μ-loop → List ℕ
+label c = c .before .before .before .before .before .args .label .now
+
+abbrev here : tie.After-begins Inv-loop μ-loop → List ℕ
+here c = c .before .before .loop .rest .now
 
 loop-holds : tie.Need-loop-holds Inv-loop μ-loop
 loop-holds c = (refl, refl)
@@ -29,11 +37,9 @@ shared-slice-read-result c = search needs
 
 returns : tie.Need-returns Inv-loop μ-loop
 returns c =
-    let args = c .before .before .before .before .before .before .before .args in
-    let at-loop = c .before .before .before .before .loop in
-    let at-begins = c .before .before .begins in
-    let at-if1 = c .before .if1 in
-    sym (ap number (step-found (args .label .now) (at-loop .rest .now) (length (args .label .now)) refl (omega arith) (sym (at-begins .ensures) ∙ at-if1 .taken))) ∙ ap number (at-loop .inv .1)
+    let b = c .before .before in
+    let found = step-found (label b) (here b) (length (label b)) refl (omega arith) (sym (b .begins .ensures) ∙ c .before .if1 .taken) in
+    sym (ap number found) ∙ ap number (b .before .before .loop .inv .1)
 
 add-rest : tie.Need-add-rest Inv-loop μ-loop
 add-rest c = search needs
@@ -52,11 +58,9 @@ loop-less c = omega (arith, c .rest .given .2)
 
 loop-again : tie.Need-loop-again Inv-loop μ-loop
 loop-again c =
-    let args = c .before .before .before .before .before .before .before .args in
-    let at-loop = c .before .before .before .before .loop in
-    let at-begins = c .before .before .begins in
-    let at-if1 = c .before .if1 in
-    (refl, ap (λ g. seek (map fold (args .label .now)) g) (rest (at-loop .rest .now) (length (args .label .now) + 1)) ∙ sym (step-next (args .label .now) (at-loop .rest .now) (length (args .label .now)) refl (omega arith) (sym (at-begins .ensures) ∙ at-if1 .left)) ∙ at-loop .inv .1)
+    let b = c .before .before in
+    let next = step-next (label b) (here b) (length (label b)) refl (omega arith) (sym (b .begins .ensures) ∙ c .before .if1 .left) in
+    (refl, ap (λ g. seek (map fold (label b)) g) (rest (here b) (length (label b) + 1)) ∙ sym next ∙ b .before .before .loop .inv .1)
 
 returns-2 : tie.Need-returns-2 Inv-loop μ-loop
 returns-2 c =

@@ -1,4 +1,6 @@
 -- The white space in front, and then at the end. Assumes nothing.
+use mathlib.Core.Path.{refl}
+use native.Mathlib.Omega.{arith}
 use borrow.Author.Needs.{needs}
 use Rattle.labels.proofs.Ends.{both-ends}
 use Rattle.labels.proofs.trim.Statement.{statement}
@@ -33,7 +35,11 @@ returns c =
     let args = c .before .before .before .before .before .args in
     let at-front = c .before .before .before .front in
     let at-back = c .before .back in
-    both-ends (args .label .now) (at-front .result) (at-back .result) (at-front .ensures .0) (at-back .ensures .1)
+    record {
+      same = both-ends (args .label .now) (at-front .result) (at-back .result) (at-front .ensures .0) (at-back .ensures .1);
+      block = refl;
+      offset = omega (arith, at-front .ensures .0);
+    }
 
 pub trim-spec : {M : Type 1} → statement M
 trim-spec =

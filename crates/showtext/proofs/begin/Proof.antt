@@ -1,9 +1,19 @@
 use Rattle.showtext.proofs.Buffers.{fed-fits, encoding-few, begun-long, begun-unknown, begun-refused, begun-fed}
-use Rattle.showtext.specs.Output.{line}
 use native.Mathlib.Omega.{arith}
 use borrow.Author.Needs.{needs}
 use Rattle.showtext.proofs.begin.Statement.{statement}
 use Rattle.showtext.proofs.begin.Tie as tie
+
+-- from behind the opening: the function's start, and the first line
+abbrev start : tie.After-open → tie.Start
+start o = o .before .before .before .before .before .before .before
+
+abbrev line : tie.After-open → tie.After-first-line
+line o = o .before .before .before
+
+-- from behind the feed to the opening
+abbrev opened : tie.After-feed → tie.After-open
+opened f = f .before .before .before .before .before .before
 
 first-line-requires : tie.Need-first-line-requires
 first-line-requires c κs = search needs
@@ -31,14 +41,11 @@ same-length c = search needs
 
 returns : tie.Need-returns
 returns c =
-    let args = c .before .before .before .before .before .before .before .before .before .before .before .before .args in
-    let at-pre = c .before .before .before .before .before .before .before .before .before .before .before .before .pre in
-    let at-first-line = c .before .before .before .before .before .before .before .before .first-line in
-    let at-find-label = c .before .before .before .before .before .before .find-label in
-    let at-open = c .before .before .before .before .before .open in
-    let at-if1 = c .before .before .before .before .if1 in
-    let at-refuse = c .before .before .refuse in
-    begun-long (args .input .now) (args .room .now) (args .out .now) (at-first-line .ensures .0) (at-first-line .ensures .2) (at-find-label .ensures) (at-open .ensures) at-pre (at-if1 .taken) (at-refuse .ensures)
+    let o = c .before .before .before .before .before in
+    let a = start o .args in
+    let l = line o .first-line in
+    begun-long (a .input .now) (a .room .now) (a .out .now) (l .ensures .0) (l .ensures .2) (o .before .find-label .ensures) (o .open .ensures) (start o .pre) (c .before .before .before .before .if1 .taken)
+    (c .before .before .refuse .ensures)
 
 refuse-requires-2 : tie.Need-refuse-requires-2
 refuse-requires-2 c κs = search needs
@@ -48,15 +55,12 @@ same-length-2 c = search needs
 
 returns-2 : tie.Need-returns-2
 returns-2 c =
-    let args = c .before .before .before .before .before .before .before .before .before .before .before .before .before .before .args in
-    let at-pre = c .before .before .before .before .before .before .before .before .before .before .before .before .before .before .pre in
-    let at-first-line = c .before .before .before .before .before .before .before .before .before .before .first-line in
-    let at-find-label = c .before .before .before .before .before .before .before .before .find-label in
-    let at-open = c .before .before .before .before .before .before .before .open in
-    let at-if1 = c .before .before .before .before .before .before .if1 in
-    let at-if2 = c .before .before .before .before .if2 in
-    let at-refuse2 = c .before .before .refuse2 in
-    begun-unknown (args .input .now) (args .room .now) (args .out .now) (at-first-line .ensures .0) (at-first-line .ensures .2) (at-find-label .ensures) (at-open .ensures) at-pre (at-if1 .left) (at-if2 .taken) (at-refuse2 .ensures)
+    let here = c .before .before .before .before in
+    let o = here .before .before .before in
+    let a = start o .args in
+    let l = line o .first-line in
+    begun-unknown (a .input .now) (a .room .now) (a .out .now) (l .ensures .0) (l .ensures .2) (o .before .find-label .ensures) (o .open .ensures) (start o .pre) (here .before .before .if1 .left)
+    (here .if2 .taken) (c .before .before .refuse2 .ensures)
 
 after-line-requires : tie.Need-after-line-requires
 after-line-requires c κs = search needs
@@ -66,8 +70,8 @@ feed-requires c κs = search needs
 
 refuse-requires-3 : tie.Need-refuse-requires-3
 refuse-requires-3 c κs =
-    let at-pre = c .before .before .before .before .before .before .before .before .before .before .before .before .before .before .before .before .before .before .pre in
-    omega (arith, at-pre)
+    let f = c .before .before .before .before .before in
+    omega (arith, start (opened f) .pre)
 
 same-length-3 : tie.Need-same-length-3
 same-length-3 c = search needs
@@ -77,32 +81,30 @@ same-length-4 c = search needs
 
 returns-3 : tie.Need-returns-3
 returns-3 c =
-    let args = c .before .before .before .before .before .before .before .before .before .before .before .before .before .before .before .before .before .before .before .before .before .args in
-    let at-pre = c .before .before .before .before .before .before .before .before .before .before .before .before .before .before .before .before .before .before .before .before .before .pre in
-    let at-first-line = c .before .before .before .before .before .before .before .before .before .before .before .before .before .before .before .before .before .first-line in
-    let at-find-label = c .before .before .before .before .before .before .before .before .before .before .before .before .before .before .before .find-label in
-    let at-open = c .before .before .before .before .before .before .before .before .before .before .before .before .before .before .open in
-    let at-if1 = c .before .before .before .before .before .before .before .before .before .before .before .before .before .if1 in
-    let at-if2 = c .before .before .before .before .before .before .before .before .before .before .before .if2 in
-    let at-after-line = c .before .before .before .before .before .before .before .before .before .before .after-line in
-    let at-feed = c .before .before .before .before .before .before .before .before .feed in
-    let at-if3 = c .before .before .before .before .if3 in
-    let at-refuse3 = c .before .before .refuse3 in
-    begun-refused (args .input .now) (args .room .now) (args .out .now) (at-first-line .ensures .0) (at-first-line .ensures .2) (at-find-label .ensures) (at-open .ensures) at-pre (at-if1 .left) (at-if2 .left) (at-after-line .ensures) (at-feed .ensures .0) (at-feed .ensures .1) (at-if3 .taken) (at-refuse3 .ensures)
+    let here = c .before .before .before .before in
+    let f = here .before .before .before .before in
+    let o = opened f in
+    let a = start o .args in
+    let l = line o .first-line in
+    begun-refused (a .input .now) (a .room .now) (a .out .now) (l .ensures .0) (l .ensures .2) (o .before .find-label .ensures) (o .open .ensures) (start o .pre) (f .before .before .before .before .before .if1 .left)
+    (f .before .before .before .if2 .left) (f .before .before .after-line .ensures) (f .feed .ensures .0) (f .feed .ensures .1) (here .if3 .taken) (c .before .before .refuse3 .ensures)
 
 put-encoding-requires : tie.Need-put-encoding-requires
 put-encoding-requires c κs =
-    let at-pre = c .before .before .before .before .before .before .before .before .before .before .before .before .before .before .before .before .before .before .pre in
-    omega (arith, at-pre)
+    let f = c .before .before .before .before .before in
+    omega (arith, start (opened f) .pre)
 
 show-requires : tie.Need-show-requires
 show-requires c κs =
-    let args = c .before .before .before .before .before .before .before .before .before .before .before .before .before .before .before .before .before .before .before .before .before .before .before .args in
-    let at-pre = c .before .before .before .before .before .before .before .before .before .before .before .before .before .before .before .before .before .before .before .before .before .before .before .pre in
-    let at-find-label = c .before .before .before .before .before .before .before .before .before .before .before .before .before .before .before .before .before .find-label in
-    let at-feed = c .before .before .before .before .before .before .before .before .before .before .feed in
-    let at-put-encoding = c .before .before .before .before .put-encoding in
-    let f = fed-fits _ _ (args .room .now) (at-feed .ensures .0) (at-feed .ensures .1) in (f .1, omega (arith, f .0, at-pre, at-put-encoding .ensures .behind, encoding-few (at-find-label .result .encoding), at-put-encoding .kept .0), omega (arith, f .0, at-pre))
+    let encoded = c .before .before .before .before in
+    let f = encoded .before .before .before .before .before .before in
+    let o = opened f in
+    let pre = start o .pre in
+    let fits = fed-fits _ _ (start o .args .room .now) (f .feed .ensures .0) (f .feed .ensures .1) in (
+      fits .1,
+      omega (arith, fits .0, pre, encoded .put-encoding .ensures .behind, encoding-few (o .before .find-label .result .encoding), encoded .put-encoding .kept .0),
+      omega (arith, fits .0, pre),
+    )
 
 same-length-5 : tie.Need-same-length-5
 same-length-5 c = search needs
@@ -112,19 +114,15 @@ same-length-6 c = search needs
 
 returns-4 : tie.Need-returns-4
 returns-4 c =
-    let args = c .before .before .before .before .before .before .before .before .before .before .before .before .before .before .before .before .before .before .before .before .before .before .before .before .before .before .args in
-    let at-pre = c .before .before .before .before .before .before .before .before .before .before .before .before .before .before .before .before .before .before .before .before .before .before .before .before .before .before .pre in
-    let at-first-line = c .before .before .before .before .before .before .before .before .before .before .before .before .before .before .before .before .before .before .before .before .before .before .first-line in
-    let at-find-label = c .before .before .before .before .before .before .before .before .before .before .before .before .before .before .before .before .before .before .before .before .find-label in
-    let at-open = c .before .before .before .before .before .before .before .before .before .before .before .before .before .before .before .before .before .before .before .open in
-    let at-if1 = c .before .before .before .before .before .before .before .before .before .before .before .before .before .before .before .before .before .before .if1 in
-    let at-if2 = c .before .before .before .before .before .before .before .before .before .before .before .before .before .before .before .before .if2 in
-    let at-after-line = c .before .before .before .before .before .before .before .before .before .before .before .before .before .before .before .after-line in
-    let at-feed = c .before .before .before .before .before .before .before .before .before .before .before .before .before .feed in
-    let at-if3 = c .before .before .before .before .before .before .before .before .before .if3 in
-    let at-put-encoding = c .before .before .before .before .before .before .before .put-encoding in
-    let at-show = c .before .before .show in
-    begun-fed (args .input .now) (args .room .now) (args .out .now) (at-first-line .ensures .0) (at-first-line .ensures .2) (at-find-label .ensures) (at-open .ensures) at-pre (at-if1 .left) (at-if2 .left) (at-after-line .ensures) (at-feed .ensures .0) (at-feed .ensures .1) (at-if3 .left) (at-put-encoding .ensures) (at-show .ensures)
+    let encoded = c .before .before .before .before .before .before .before in
+    let here = encoded .before .before in
+    let f = here .before .before .before .before in
+    let o = opened f in
+    let a = start o .args in
+    let l = line o .first-line in
+    begun-fed (a .input .now) (a .room .now) (a .out .now) (l .ensures .0) (l .ensures .2) (o .before .find-label .ensures) (o .open .ensures) (start o .pre) (f .before .before .before .before .before .if1 .left)
+    (f .before .before .before .if2 .left) (f .before .before .after-line .ensures) (f .feed .ensures .0) (f .feed .ensures .1) (here .if3 .left)
+    (encoded .put-encoding .ensures) (c .before .before .show .ensures)
 
 pub begin-spec : {M : Type 1} → statement M
 begin-spec =

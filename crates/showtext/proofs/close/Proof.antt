@@ -5,26 +5,40 @@ use borrow.Author.Needs.{needs}
 use Rattle.showtext.proofs.close.Statement.{statement}
 use Rattle.showtext.proofs.close.Tie as tie
 
+-- the places behind the lines: the function's start, and the finish
+abbrev start : tie.After-show → tie.Start
+start c = c .before .before .before .before .before .before .before .before .before
+
+abbrev finished : tie.After-show → tie.After-finish
+finished c = c .before .before .before .before .before
+
 finish-requires : tie.Need-finish-requires
 finish-requires c κs = search needs
 
 show-requires : tie.Need-show-requires
 show-requires c κs =
-    let args = c .before .before .before .before .before .before .before .before .args in
-    let at-pre = c .before .before .before .before .before .before .before .before .pre in
+    let s = c .before .before .before .before .before .before .before .before in
     let at-finish = c .before .before .before .before .finish in
-    let f = finished-fits (args .decoder) (args .room .now) (at-finish .ensures .0) (at-finish .ensures .1) in (f .1, omega (arith, f .0, at-pre .0), omega (arith, f .0, at-pre .1))
+    let f = finished-fits (s .args .decoder) (s .args .room .now) (at-finish .ensures .0) (at-finish .ensures .1) in
+    (f .1, omega (arith, f .0, s .pre .0), omega (arith, f .0, s .pre .1))
 
 slice-aggregate-put-number : tie.Need-slice-aggregate-put-number
 slice-aggregate-put-number c = search needs
 
 put-number-requires : tie.Need-put-number-requires
 put-number-requires c κs =
-    let args = c .before .before .before .before .before .before .before .before .before .before .before .before .before .before .args in
-    let at-pre = c .before .before .before .before .before .before .before .before .before .before .before .before .before .before .pre in
-    let at-finish = c .before .before .before .before .before .before .before .before .before .before .finish in
-    let at-show = c .before .before .before .before .before .show in
-    let f = finished-fits (args .decoder) (args .room .now) (at-finish .ensures .0) (at-finish .ensures .1) in omega (arith, f .0, at-pre .0, at-show .ensures .put .behind, at-show .kept .1 .1 .1 .0, shown-few (args .count) (at-finish .result .written) (at-finish .last .1 .0))
+    let at-show = c .before .before .before .before in
+    let s = start at-show in
+    let at-finish = finished at-show .finish in
+    let f = finished-fits (s .args .decoder) (s .args .room .now) (at-finish .ensures .0) (at-finish .ensures .1) in
+    omega (
+      arith,
+      f .0,
+      s .pre .0,
+      at-show .show .ensures .put .behind,
+      at-show .show .kept .1 .1 .1 .0,
+      shown-few (s .args .count) (at-finish .result .written) (at-finish .last .1 .0),
+    )
 
 same-length : tie.Need-same-length
 same-length c = search needs
@@ -35,12 +49,11 @@ same-length-2 c = search needs
 returns : tie.Need-returns
 unfolding bytes
 returns c =
-    let args = c .before .before .before .before .before .before .before .before .before .before .before .before .before .before .before .before .before .args in
-    let at-pre = c .before .before .before .before .before .before .before .before .before .before .before .before .before .before .before .before .before .pre in
-    let at-finish = c .before .before .before .before .before .before .before .before .before .before .before .before .before .finish in
-    let at-show = c .before .before .before .before .before .before .before .before .show in
-    let at-put-number = c .before .before .put-number in
-    closed-up (args .decoder) (args .count) (args .room .now) (args .out .now) (at-finish .ensures .0) (at-finish .ensures .1) (at-show .ensures) (at-put-number .ensures) (omega (arith, at-pre .0))
+    let at-show = c .before .before .before .before .before .before .before in
+    let s = start at-show in
+    let at-finish = finished at-show .finish in
+    let at-end = c .before .before .put-number in
+    closed-up (s .args .decoder) (s .args .count) (s .args .room .now) (s .args .out .now) (at-finish .ensures .0) (at-finish .ensures .1) (at-show .show .ensures) (at-end .ensures) (omega (arith, s .pre .0))
 
 pub close-spec : {M : Type 1} → statement M
 close-spec =

@@ -5,11 +5,15 @@ use borrow.Author.Needs.{needs}
 use Rattle.showtext.proofs.fill.Statement.{statement}
 use Rattle.showtext.proofs.fill.Tie as tie
 
+-- The first n bytes of the buffer are read, and its length stays. What falls is the part that is not filled yet.
 abbrev Inv-loop : tie.InvT-loop
-Inv-loop buffer₀ n₀ t5 buffer n = (n ≤ length buffer) × (length buffer ≡ length buffer₀) × (length buffer₀ < 2 ^ 32)
+Inv-loop step buffer₀ n₀ t6 buffer n = (n ≤ length buffer) × (length buffer ≡ length buffer₀) × (length buffer₀ < 2 ^ 32)
 
 abbrev μ-loop : tie.MeasureT-loop
-μ-loop buffer₀ n₀ t5 buffer n = length buffer₀ - n
+μ-loop step buffer₀ n₀ t6 buffer n = length buffer₀ - n
+
+returns : tie.Need-returns Inv-loop μ-loop
+returns c = search needs
 
 loop-holds : tie.Need-loop-holds Inv-loop μ-loop
 loop-holds c = search needs
@@ -38,8 +42,8 @@ add-result c = search needs
 same-length : tie.Need-same-length Inv-loop μ-loop
 same-length c = search needs
 
-returns : tie.Need-returns Inv-loop μ-loop
-returns c = search needs
+returns-2 : tie.Need-returns-2 Inv-loop μ-loop
+returns-2 c = search needs
 
 sub-count : tie.Need-sub-count Inv-loop μ-loop
 sub-count c = search needs
@@ -56,8 +60,8 @@ count-requires c κs = search needs
 same-length-2 : tie.Need-same-length-2 Inv-loop μ-loop
 same-length-2 c = search needs
 
-returns-2 : tie.Need-returns-2 Inv-loop μ-loop
-returns-2 c = search needs
+returns-3 : tie.Need-returns-3 Inv-loop μ-loop
+returns-3 c = search needs
 
 add-n : tie.Need-add-n Inv-loop μ-loop
 add-n c = search needs
@@ -71,8 +75,8 @@ loop-again c = search needs
 same-length-3 : tie.Need-same-length-3 Inv-loop μ-loop
 same-length-3 c = search needs
 
-returns-3 : tie.Need-returns-3 Inv-loop μ-loop
-returns-3 c = search needs
+returns-4 : tie.Need-returns-4 Inv-loop μ-loop
+returns-4 c = search needs
 
 pub fill-spec : {M : Type 1} → statement M
 fill-spec =
@@ -80,6 +84,7 @@ fill-spec =
     (tie.spec
     Inv-loop
     μ-loop
+    returns
     loop-holds
     sub-read
     part-read-start
@@ -89,15 +94,15 @@ fill-spec =
     fail-requires
     add-result
     same-length
-    returns
+    returns-2
     sub-count
     part-count-start
     part-count-end
     count-requires
     same-length-2
-    returns-2
+    returns-3
     add-n
     loop-less
     loop-again
     same-length-3
-    returns-3)
+    returns-4)

@@ -6,6 +6,7 @@ use native.Mathlib.Omega.{arith}
 use Rattle.showtext.proofs.first_line.Statement.{statement}
 use Rattle.showtext.proofs.first_line.Tie as tie
 
+-- No line feed is among the first i bytes. What falls is the bytes that are left.
 abbrev Inv-loop : tie.InvT-loop
 Inv-loop input i₀ i = Passed input i
 

@@ -4,13 +4,17 @@ use borrow.Author.Needs.{needs}
 use Rattle.showtext.proofs.go_on.Statement.{statement}
 use Rattle.showtext.proofs.go_on.Tie as tie
 
+-- from behind the feed to the start
+abbrev start : tie.After-feed → tie.Start
+start c = c .before .before .before .before .before
+
 feed-requires : tie.Need-feed-requires
 feed-requires c κs = search needs
 
 show-requires : tie.Need-show-requires
 show-requires c κs =
-    let args = c .before .before .before .before .before .before .before .before .before .args in
-    let at-pre = c .before .before .before .before .before .before .before .before .before .pre in
+    let args = start (c .before .before .before .before) .args in
+    let at-pre = start (c .before .before .before .before) .pre in
     let at-feed = c .before .before .before .before .feed in
     let f = fed-fits (args .decoder) (args .chunk .now) (args .room .now) (at-feed .ensures .0) (at-feed .ensures .1) in (f .1, omega (arith, f .0, at-pre .0), omega (arith, f .0, at-pre .1))
 
@@ -22,8 +26,8 @@ same-length-2 c = search needs
 
 returns : tie.Need-returns
 returns c =
-    let args = c .before .before .before .before .before .before .before .before .before .before .before .before .args in
-    let at-pre = c .before .before .before .before .before .before .before .before .before .before .before .before .pre in
+    let args = start (c .before .before .before .before .before .before .before) .args in
+    let at-pre = start (c .before .before .before .before .before .before .before) .pre in
     let at-feed = c .before .before .before .before .before .before .before .feed in
     let at-show = c .before .before .show in
     went-on (args .decoder) (args .count) (args .chunk .now) (args .room .now) (args .out .now) (at-feed .ensures .0) (at-feed .ensures .1) (at-show .ensures) (omega (arith, at-pre .0))

@@ -1,3 +1,4 @@
+-- `digits` calls itself for all digits but the last; the number falls. Assumes nothing.
 use Rattle.encoder.proofs.Rooms.{digits-one-length, digits-more-length}
 use borrow.Author.Needs.{needs}
 use native.Mathlib.Omega.{arith}

@@ -1,3 +1,4 @@
+-- `put_digits` calls itself for all digits but the last; the number falls. Assumes nothing.
 use Rattle.encoder.proofs.Rooms.{put-one-digit, put-more-digits, digits-room, digits-one-length}
 use borrow.Author.Needs.{needs}
 use native.Mathlib.Omega.{arith}
@@ -59,13 +60,17 @@ put-digits-returns :
     (put-digits-below t, put-digits.Post)
     (put-digits-at t)
     put-digits.Post
-put-digits-returns t c = put-one-digit ((c .before .before .args) .room .now) ((c .before .before .args) .at) ((c .before .before .args) .c) _ (search needs) (search needs)
+put-digits-returns t c =
+    let args = c .before .before .args in
+    put-one-digit (args .room .now) (args .at) (args .c) _ (search needs) (search needs)
 
 put-digits-put-digits-requires : (t : ℕ) → put-digits-lts.Need-put-digits-requires (
   put-digits-below t,
   put-digits.Post,
 ) (put-digits-at t) put-digits.Post
-put-digits-put-digits-requires t c κs = (omega (arith, c .before .before .before .pre .0), omega (arith, digits-room ((c .before .before .before .args) .room .now) ((c .before .before .before .args) .at) ((c .before .before .before .args) .c) _ (search needs) (c .before .before .before .pre .1)))
+put-digits-put-digits-requires t c κs =
+    let s = c .before .before .before in
+    (omega (arith, s .pre .0), omega (arith, digits-room (s .args .room .now) (s .args .at) (s .args .c) _ (search needs) (s .pre .1)))
 
 put-digits-add-room-2 : (t : ℕ) → put-digits-lts.Need-add-room-2 (
   put-digits-below t,
@@ -83,13 +88,19 @@ put-digits-slice-write-room-2 : (t : ℕ) → put-digits-lts.Need-slice-write-ro
   put-digits-below t,
   put-digits.Post,
 ) (put-digits-at t) put-digits.Post
-put-digits-slice-write-room-2 t c = omega (arith, digits-room ((c .before .before .before .before .before .before .args) .room .now) ((c .before .before .before .before .before .before .args) .at) ((c .before .before .before .before .before .before .args) .c) _ (search needs) (c .before .before .before .before .before .before .pre .1), c .before .before .put-digits .ensures .0, c .before .before .put-digits .kept .0)
+put-digits-slice-write-room-2 t c =
+    let at-call = c .before .before in
+    let s = at-call .before .before .before .before in
+    omega (arith, digits-room (s .args .room .now) (s .args .at) (s .args .c) _ (search needs) (s .pre .1), at-call .put-digits .ensures .0, at-call .put-digits .kept .0)
 
 put-digits-add-result-2 : (t : ℕ) → put-digits-lts.Need-add-result-2 (
   put-digits-below t,
   put-digits.Post,
 ) (put-digits-at t) put-digits.Post
-put-digits-add-result-2 t c = record { fits = omega (arith, digits-room ((c .before .before .before .before .before .before .args) .room .now) ((c .before .before .before .before .before .before .args) .at) ((c .before .before .before .before .before .before .args) .c) _ (search needs) (c .before .before .before .before .before .before .pre .1), c .before .before .put-digits .ensures .0) }
+put-digits-add-result-2 t c =
+    let at-call = c .before .before in
+    let s = at-call .before .before .before .before in
+    record { fits = omega (arith, digits-room (s .args .room .now) (s .args .at) (s .args .c) _ (search needs) (s .pre .1), at-call .put-digits .ensures .0) }
 
 put-digits-same-length-2 : (t : ℕ) → put-digits-lts.Need-same-length-2 (
   put-digits-below t,
@@ -101,7 +112,10 @@ put-digits-returns-2 : (t : ℕ) → put-digits-lts.Need-returns-2 (
   put-digits-below t,
   put-digits.Post,
 ) (put-digits-at t) put-digits.Post
-put-digits-returns-2 t c = put-more-digits ((c .before .before .before .before .before .before .args) .room .now) ((c .before .before .before .before .before .before .args) .at) ((c .before .before .before .before .before .before .args) .c) _ (c .before .before .put-digits .result) _ (search needs) (c .before .before .put-digits .ensures .0) (c .before .before .put-digits .ensures .1) (search needs)
+put-digits-returns-2 t c =
+    let at-call = c .before .before in
+    let args = at-call .before .before .before .before .args in
+    put-more-digits (args .room .now) (args .at) (args .c) _ _ _ (search needs) (at-call .put-digits .ensures .0) (at-call .put-digits .ensures .1) (search needs)
 
 pub +put-digits-spec : {M : Type 1} → statement M
 +put-digits-spec = close μ-put-digits λ t. put-digits-lts.spec (

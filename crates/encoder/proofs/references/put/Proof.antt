@@ -1,3 +1,4 @@
+-- `references::put`: the reference by its parts. Assumes nothing.
 use Rattle.encoder.proofs.Rooms.{reference-length, put-reference}
 use lib.ListN.{length-set}
 use native.Mathlib.Omega.{arith}

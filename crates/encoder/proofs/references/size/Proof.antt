@@ -1,3 +1,4 @@
+-- `references::size`: three bytes more than the digits. Assumes nothing.
 use Rattle.encoder.proofs.Rooms.{reference-length}
 use native.Mathlib.Omega.{arith}
 use borrow.Author.Needs.{needs}

@@ -1,3 +1,4 @@
+-- `slots::byte_of`: ASCII, a slot that holds the scalar, or the search. Assumes nothing.
 use native.Mathlib.Omega.{arith}
 use Rattle.encoder.proofs.Filling.{below-80, by-slot}
 use Prim.Native.Nat.{_%_}

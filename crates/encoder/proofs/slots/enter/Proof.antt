@@ -1,3 +1,4 @@
+-- `slots::enter`: a cell that counts as mapped is stored in its slot. Assumes nothing.
 use mathlib.Core.Path.{sym, _∙_}
 use native.Mathlib.Omega.{arith}
 use Rattle.encoder.proofs.Filling.{mapped-most, entered-not, entered-there}

@@ -1,3 +1,4 @@
+-- `slots::fill`: x-user-defined has no slots, windows-1252 its irregular cells and then the others, single-byte its table. Assumes nothing.
 use lib.ListN.{length}
 use Prim.Native.Nat.{ℕ}
 use mathlib.Core.Path.{ap, _∙_}
@@ -10,6 +11,10 @@ use borrow.Author.Needs.{needs}
 use Rattle.encoder.proofs.slots.fill.Statement.{statement}
 use Rattle.encoder.proofs.slots.fill.Tie as tie
 
+-- the function's start
+abbrev start : tie.Else1 → tie.Start
+start c = c .before .before .before
+
 returns : tie.Need-returns
 returns c =
     let args = c .before .before .before .args in
@@ -21,42 +26,39 @@ slice-aggregate-fill-table c = search needs
 
 fill-table-requires : tie.Need-fill-table-requires
 fill-table-requires c κs =
-    let at-pre = c .before .before .before .before .before .before .pre in
-    (omega arith, at-pre .2)
+    (omega arith, start (c .before .before .before) .pre .2)
 
 fill-regular-requires : tie.Need-fill-regular-requires
 unfolding irregular
 fill-regular-requires c κs =
-    let at-fill-table = c .before .before .before .fill-table in
-    let at-pre = c .before .before .before .before .before .before .before .before .before .before .pre in
-    (at-fill-table .kept .1 .0 ∙ ap length (at-pre .2) ∙ length-replicate {A = ℕ} 2048 0, windows-slots _ (at-fill-table .ensures))
+    let at-fill = c .before .before .before in
+    let s = start (at-fill .before .before .before .before) in
+    (at-fill .fill-table .kept .1 .0 ∙ ap length (s .pre .2) ∙ length-replicate {A = ℕ} 2048 0, windows-slots _ (at-fill .fill-table .ensures))
 
 same-length : tie.Need-same-length
 same-length c = search needs
 
 returns-2 : tie.Need-returns-2
 returns-2 c =
-    let args = c .before .before .before .before .before .before .before .before .before .before .before .before .before .args in
-    let at-if2 = c .before .before .before .before .before .before .before .before .before .if2 in
-    let at-fill-regular = c .before .before .fill-regular in
-    slots-as _ (λ (x : ℕ). of-windows-1252 (args .encoding) (args .table .now) x (at-if2 .taken)) (at-fill-regular .ensures)
+    let at-regular = c .before .before in
+    let at-table = at-regular .before .before .before .before in
+    let at-if2 = at-table .before .before .before in
+    slots-as _ (λ (x : ℕ). of-windows-1252 _ _ x (at-if2 .if2 .taken)) (at-regular .fill-regular .ensures)
 
 fill-table-requires-2 : tie.Need-fill-table-requires-2
 fill-table-requires-2 c κs =
-    let at-pre = c .before .before .before .before .before .pre in
-    (at-pre .1, at-pre .2)
+    let s = start (c .before .before) in
+    (s .pre .1, s .pre .2)
 
 same-length-2 : tie.Need-same-length-2
 same-length-2 c = search needs
 
 returns-3 : tie.Need-returns-3
 returns-3 c =
-    let args = c .before .before .before .before .before .before .before .before .args in
-    let at-pre = c .before .before .before .before .before .before .before .before .pre in
-    let at-if2 = c .before .before .before .before .if2 in
-    let at-if1 = c .before .before .before .before .before .if1 in
-    let at-fill-table2 = c .before .before .fill-table2 in
-    slots-as _ (λ (x : ℕ). of-single-byte (args .encoding) (args .table .now) x (λ z. omega (arith, at-pre .0, z)) (at-if2 .left) (at-if1 .left)) (at-fill-table2 .ensures)
+    let at-table = c .before .before in
+    let at-if2 = at-table .before .before in
+    let least = start (at-if2 .before) .pre .0 in
+    slots-as _ (λ (x : ℕ). of-single-byte _ _ x (λ z. omega (arith, least, z)) (at-if2 .if2 .left) (at-if2 .before .if1 .left)) (at-table .fill-table2 .ensures)
 
 pub fill-spec : {M : Type 1} → statement M
 fill-spec =

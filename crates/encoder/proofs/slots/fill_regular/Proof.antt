@@ -1,3 +1,5 @@
+-- `slots::fill_regular`. The loop's invariant: c is from A0 to 100, and every slot is right for windows-1252.
+-- What falls at each turn is 100 less c. Assumes nothing.
 use lib.ListN.{length}
 use Prim.Native.Nat.{_-_}
 use mathlib.Core.Path.{sym, _∙_}
@@ -52,7 +54,8 @@ loop-again : tie.Need-loop-again Inv-loop μ-loop
 loop-again c =
     let at-loop = c .before .loop in
     let at-loop-test = c .loop-test in
-    (simp length-set (at-loop .inv .0), omega (arith, at-loop .inv .1), omega (arith, at-loop-test .taken), regular-on _ (at-loop .c) (at-loop .inv .0) (at-loop .inv .1) (at-loop-test .taken) (at-loop .inv .3))
+    let right = regular-on _ (at-loop .c) (at-loop .inv .0) (at-loop .inv .1) (at-loop-test .taken) (at-loop .inv .3) in
+    (simp length-set (at-loop .inv .0), omega (arith, at-loop .inv .1), omega (arith, at-loop-test .taken), right)
 
 same-length : tie.Need-same-length Inv-loop μ-loop
 same-length c =

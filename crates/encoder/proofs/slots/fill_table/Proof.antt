@@ -1,3 +1,5 @@
+-- `slots::fill_table`. The loop's invariant: every slot is empty, or holds a scalar of its remainder with its first pointer among the cells from p on.
+-- What falls at each turn is p. Assumes nothing.
 use lib.ListN.{length}
 use Prim.Native.Nat.{ℕ}
 use mathlib.Core.Path.{sym, ap, _∙_}
@@ -13,6 +15,10 @@ Inv-loop table slots₀ p₀ slots p = Filled table p slots
 
 abbrev μ-loop : tie.MeasureT-loop
 μ-loop table slots₀ p₀ slots p = p
+
+-- the function's start
+abbrev start : tie.At-loop Inv-loop μ-loop → tie.Start Inv-loop μ-loop
+start c = c .before .before .before
 
 loop-holds : tie.Need-loop-holds Inv-loop μ-loop
 loop-holds c =
@@ -33,22 +39,18 @@ shared-slice-read-enter c =
 
 enter-requires : tie.Need-enter-requires Inv-loop μ-loop
 enter-requires c κs =
-    let at-loop = c .before .before .before .loop in
-    let at-pre = c .before .before .before .before .before .before .pre in
-    let at-loop-test = c .before .before .loop-test in
-    (at-loop .inv .size, omega (arith, at-loop .inv .inside, at-pre .0, at-loop-test .taken))
+    let at-loop = c .before .before .before in
+    (at-loop .loop .inv .size, omega (arith, at-loop .loop .inv .inside, start at-loop .pre .0, c .before .before .loop-test .taken))
 
 loop-less : tie.Need-loop-less Inv-loop μ-loop
 loop-less c = search needs
 
 loop-again : tie.Need-loop-again Inv-loop μ-loop
 loop-again c =
-    let args = c .before .before .before .before .before .before .before .before .before .args in
-    let at-loop = c .before .before .before .before .before .before .loop in
-    let at-pre = c .before .before .before .before .before .before .before .before .before .pre in
-    let at-loop-test = c .before .before .before .before .before .loop-test in
-    let at-enter = c .before .before .enter in
-    filled-on (args .table .now) _ _ (at-loop .p) (at-pre .0) (at-loop-test .taken) (at-loop .inv) (at-enter .ensures)
+    let at-enter = c .before .before in
+    let at-test = at-enter .before .before .before in
+    let at-loop = at-test .before in
+    filled-on _ _ _ _ (start at-loop .pre .0) (at-test .loop-test .taken) (at-loop .loop .inv) (at-enter .enter .ensures)
 
 same-length : tie.Need-same-length Inv-loop μ-loop
 same-length c =

@@ -1,3 +1,4 @@
+-- `at_least`, by its test. Assumes nothing.
 use borrow.Author.Tests.{lt-ltb, le-ltb}
 use native.Mathlib.Omega.{arith}
 use Rattle.encoder.proofs.utf8.at_least.Statement.{statement}

@@ -1,3 +1,4 @@
+-- `put_four`: four stores. Assumes nothing.
 use Rattle.encoder.proofs.Rooms.{put-four}
 use native.Mathlib.Omega.{arith}
 use lib.ListN.{length-set}

@@ -1,3 +1,4 @@
+-- `put_three`: three stores. Assumes nothing.
 use Rattle.encoder.proofs.Rooms.{put-three}
 use native.Mathlib.Omega.{arith}
 use lib.ListN.{length-set}

@@ -1,3 +1,4 @@
+-- `put_two`: two stores. Assumes nothing.
 use Rattle.encoder.proofs.Rooms.{put-two}
 use native.Mathlib.Omega.{arith}
 use lib.ListN.{length-set}

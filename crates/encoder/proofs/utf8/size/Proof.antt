@@ -1,3 +1,4 @@
+-- `utf8::size`: a byte more for each test that holds. Assumes nothing.
 use Rattle.encoder.proofs.Scalars.{utf8-size}
 use native.Mathlib.Omega.{arith}
 use borrow.Author.Needs.{needs}
@@ -25,10 +26,10 @@ add-result-3 c = search needs
 returns : tie.Need-returns
 returns c =
     let args = c .before .before .before .args in
-    let at-at-least = c .before .before .at-least in
-    let at-at-least2 = c .before .at-least2 in
-    let at-at-least3 = c .at-least3 in
-    (utf8-size (args .c) (at-at-least .result) (at-at-least2 .result) (at-at-least3 .result) (at-at-least .ensures .0) (at-at-least2 .ensures .0) (at-at-least3 .ensures .0), omega (arith, at-at-least .ensures .1, at-at-least2 .ensures .1, at-at-least3 .ensures .1))
+    let two = c .before .before .at-least .ensures in
+    let three = c .before .at-least2 .ensures in
+    let four = c .at-least3 .ensures in
+    (utf8-size (args .c) _ _ _ (two .0) (three .0) (four .0), omega (arith, two .1, three .1, four .1))
 
 pub size-spec : {M : Type 1} → statement M
 size-spec =

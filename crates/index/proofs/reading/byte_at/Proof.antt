@@ -1,3 +1,4 @@
+-- `byte_at`: within the line, or past its end. Assumes nothing.
 use lib.ListN.{List·getD-eq-default}
 use mathlib.Core.Path.{sym}
 use borrow.Author.Needs.{needs}

@@ -1,3 +1,4 @@
+-- `closed`: the end, or a tab. Assumes nothing.
 use Rattle.index.proofs.Parts.{ending-end, ending-at}
 use mathlib.Core.Path.{sym}
 use borrow.Author.Needs.{needs}

@@ -1,3 +1,4 @@
+-- `decimal`, by its range. Assumes nothing.
 use Rattle.index.proofs.Parts.{decimal-small, decimal-large}
 use mathlib.Core.Path.{sym}
 use borrow.Author.Needs.{needs}

@@ -1,3 +1,4 @@
+-- `digit`, by its ranges. Assumes nothing.
 use Rattle.index.proofs.Parts.{digit-none, digit-number, digit-letter}
 use borrow.Author.Needs.{needs}
 use Rattle.index.proofs.reading.digit.Statement.{statement}

@@ -1,3 +1,4 @@
+-- `hexadecimal`, by its ranges. Assumes nothing.
 use Rattle.index.proofs.Parts.{hexadecimal-small, hexadecimal-large}
 use mathlib.Core.Path.{sym, _∙_}
 use borrow.Author.Needs.{needs}

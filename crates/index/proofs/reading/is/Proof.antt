@@ -1,3 +1,4 @@
+-- `is`, by the kind. Assumes nothing.
 use borrow.Author.Needs.{needs}
 use Rattle.index.proofs.reading.is.Statement.{statement}
 use Rattle.index.proofs.reading.is.Tie as tie

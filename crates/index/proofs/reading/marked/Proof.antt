@@ -1,3 +1,4 @@
+-- `marked`: a tab, 0 and x, one after the other. Assumes nothing.
 use Rattle.index.proofs.Parts.{mark-first, mark-second, mark-third}
 use borrow.Author.Needs.{needs}
 use Rattle.index.proofs.reading.marked.Statement.{statement}

@@ -1,3 +1,5 @@
+-- `number`. The loop's invariant: n is what the digits from `at` to i stand for, so that the rest of them gives the whole number from it.
+-- What falls at each turn is the number of digits left. Assumes nothing.
 use Rattle.index.proofs.Parts.{Numbered, numbered-start, numbered-end, numbered-on, next-fits}
 use Prim.Native.Nat.{_-_}
 use borrow.Author.Needs.{needs}
@@ -18,7 +20,8 @@ mul-n : tie.Need-mul-n Inv-loop μ-loop
 mul-n c =
     let args = c .before .before .before .args in
     let at-loop = c .before .loop in
-    record { fits = omega (arith, next-fits (args .line .now) (args .at) (args .end) (args .base) (at-loop .n) (at-loop .i) (at-loop .inv) (c .loop-test .taken) (search needs) (search needs) (search needs) 0 (search needs)) }
+    let fits = next-fits _ _ _ (args .base) (at-loop .n) _ (at-loop .inv) (c .loop-test .taken) (search needs) (search needs) (search needs) 0 (search needs) in
+    record { fits = omega (arith, fits) }
 
 shared-slice-read-digit : tie.Need-shared-slice-read-digit Inv-loop μ-loop
 shared-slice-read-digit c = search needs
@@ -31,7 +34,8 @@ add-n c =
     let args = c .before .before .before .before .before .args in
     let at-loop = c .before .before .before .loop in
     let at-loop-test = c .before .before .loop-test in
-    record { fits = omega (arith, next-fits (args .line .now) (args .at) (args .end) (args .base) (at-loop .n) (at-loop .i) (at-loop .inv) (at-loop-test .taken) (search needs) (search needs) (search needs) (c .digit .result) (c .digit .ensures .1)) }
+    let fits = next-fits _ _ _ (args .base) (at-loop .n) _ (at-loop .inv) (at-loop-test .taken) (search needs) (search needs) (search needs) (c .digit .result) (c .digit .ensures .1) in
+    record { fits = omega (arith, fits) }
 
 add-i : tie.Need-add-i Inv-loop μ-loop
 add-i c = search needs
@@ -41,10 +45,9 @@ loop-less c = search needs
 
 loop-again : tie.Need-loop-again Inv-loop μ-loop
 loop-again c =
-    let args = c .before .before .before .before .before .args in
     let at-loop = c .before .before .before .loop in
     let at-loop-test = c .before .before .loop-test in
-    numbered-on (args .line .now) (args .at) (args .end) (args .base) (at-loop .n) (at-loop .i) (at-loop .inv) (at-loop-test .taken) (search needs) (search needs) (search needs) (c .digit .result) (c .digit .ensures .1) (c .digit .ensures .0)
+    numbered-on _ _ _ _ _ _ (at-loop .inv) (at-loop-test .taken) (search needs) (search needs) (search needs) _ (c .digit .ensures .1) (c .digit .ensures .0)
 
 returns : tie.Need-returns Inv-loop μ-loop
 returns c = numbered-end _ _ _ _ _ _ (c .before .loop .inv) (c .loop-test .left)

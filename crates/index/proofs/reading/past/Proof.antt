@@ -1,3 +1,5 @@
+-- `past`. The loop's invariant: the place past the bytes of this kind from i on is the place past those from `at` on.
+-- What falls at each turn is the number of bytes left. Assumes nothing.
 use borrow.Author.Tests.{not-true, not-false}
 use Rattle.index.proofs.Parts.{past-end, past-stop, past-on}
 use Rattle.index.specs.IndexCode.{passes, Past}

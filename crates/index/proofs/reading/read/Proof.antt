@@ -1,3 +1,4 @@
+-- `read`: no entry, or the parts behind the spaces. Assumes nothing.
 use borrow.Author.Tests.{ne-eqb}
 use mathlib.Core.Path.{_∙_}
 use Rattle.index.proofs.Parts.{read-entry, read-empty, read-comment}
@@ -26,11 +27,8 @@ entry-requires c κs = (c .past2 .ensures .forward, omega (arith, c .past2 .ensu
 
 returns-3 : tie.Need-returns-3
 returns-3 c =
-    let args = c .before .before .before .before .before .before .before .args in
-    let at-if2 = c .before .before .before .if2 in
-    let at-past = c .before .before .past in
-    let at-past2 = c .before .past2 in
-    c .entry .ensures ∙ read-entry (args .line .now) _ _ (search needs) (ne-eqb _ _ (at-if2 .left)) (at-past .ensures) (at-past2 .ensures)
+    let at-past = c .before .before in
+    c .entry .ensures ∙ read-entry _ _ _ (search needs) (ne-eqb _ _ (at-past .before .if2 .left)) (at-past .past .ensures) (c .before .past2 .ensures)
 
 pub read-spec : {M : Type 1} → statement M
 read-spec =

@@ -1,16 +1,12 @@
-use mathlib.Core.Path.{sym}
-use Rattle.standard.proofs.Tests.{under, above}
-use Rattle.sequences.proofs.EucJpLeaves.{kana-none, kana-some}
+use mathlib.Core.Path.{sym, _∙_}
+use Rattle.sequences.proofs.EucJpLeaves.{kana-some, kana-none}
 use native.Mathlib.Omega.{arith}
 use borrow.Author.Needs.{needs}
 use Rattle.sequences.proofs.euc_jp.katakana.Statement.{statement}
 use Rattle.sequences.proofs.euc_jp.katakana.Tie as tie
 
-returns : tie.Need-returns
-returns c = let a = c .before .args in sym (kana-none (a .c) (under 0xA1 (a .c) 0xDF (omega arith)))
-
-returns-2 : tie.Need-returns-2
-returns-2 c = let a = c .before .before .args in sym (kana-none (a .c) (above 0xA1 (a .c) 0xDF (omega arith)))
+within-requires : tie.Need-within-requires
+within-requires c κs = search needs
 
 sub-result : tie.Need-sub-result
 sub-result c = search needs
@@ -18,8 +14,15 @@ sub-result c = search needs
 add-result : tie.Need-add-result
 add-result c = search needs
 
-returns-3 : tie.Need-returns-3
-returns-3 c = sym (kana-some ((c .before .before .args) .c) (omega arith) (omega arith))
+returns : tie.Need-returns
+returns c =
+    let args = c .before .before .args in
+    sym (kana-some (args .c) (sym (c .before .within .ensures) ∙ c .if1 .taken))
+
+returns-2 : tie.Need-returns-2
+returns-2 c =
+    let args = c .before .before .args in
+    sym (kana-none (args .c) (sym (c .before .within .ensures) ∙ c .if1 .left))
 
 pub katakana-spec : {M : Type 1} → statement M
-katakana-spec = tie.close (tie.spec returns returns-2 sub-result add-result returns-3)
+katakana-spec = tie.close (tie.spec within-requires sub-result add-result returns returns-2)

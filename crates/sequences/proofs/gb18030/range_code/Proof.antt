@@ -1,5 +1,5 @@
 use mathlib.Core.Path.{_≡_, refl, sym, ap, _∙_}
-use Rattle.standard.specs.Sequences.Gb18030.{gbRange}
+use Rattle.standard.specs.Sequences.Gb18030.{gb18030Range}
 use lib.ListN.{length, drop}
 use Prim.Native.Nat.{_≤_, _*_, _+_, _/_, _-_}
 use Rattle.sequences.proofs.Gb18030Leaves.{range-step, range-end}
@@ -8,8 +8,10 @@ use native.Mathlib.Omega.{arith}
 use Rattle.sequences.proofs.gb18030.range_code.Statement.{statement}
 use Rattle.sequences.proofs.gb18030.range_code.Tie as tie
 
+-- At each turn: the search of all pairs is the search of those from pair i on, with the answer so far.
+-- The pairs left fall by one.
 abbrev Inv-loop : tie.InvT-loop
-Inv-loop ranges p found₀ i₀ n found i = (i ≤ length ranges / 2) × (gbRange ranges p 0 ≡ gbRange (drop (i * 2) ranges) p found)
+Inv-loop ranges p found₀ i₀ n found i = (i ≤ length ranges / 2) × (gb18030Range ranges p 0 ≡ gb18030Range (drop (i * 2) ranges) p found)
 
 abbrev μ-loop : tie.MeasureT-loop
 μ-loop ranges p found₀ i₀ n found i = length ranges / 2 - i
@@ -51,7 +53,7 @@ loop-again : tie.Need-loop-again Inv-loop μ-loop
 loop-again c =
     let args = c .before .before .before .before .before .before .args in
     let at-loop = c .before .before .before .before .loop in
-    (omega arith, at-loop .inv .1 ∙ range-step (args .ranges .now) (args .p) (at-loop .i) (at-loop .found) (omega arith) ∙ ap (gbRange (drop ((at-loop .i + 1) * 2) (args .ranges .now)) (args .p)) (sym (c .range-next .ensures)))
+    (omega arith, at-loop .inv .1 ∙ range-step (args .ranges .now) (args .p) (at-loop .i) (at-loop .found) (omega arith) ∙ ap (gb18030Range (drop ((at-loop .i + 1) * 2) (args .ranges .now)) (args .p)) (sym (c .range-next .ensures)))
 
 returns : tie.Need-returns Inv-loop μ-loop
 returns c =

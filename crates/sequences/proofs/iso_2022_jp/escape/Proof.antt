@@ -18,7 +18,7 @@ returns c =
     let args = c .before .before .before .before .args in
     let at-escapes = c .before .before .before .escapes in
     let at-if1 = c .before .before .if1 in
-    c .waits .ensures ∙ sym (escape-wait (shift (args .state) (eqb (args .flag) 1)) (args .have) (args .c) (args .d) (sym (at-escapes .ensures) ∙ at-if1 .taken) (omega arith))
+    λ xs. c .waits .ensures ∙ sym (escape-wait (shift (args .state) (eqb (args .flag) 1)) (args .have) (args .c) (args .d) xs (sym (at-escapes .ensures) ∙ at-if1 .taken) (omega arith))
 
 escape-end-requires : tie.Need-escape-end-requires
 escape-end-requires c κs = search needs
@@ -28,7 +28,7 @@ returns-2 c =
     let args = c .before .before .before .before .args in
     let at-escapes = c .before .before .before .escapes in
     let at-if1 = c .before .before .if1 in
-    c .escape-end .ensures ∙ sym (escape-whole (shift (args .state) (eqb (args .flag) 1)) (args .have) (args .c) (args .d) (sym (at-escapes .ensures) ∙ at-if1 .taken) (omega arith))
+    λ xs. c .escape-end .ensures ∙ sym (escape-whole (shift (args .state) (eqb (args .flag) 1)) (args .have) (args .c) (args .d) xs (sym (at-escapes .ensures) ∙ at-if1 .taken) (omega arith))
 
 fails-requires : tie.Need-fails-requires
 fails-requires c κs = search needs
@@ -38,7 +38,7 @@ returns-3 c =
     let args = c .before .before .before .args in
     let at-escapes = c .before .before .escapes in
     let at-if1 = c .before .if1 in
-    c .fails .ensures ∙ sym (escape-none (shift (args .state) (eqb (args .flag) 1)) (args .have) (args .c) (args .d) (sym (at-escapes .ensures) ∙ at-if1 .left))
+    λ xs. c .fails .ensures ∙ sym (escape-none (shift (args .state) (eqb (args .flag) 1)) (args .have) (args .c) (args .d) xs (sym (at-escapes .ensures) ∙ at-if1 .left))
 
 pub escape-spec : {M : Type 1} → statement M
 escape-spec =

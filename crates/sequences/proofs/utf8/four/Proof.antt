@@ -1,23 +1,29 @@
-use Rattle.sequences.proofs.Utf8Leaves.{four-wait, four-second, four-wait-third, four-third, four-wait-fourth, four-fourth, four-good, second-range, second-least}
-use Rattle.sequences.proofs.Leaves.{fails, holds}
-use Rattle.standard.proofs.Tests.{within-low}
 use mathlib.Core.Path.{sym, _∙_}
+use Rattle.standard.proofs.Tests.{fails, holds, within-low}
+use Rattle.sequences.proofs.Utf8Leaves.{Right, right, four-stopped, four-wait, four-bad, four-good, second-least}
 use native.Mathlib.Omega.{arith}
 use borrow.Author.Needs.{needs}
 use Rattle.sequences.proofs.utf8.four.Statement.{statement}
 use Rattle.sequences.proofs.utf8.four.Tie as tie
 
+begun-requires : tie.Need-begun-requires
+begun-requires c κs = search needs
+
+stops-requires : tie.Need-stops-requires
+stops-requires c κs = search needs
+
+returns : tie.Need-returns
+returns c =
+    let args = c .before .before .before .args in
+    λ xs. c .stops .ensures ∙ sym (four-stopped (args .have) (args .b0) (args .b1) (args .b2) (c .before .before .begun .result) (c .before .before .begun .ensures) (c .before .if1 .taken) (args .b3) xs)
+
 waits-requires : tie.Need-waits-requires
 waits-requires c κs = search needs
 
-returns : tie.Need-returns
-returns c = let a = (c .before .before .args) in c .waits .ensures ∙ sym (four-wait (a .have) (a .b0) (a .b1) (a .b2) (a .b3) (omega arith))
-
-low-requires : tie.Need-low-requires
-low-requires c κs = search needs
-
-high-requires : tie.Need-high-requires
-high-requires c κs = search needs
+returns-2 : tie.Need-returns-2
+returns-2 c =
+    let args = c .before .before .before .before .args in
+    λ xs. c .waits .ensures ∙ sym (four-wait (args .have) (args .b0) (args .b1) (args .b2) (right (args .have) (args .b0) (args .b1) (args .b2) (c .before .before .before .begun .result) (c .before .before .before .begun .ensures) (omega arith)) xs (args .b3) (omega arith))
 
 within-requires : tie.Need-within-requires
 within-requires c κs = search needs
@@ -25,76 +31,10 @@ within-requires c κs = search needs
 wrong-requires : tie.Need-wrong-requires
 wrong-requires c κs = search needs
 
-returns-2 : tie.Need-returns-2
-returns-2 c =
-    let args = c .before .before .before .before .before .before .args in
-    let at-low = c .before .before .before .before .low in
-    let at-high = c .before .before .before .high in
-    let at-within = c .before .before .within in
-    let at-if2 = c .before .if2 in
-    c .wrong .ensures ∙ sym (four-second (args .have) (args .b0) (args .b1) (args .b2) (args .b3) (omega arith) (fails (second-range (at-low .result) (at-high .result) (args .b0) (args .b1) (at-low .ensures) (at-high .ensures) (at-within .ensures)) (at-if2 .taken)))
-
-waits-requires-2 : tie.Need-waits-requires-2
-waits-requires-2 c κs = search needs
-
 returns-3 : tie.Need-returns-3
 returns-3 c =
-    let args = c .before .before .before .before .before .before .before .args in
-    let at-low = c .before .before .before .before .before .low in
-    let at-high = c .before .before .before .before .high in
-    let at-within = c .before .before .before .within in
-    let at-if2 = c .before .before .if2 in
-    c .waits2 .ensures ∙ sym (four-wait-third (args .have) (args .b0) (args .b1) (args .b2) (args .b3) (omega arith) (holds (second-range (at-low .result) (at-high .result) (args .b0) (args .b1) (at-low .ensures) (at-high .ensures) (at-within .ensures)) (at-if2 .left)) (omega arith))
-
-within-requires-2 : tie.Need-within-requires-2
-within-requires-2 c κs = search needs
-
-wrong-requires-2 : tie.Need-wrong-requires-2
-wrong-requires-2 c κs = search needs
-
-returns-4 : tie.Need-returns-4
-returns-4 c =
-    let args = c .before .before .before .before .before .before .before .before .before .args in
-    let at-low = c .before .before .before .before .before .before .before .low in
-    let at-high = c .before .before .before .before .before .before .high in
-    let at-within = c .before .before .before .before .before .within in
-    let at-if2 = c .before .before .before .before .if2 in
-    let at-within2 = c .before .before .within2 in
-    let at-if4 = c .before .if4 in
-    c .wrong2 .ensures ∙ sym (four-third (args .have) (args .b0) (args .b1) (args .b2) (args .b3) (omega arith) (holds (second-range (at-low .result) (at-high .result) (args .b0) (args .b1) (at-low .ensures) (at-high .ensures) (at-within .ensures)) (at-if2 .left)) (omega arith) (fails (at-within2 .ensures) (at-if4 .taken)))
-
-waits-requires-3 : tie.Need-waits-requires-3
-waits-requires-3 c κs = search needs
-
-returns-5 : tie.Need-returns-5
-returns-5 c =
-    let args = c .before .before .before .before .before .before .before .before .before .before .args in
-    let at-low = c .before .before .before .before .before .before .before .before .low in
-    let at-high = c .before .before .before .before .before .before .before .high in
-    let at-within = c .before .before .before .before .before .before .within in
-    let at-if2 = c .before .before .before .before .before .if2 in
-    let at-within2 = c .before .before .before .within2 in
-    let at-if4 = c .before .before .if4 in
-    c .waits3 .ensures ∙ sym (four-wait-fourth (args .have) (args .b0) (args .b1) (args .b2) (args .b3) (omega arith) (holds (second-range (at-low .result) (at-high .result) (args .b0) (args .b1) (at-low .ensures) (at-high .ensures) (at-within .ensures)) (at-if2 .left)) (omega arith) (holds (at-within2 .ensures) (at-if4 .left)) (omega arith))
-
-within-requires-3 : tie.Need-within-requires-3
-within-requires-3 c κs = search needs
-
-wrong-requires-3 : tie.Need-wrong-requires-3
-wrong-requires-3 c κs = search needs
-
-returns-6 : tie.Need-returns-6
-returns-6 c =
-    let args = c .before .before .before .before .before .before .before .before .before .before .before .before .args in
-    let at-low = c .before .before .before .before .before .before .before .before .before .before .low in
-    let at-high = c .before .before .before .before .before .before .before .before .before .high in
-    let at-within = c .before .before .before .before .before .before .before .before .within in
-    let at-if2 = c .before .before .before .before .before .before .before .if2 in
-    let at-within2 = c .before .before .before .before .before .within2 in
-    let at-if4 = c .before .before .before .before .if4 in
-    let at-within3 = c .before .before .within3 in
-    let at-if6 = c .before .if6 in
-    c .wrong3 .ensures ∙ sym (four-fourth (args .have) (args .b0) (args .b1) (args .b2) (args .b3) (omega arith) (holds (second-range (at-low .result) (at-high .result) (args .b0) (args .b1) (at-low .ensures) (at-high .ensures) (at-within .ensures)) (at-if2 .left)) (omega arith) (holds (at-within2 .ensures) (at-if4 .left)) (omega arith) (fails (at-within3 .ensures) (at-if6 .taken)))
+    let args = c .before .before .before .before .before .before .args in
+    λ xs. c .wrong .ensures ∙ sym (four-bad (args .have) (args .b0) (args .b1) (args .b2) (right (args .have) (args .b0) (args .b1) (args .b2) (c .before .before .before .before .before .begun .result) (c .before .before .before .before .before .begun .ensures) (omega arith)) xs (args .b3) (omega arith) (fails (c .before .before .within .ensures) (c .before .if3 .taken)))
 
 sub-gives : tie.Need-sub-gives
 sub-gives c = search needs
@@ -107,12 +47,8 @@ mul-gives c = search needs
 
 sub-gives-2 : tie.Need-sub-gives-2
 sub-gives-2 c =
-    let args = c .before .before .before .before .before .before .before .before .before .before .before .args in
-    let at-low = c .before .before .before .before .before .before .before .before .before .low in
-    let at-high = c .before .before .before .before .before .before .before .before .high in
-    let at-within = c .before .before .before .before .before .before .before .within in
-    let at-if2 = c .before .before .before .before .before .before .if2 in
-    omega (arith, second-least (args .b0) (args .b1) (holds (second-range (at-low .result) (at-high .result) (args .b0) (args .b1) (at-low .ensures) (at-high .ensures) (at-within .ensures)) (at-if2 .left)))
+    let args = c .before .before .before .before .before .args in
+    omega (arith, second-least (args .b0) (args .b1) ((right (args .have) (args .b0) (args .b1) (args .b2) (c .before .before .before .before .begun .result) (c .before .before .before .before .begun .ensures) (omega arith)) .second))
 
 cast-gives-2 : tie.Need-cast-gives-2
 cast-gives-2 c = search needs
@@ -125,10 +61,8 @@ add-gives c = search needs
 
 sub-gives-3 : tie.Need-sub-gives-3
 sub-gives-3 c =
-    let args = c .before .before .before .before .before .before .before .before .before .before .before .args in
-    let at-within2 = c .before .before .before .before .within2 in
-    let at-if4 = c .before .before .before .if4 in
-    omega (arith, within-low 0x80 (args .b2) 0xBF (holds (at-within2 .ensures) (at-if4 .left)))
+    let args = c .before .before .before .before .before .args in
+    omega (arith, within-low 0x80 (args .b2) 0xBF ((right (args .have) (args .b0) (args .b1) (args .b2) (c .before .before .before .before .begun .result) (c .before .before .before .before .begun .ensures) (omega arith)) .third))
 
 cast-gives-3 : tie.Need-cast-gives-3
 cast-gives-3 c = search needs
@@ -141,9 +75,8 @@ add-gives-2 c = search needs
 
 sub-gives-4 : tie.Need-sub-gives-4
 sub-gives-4 c =
-    let args = c .before .before .before .before .before .before .before .before .before .before .before .args in
-    let at-within3 = c .before .within3 in
-    omega (arith, within-low 0x80 (args .b3) 0xBF (holds (at-within3 .ensures) (c .if6 .left)))
+    let args = c .before .before .before .before .before .args in
+    omega (arith, within-low 0x80 (args .b3) 0xBF (holds (c .before .within .ensures) (c .if3 .left)))
 
 cast-gives-4 : tie.Need-cast-gives-4
 cast-gives-4 c = search needs
@@ -154,40 +87,23 @@ add-gives-3 c = search needs
 gives-requires : tie.Need-gives-requires
 gives-requires c κs = search needs
 
-returns-7 : tie.Need-returns-7
-returns-7 c =
-    let args = c .before .before .before .before .before .before .before .before .before .before .before .before .args in
-    let at-low = c .before .before .before .before .before .before .before .before .before .before .low in
-    let at-high = c .before .before .before .before .before .before .before .before .before .high in
-    let at-within = c .before .before .before .before .before .before .before .before .within in
-    let at-if2 = c .before .before .before .before .before .before .before .if2 in
-    let at-within2 = c .before .before .before .before .before .within2 in
-    let at-if4 = c .before .before .before .before .if4 in
-    let at-within3 = c .before .before .within3 in
-    let at-if6 = c .before .if6 in
-    c .gives .ensures ∙ sym (four-good (args .have) (args .b0) (args .b1) (args .b2) (args .b3) (omega arith) (holds (second-range (at-low .result) (at-high .result) (args .b0) (args .b1) (at-low .ensures) (at-high .ensures) (at-within .ensures)) (at-if2 .left)) (omega arith) (holds (at-within2 .ensures) (at-if4 .left)) (omega arith) (holds (at-within3 .ensures) (at-if6 .left)))
+returns-4 : tie.Need-returns-4
+returns-4 c =
+    let args = c .before .before .before .before .before .before .args in
+    λ xs. c .gives .ensures ∙ sym (four-good (args .have) (args .b0) (args .b1) (args .b2) (right (args .have) (args .b0) (args .b1) (args .b2) (c .before .before .before .before .before .begun .result) (c .before .before .before .before .before .begun .ensures) (omega arith)) xs (args .b3) (omega arith) (holds (c .before .before .within .ensures) (c .before .if3 .left)))
 
 pub four-spec : {M : Type 1} → statement M
 four-spec =
     tie.close
     (tie.spec
-    waits-requires
+    begun-requires
+    stops-requires
     returns
-    low-requires
-    high-requires
+    waits-requires
+    returns-2
     within-requires
     wrong-requires
-    returns-2
-    waits-requires-2
     returns-3
-    within-requires-2
-    wrong-requires-2
-    returns-4
-    waits-requires-3
-    returns-5
-    within-requires-3
-    wrong-requires-3
-    returns-6
     sub-gives
     cast-gives
     mul-gives
@@ -203,4 +119,4 @@ four-spec =
     cast-gives-4
     add-gives-3
     gives-requires
-    returns-7)
+    returns-4)

@@ -1,7 +1,6 @@
-use Rattle.sequences.proofs.Leaves.{fails, holds}
-use Rattle.sequences.proofs.Utf8Leaves.{two-wait, two-bad, two-good}
-use Rattle.standard.proofs.Tests.{within-low}
 use mathlib.Core.Path.{sym, _∙_}
+use Rattle.standard.proofs.Tests.{fails, holds, within-low}
+use Rattle.sequences.proofs.Utf8Leaves.{two-wait, two-bad, two-good}
 use native.Mathlib.Omega.{arith}
 use borrow.Author.Needs.{needs}
 use Rattle.sequences.proofs.utf8.two.Statement.{statement}
@@ -11,7 +10,9 @@ waits-requires : tie.Need-waits-requires
 waits-requires c κs = search needs
 
 returns : tie.Need-returns
-returns c = let a = (c .before .before .args) in c .waits .ensures ∙ sym (two-wait (a .have) (a .b0) (a .b1) (omega arith))
+returns c =
+    let args = c .before .before .args in
+    λ xs. c .waits .ensures ∙ sym (two-wait (args .have) (args .b0) (args .b1) xs (omega arith))
 
 within-requires : tie.Need-within-requires
 within-requires c κs = search needs
@@ -22,9 +23,7 @@ wrong-requires c κs = search needs
 returns-2 : tie.Need-returns-2
 returns-2 c =
     let args = c .before .before .before .before .args in
-    let at-within = c .before .before .within in
-    let at-if2 = c .before .if2 in
-    c .wrong .ensures ∙ sym (two-bad (args .have) (args .b0) (args .b1) (omega arith) (fails (at-within .ensures) (at-if2 .taken)))
+    λ xs. c .wrong .ensures ∙ sym (two-bad (args .have) (args .b0) (args .b1) xs (omega arith) (fails (c .before .before .within .ensures) (c .before .if2 .taken)))
 
 sub-gives : tie.Need-sub-gives
 sub-gives c = search needs
@@ -36,7 +35,9 @@ mul-gives : tie.Need-mul-gives
 mul-gives c = search needs
 
 sub-gives-2 : tie.Need-sub-gives-2
-sub-gives-2 c = omega (arith, within-low 0x80 ((c .before .before .before .args) .b1) 0xBF (holds (c .before .within .ensures) (c .if2 .left)))
+sub-gives-2 c =
+    let args = c .before .before .before .args in
+    omega (arith, within-low 0x80 (args .b1) 0xBF (holds (c .before .within .ensures) (c .if2 .left)))
 
 cast-gives-2 : tie.Need-cast-gives-2
 cast-gives-2 c = search needs
@@ -50,9 +51,7 @@ gives-requires c κs = search needs
 returns-3 : tie.Need-returns-3
 returns-3 c =
     let args = c .before .before .before .before .args in
-    let at-within = c .before .before .within in
-    let at-if2 = c .before .if2 in
-    c .gives .ensures ∙ sym (two-good (args .have) (args .b0) (args .b1) (omega arith) (holds (at-within .ensures) (at-if2 .left)))
+    λ xs. c .gives .ensures ∙ sym (two-good (args .have) (args .b0) (args .b1) xs (omega arith) (holds (c .before .before .within .ensures) (c .before .if2 .left)))
 
 pub two-spec : {M : Type 1} → statement M
 two-spec =

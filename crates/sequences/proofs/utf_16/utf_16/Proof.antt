@@ -1,6 +1,6 @@
 use mathlib.Core.Path.{sym, ap, _∙_}
 use Rattle.standard.specs.Sequences.Utf16.{utf16Pair}
-use Rattle.sequences.proofs.Utf16Leaves.{utf-short, utf-low, utf-high, utf-trail, utf-lead-wait, utf-lead}
+use Rattle.sequences.proofs.Utf16Leaves.{utf-16-short, utf-16-low, utf-16-high, utf-16-trail, utf-16-wait, utf-16-pair}
 use native.Mathlib.Omega.{arith}
 use borrow.Author.Needs.{needs}
 use Rattle.sequences.proofs.utf_16.utf_16.Statement.{statement}
@@ -10,7 +10,9 @@ waits-requires : tie.Need-waits-requires
 waits-requires c κs = search needs
 
 returns : tie.Need-returns
-returns c = let a = c .before .before .args in c .waits .ensures ∙ sym (utf-short (a .be) (a .have) (a .b0) (a .b1) (a .b2) (a .b3) (omega arith))
+returns c =
+    let args = c .before .before .args in
+    λ xs. c .waits .ensures ∙ sym (utf-16-short (args .be) (args .have) (args .b0) (args .b1) (args .b2) (args .b3) xs (omega arith))
 
 unit-requires : tie.Need-unit-requires
 unit-requires c κs = search needs
@@ -21,8 +23,7 @@ gives-requires c κs = search needs
 returns-2 : tie.Need-returns-2
 returns-2 c =
     let args = c .before .before .before .before .args in
-    let at-unit = c .before .before .unit in
-    c .gives .ensures ∙ sym (utf-low (args .be) (args .have) (args .b0) (args .b1) (args .b2) (args .b3) (at-unit .result) (at-unit .ensures) (omega arith) (omega arith))
+    λ xs. c .gives .ensures ∙ sym (utf-16-low (args .be) (args .have) (args .b0) (args .b1) (args .b2) (args .b3) xs (c .before .before .unit .result) (c .before .before .unit .ensures) (omega arith) (omega arith))
 
 gives-requires-2 : tie.Need-gives-requires-2
 gives-requires-2 c κs = search needs
@@ -30,8 +31,7 @@ gives-requires-2 c κs = search needs
 returns-3 : tie.Need-returns-3
 returns-3 c =
     let args = c .before .before .before .before .before .args in
-    let at-unit = c .before .before .before .unit in
-    c .gives2 .ensures ∙ sym (utf-high (args .be) (args .have) (args .b0) (args .b1) (args .b2) (args .b3) (at-unit .result) (at-unit .ensures) (omega arith) (omega arith))
+    λ xs. c .gives2 .ensures ∙ sym (utf-16-high (args .be) (args .have) (args .b0) (args .b1) (args .b2) (args .b3) xs (c .before .before .before .unit .result) (c .before .before .before .unit .ensures) (omega arith) (omega arith))
 
 wrong-requires : tie.Need-wrong-requires
 wrong-requires c κs = search needs
@@ -39,8 +39,7 @@ wrong-requires c κs = search needs
 returns-4 : tie.Need-returns-4
 returns-4 c =
     let args = c .before .before .before .before .before .before .args in
-    let at-unit = c .before .before .before .before .unit in
-    c .wrong .ensures ∙ sym (utf-trail (args .be) (args .have) (args .b0) (args .b1) (args .b2) (args .b3) (at-unit .result) (at-unit .ensures) (omega arith) (omega arith) (omega arith))
+    λ xs. c .wrong .ensures ∙ sym (utf-16-trail (args .be) (args .have) (args .b0) (args .b1) (args .b2) (args .b3) xs (c .before .before .before .before .unit .result) (c .before .before .before .before .unit .ensures) (omega arith) (omega arith) (omega arith))
 
 waits-requires-2 : tie.Need-waits-requires-2
 waits-requires-2 c κs = search needs
@@ -48,8 +47,7 @@ waits-requires-2 c κs = search needs
 returns-5 : tie.Need-returns-5
 returns-5 c =
     let args = c .before .before .before .before .before .before .before .args in
-    let at-unit = c .before .before .before .before .before .unit in
-    c .waits2 .ensures ∙ sym (utf-lead-wait (args .be) (args .have) (args .b0) (args .b1) (args .b2) (args .b3) (at-unit .result) (at-unit .ensures) (omega arith) (omega arith) (omega arith) (omega arith))
+    λ xs. c .waits2 .ensures ∙ sym (utf-16-wait (args .be) (args .have) (args .b0) (args .b1) (args .b2) (args .b3) xs (c .before .before .before .before .before .unit .result) (c .before .before .before .before .before .unit .ensures) (omega arith) (omega arith) (omega arith) (omega arith))
 
 unit-requires-2 : tie.Need-unit-requires-2
 unit-requires-2 c κs = search needs
@@ -60,9 +58,7 @@ pair-requires c κs = search needs
 returns-6 : tie.Need-returns-6
 returns-6 c =
     let args = c .before .before .before .before .before .before .before .before .args in
-    let at-unit = c .before .before .before .before .before .before .unit in
-    let at-unit2 = c .before .unit2 in
-    c .pair .ensures ∙ ap (utf16Pair (at-unit .result)) (at-unit2 .ensures) ∙ sym (utf-lead (args .be) (args .have) (args .b0) (args .b1) (args .b2) (args .b3) (at-unit .result) (at-unit .ensures) (omega arith) (omega arith) (omega arith) (omega arith))
+    λ xs. c .pair .ensures ∙ ap (utf16Pair (c .before .before .before .before .before .before .unit .result)) (c .before .unit2 .ensures) ∙ sym (utf-16-pair (args .be) (args .have) (args .b0) (args .b1) (args .b2) (args .b3) xs (c .before .before .before .before .before .before .unit .result) (c .before .before .before .before .before .before .unit .ensures) (omega arith) (omega arith) (omega arith) (omega arith))
 
 pub utf-16-spec : {M : Type 1} → statement M
 utf-16-spec =

@@ -8,6 +8,7 @@ use native.Mathlib.Omega.{arith}
 use Rattle.showtext.proofs.lines.put_bytes.Statement.{statement}
 use Rattle.showtext.proofs.lines.put_bytes.Tie as tie
 
+-- The first i bytes stand from the place on. What falls is the bytes that are left.
 abbrev Inv-loop : tie.InvT-loop
 Inv-loop out₀ at bytes i₀ out i = (i ≤ length bytes) × (at + length bytes ≤ length out₀) × (length out ≡ length out₀) × Put out₀ at (take i bytes) (at + i) out
 

@@ -9,6 +9,10 @@ use borrow.Author.Needs.{needs}
 use Rattle.showtext.proofs.lines.put_encoding.Statement.{statement}
 use Rattle.showtext.proofs.lines.put_encoding.Tie as tie
 
+-- from behind the name to the start
+abbrev start : tie.After-name2 → tie.Start
+start c = c .before .before .before
+
 slice-aggregate-name : tie.Need-slice-aggregate-name
 slice-aggregate-name c = search needs
 
@@ -26,14 +30,14 @@ part-put-words-start c = search needs
 
 part-put-words-end : tie.Need-part-put-words-end
 part-put-words-end c =
-    let args = c .before .before .before .before .before .before .before .args in
+    let args = start (c .before .before .before .before) .args in
     let at-name2 = c .before .before .before .before .name2 in
     omega (arith, part-few (args .encoding) (replicate 20 0) (omega arith) _ _ (at-name2 .ensures .0) (at-name2 .ensures .1), at-name2 .kept .1 .0)
 
 put-words-requires : tie.Need-put-words-requires
 put-words-requires c κs =
-    let args = c .before .before .before .before .before .before .before .before .args in
-    let at-pre = c .before .before .before .before .before .before .before .before .pre in
+    let args = start (c .before .before .before .before .before) .args in
+    let at-pre = start (c .before .before .before .before .before) .pre in
     let at-name2 = c .before .before .before .before .before .name2 in
     simp length-take (omega (arith, part-few (args .encoding) (replicate 20 0) (omega arith) _ _ (at-name2 .ensures .0) (at-name2 .ensures .1), at-pre))
 
@@ -43,7 +47,7 @@ same-length c = search needs
 returns : tie.Need-returns
 unfolding bytes
 returns c =
-    let args = c .before .before .before .before .before .before .before .before .before .before .before .args in
+    let args = start (c .before .before .before .before .before .before .before .before) .args in
     let at-name2 = c .before .before .before .before .before .before .before .before .name2 in
     let at-put-words = c .before .before .put-words in
     same (ap (line (bytes "encoding")) (part-is (args .encoding) (replicate 20 0) (omega arith) _ _ (at-name2 .ensures .0) (at-name2 .ensures .1))) (at-put-words .ensures)

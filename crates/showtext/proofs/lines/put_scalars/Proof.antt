@@ -11,6 +11,7 @@ use native.Mathlib.Omega.{arith}
 use Rattle.showtext.proofs.lines.put_scalars.Statement.{statement}
 use Rattle.showtext.proofs.lines.put_scalars.Tie as tie
 
+-- The lines of the first i scalars stand from the place on, in at most 32 bytes each. What falls is the scalars that are left.
 abbrev Inv-loop : tie.InvT-loop
 Inv-loop out₀ at n scalars o₀ i₀ out o i = (i ≤ length scalars) × (o ≤ at + 32 * i) × (length out ≡ length out₀) × Put out₀ at (scalarLines n (take i scalars)) o out
 

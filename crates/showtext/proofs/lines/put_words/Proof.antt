@@ -6,37 +6,41 @@ use borrow.Author.Needs.{needs}
 use Rattle.showtext.proofs.lines.put_words.Statement.{statement}
 use Rattle.showtext.proofs.lines.put_words.Tie as tie
 
+-- from behind the first word to the start
+abbrev start : tie.After-put-bytes → tie.Start
+start c = c .before .before .before .before .before
+
 put-bytes-requires : tie.Need-put-bytes-requires
 put-bytes-requires c κs = search needs
 
 slice-write-out : tie.Need-slice-write-out
 slice-write-out c =
-    let at-pre = c .before .before .before .before .before .before .before .pre in
+    let at-pre = start (c .before .before) .pre in
     let at-put-bytes = c .before .before .put-bytes in
     omega (arith, at-pre, at-put-bytes .ensures .behind, at-put-bytes .kept .0)
 
 add-put-bytes : tie.Need-add-put-bytes
 add-put-bytes c =
-    let at-pre = c .before .before .before .before .before .before .before .before .pre in
+    let at-pre = start (c .before .before .before) .pre in
     let at-put-bytes = c .before .before .before .put-bytes in
     record { fits = omega (arith, at-pre, at-put-bytes .ensures .behind) }
 
 put-bytes-requires-2 : tie.Need-put-bytes-requires-2
 put-bytes-requires-2 c κs =
-    let at-pre = c .before .before .before .before .before .before .before .before .pre in
+    let at-pre = start (c .before .before .before) .pre in
     let at-put-bytes = c .before .before .before .put-bytes in
     simp length-set (omega (arith, at-pre, at-put-bytes .ensures .behind, at-put-bytes .kept .0))
 
 slice-write-out-2 : tie.Need-slice-write-out-2
 slice-write-out-2 c =
-    let at-pre = c .before .before .before .before .before .before .before .before .before .before .before .pre in
+    let at-pre = start (c .before .before .before .before .before .before) .pre in
     let at-put-bytes = c .before .before .before .before .before .before .put-bytes in
     let at-put-bytes2 = c .before .before .put-bytes2 in
     omega (arith, at-pre, at-put-bytes .ensures .behind, at-put-bytes .kept .0, at-put-bytes2 .ensures .behind, simp length-set at (at-put-bytes2 .kept .0))
 
 add-result : tie.Need-add-result
 add-result c =
-    let at-pre = c .before .before .before .before .before .before .before .before .before .before .before .pre in
+    let at-pre = start (c .before .before .before .before .before .before) .pre in
     let at-put-bytes = c .before .before .before .before .before .before .put-bytes in
     let at-put-bytes2 = c .before .before .put-bytes2 in
     record { fits = omega (arith, at-pre, at-put-bytes .ensures .behind, at-put-bytes2 .ensures .behind) }
@@ -49,7 +53,7 @@ same-length c =
 
 returns : tie.Need-returns
 returns c =
-    let args = c .before .before .before .before .before .before .before .before .before .before .before .args in
+    let args = start (c .before .before .before .before .before .before) .args in
     let at-put-bytes = c .before .before .before .before .before .before .put-bytes in
     let at-put-bytes2 = c .before .before .put-bytes2 in
     put-line (args .out .now) (args .at) (args .first .now) (args .second .now) (at-put-bytes .ensures) (at-put-bytes2 .ensures)

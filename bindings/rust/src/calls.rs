@@ -1,0 +1,83 @@
+//! The calls of `include/hamvukile.h`, with slices for pointers and lengths. They answer as they do through C.
+
+use crate::ffi::{self, Answer, Decoder, Found, Line, Named, Written};
+
+#[inline]
+pub fn label(bytes: &[u8]) -> Found {
+    // SAFETY: the slice is valid for its length.
+    unsafe { ffi::hamvukile_label(bytes.as_ptr(), bytes.len()) }
+}
+
+#[inline]
+pub fn name(encoding: u8, room: &mut [u8]) -> Named {
+    // SAFETY: the slice is valid for its length.
+    unsafe { ffi::hamvukile_name(encoding, room.as_mut_ptr(), room.len()) }
+}
+
+#[inline]
+pub fn index_line(line: &[u8], table: &mut [u32]) -> Line {
+    // SAFETY: each slice is valid for its length; the table, borrowed mutably, does not overlap the line.
+    unsafe { ffi::hamvukile_index_line(line.as_ptr(), line.len(), table.as_mut_ptr(), table.len()) }
+}
+
+#[inline]
+pub fn open(encoding: u8, mode: u8, rule: u8) -> Answer {
+    // SAFETY: the call reads numbers only.
+    unsafe { ffi::hamvukile_open(encoding, mode, rule) }
+}
+
+#[inline]
+pub fn feed(
+    decoder: Decoder,
+    chunk: &[u8],
+    first: &[u32],
+    second: &[u32],
+    room: &mut [u32],
+) -> Answer {
+    // SAFETY: each slice is valid for its length; the room, borrowed mutably, overlaps no other.
+    unsafe {
+        ffi::hamvukile_feed(
+            decoder,
+            chunk.as_ptr(),
+            chunk.len(),
+            first.as_ptr(),
+            first.len(),
+            second.as_ptr(),
+            second.len(),
+            room.as_mut_ptr(),
+            room.len(),
+        )
+    }
+}
+
+#[inline]
+pub fn finish(decoder: Decoder, room: &mut [u32]) -> Answer {
+    // SAFETY: the slice is valid for its length.
+    unsafe { ffi::hamvukile_finish(decoder, room.as_mut_ptr(), room.len()) }
+}
+
+#[inline]
+pub fn encode(
+    encoding: u8,
+    mode: u8,
+    scalars: &[u32],
+    first: &[u32],
+    second: &[u32],
+    room: &mut [u8],
+) -> Written {
+    // SAFETY: each slice is valid for its length; the room, borrowed mutably, overlaps no other.
+    unsafe {
+        ffi::hamvukile_encode(
+            encoding,
+            mode,
+            scalars.as_ptr(),
+            scalars.len(),
+            first.as_ptr(),
+            first.len(),
+            second.as_ptr(),
+            second.len(),
+            room.as_mut_ptr(),
+            room.len(),
+        )
+    }
+}

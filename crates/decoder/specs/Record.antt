@@ -1,0 +1,46 @@
+-- The decoder's record: what it says, and the three records that calls leave: a new one, one that holds bytes, and one that has ended. Assumes nothing.
+use mathlib.Core.Bool.{Bool, true, false, _&&_}
+use mathlib.Core.List.{List, [], _∷_}
+use Prim.Native.Nat.{ℕ}
+use lib.Dec.{eqb}
+use lib.ListN.{length, getD, take}
+use Rattle.standard.specs.Encodings.{family, traits}
+use Rattle.standard.specs.Sequence.{Shift, shift}
+use Rattle.decoder.specs.declared.Decoder.{Decoder}
+
+-- 1 for yes, 0 for no
+abbrev pub bit : Bool → ℕ
+bit true = 1
+bit false = 0
+
+-- The record read: its shift, and the bytes held.
+abbrev pub shiftOf : Decoder → Shift
+shiftOf d = shift (d .state) (eqb (d .flag) 1)
+
+abbrev pub heldOf : Decoder → List ℕ
+heldOf d = take (d .held) (d .first ∷ d .second ∷ d .third ∷ [])
+
+-- The record of encoding e and mode m that stands at a shift and holds some bytes, at most three.
+abbrev pub holding : ℕ → ℕ → Shift → List ℕ → Decoder
+holding e m s xs = record {
+  encoding = e;
+  mode = m;
+  state = s .state;
+  flag = bit (s .flag);
+  held = length xs;
+  first = getD xs 0 0;
+  second = getD xs 1 0;
+  third = getD xs 2 0;
+  ended = 0;
+}
+
+-- A new record holds nothing. Its shift says whether a mark at the front is to be dropped: rule 0 drop, 1 keep.
+abbrev pub newShift : ℕ → ℕ → Shift
+newShift e rule = shift 0 (traits (family e) .mark && eqb rule 0)
+
+abbrev pub new : ℕ → ℕ → ℕ → Decoder
+new e m rule = holding e m (newShift e rule) []
+
+-- The record that has ended.
+abbrev pub closed : ℕ → ℕ → Decoder
+closed e m = record { encoding = e; mode = m; state = 0; flag = 0; held = 0; first = 0; second = 0; third = 0; ended = 1 }

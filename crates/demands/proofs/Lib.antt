@@ -1,0 +1,11 @@
+pub mod Steps
+pub mod Refused
+pub mod Invariants
+pub mod Cutting
+pub mod Shifts
+pub mod Validity
+pub mod Reaching
+pub mod Rooms
+pub mod Samples
+pub mod Orders
+pub mod Theorems

@@ -1,0 +1,190 @@
+-- Rooms that suffice: no refusal 7 with three cells more than the chunk, and calls that are accepted. Assumes nothing.
+use mathlib.Core.Path.{_≡_, refl, sym, ap, _∙_, subst}
+use mathlib.Core.Bool.{Bool, true, false, not, _&&_}
+use mathlib.Core.List.{List, [], _∷_, _++_}
+use Prim.Native.Nat.{ℕ, _+_, _≤_}
+use native.Mathlib.Omega.{arith}
+use lib.Dec.{T, ltb, eqb}
+use lib.ListN.{length, drop, length-append, length-drop, length-take}
+use borrow.Author.Tests.{le-ltb, ltb-false}
+use Rattle.standard.specs.Base.{_then_else_}
+use Rattle.standard.specs.Encodings.{Family, family, Tables, noTables, fits}
+use Rattle.standard.specs.Next.{next}
+use Rattle.standard.specs.Decode.{Item, Read, decode, ending, shown, broken, before}
+use Rattle.standard.proofs.FamilyLaws.{keeps, next-laws}
+use Rattle.standard.proofs.Items.{before-length}
+use Rattle.standard.proofs.Reading.{reading, ending-is}
+use Rattle.decoder.specs.Record.{shiftOf, heldOf, holding, closed, newShift}
+use Rattle.decoder.specs.Valid.{valid}
+use Rattle.decoder.specs.Calls.{openRefusal, Outcome, refuse, write, handOut, handOutRead, feedRefusal, feeding, finishRefusal, finishing}
+use Rattle.demands.specs.Histories.{feed, History, start}
+use Rattle.demands.specs.Statements.{Piece, Accepts, Roomy, RoomKept}
+use Rattle.decoder.specs.declared.Decoder.{Decoder}
+use Rattle.decoder.proofs.Parts.{parts}
+use Rattle.demands.proofs.Steps.{Stands, reads, ended, Step, refused, fed, reported, stepped, still, opened-is, stands-new}
+use Rattle.demands.proofs.Validity.{valid-step, valid-opening, opening-bounds}
+
+-- five, six, and what comes after them
+not-seven : (a b : Bool) (n : ℕ) → (n ≡ 7 → ⊥) → (a then 5 else b then 6 else n) ≡ 7 → ⊥
+not-seven true b n h q = omega arith
+not-seven false true n h q = omega arith
+not-seven false false n h q = h q
+
+pub feed-room : (d : Decoder) → d .held ≤ 3 → (t : Tables) (chunk room : List ℕ) → length chunk + 3 ≤ length room → feedRefusal d t chunk room ≡ 7 → ⊥
+unfolding feedRefusal
+feed-room d h t chunk room r = not-seven (not (valid d)) (eqb (d .ended) 1) _
+    (go (not (fits (family (d .encoding)) t)) (ltb 65536 (length chunk)) (ltb (length room) (length chunk + d .held)) (le-ltb (length room) (length chunk + d .held) (omega arith)))
+  where
+    number : (c e f : Bool) → ℕ
+    number c e f = c then 4 else e then 8 else f then 7 else 0
+
+    go : (c e f : Bool) → f ≡ false → number c e f ≡ 7 → ⊥
+    go true e f s q = omega arith
+    go false true f s q = omega arith
+    go false false true s q = subst T s tt
+    go false false false s q = omega arith
+
+pub finish-room : (d : Decoder) → d .held ≤ 3 → (room : List ℕ) → 3 ≤ length room → finishRefusal d room ≡ 7 → ⊥
+unfolding finishRefusal
+finish-room d h room r = not-seven (not (valid d)) (eqb (d .ended) 1) _ (go (ltb (length room) (d .held)) (le-ltb (length room) (d .held) (omega arith)))
+  where
+    number : Bool → ℕ
+    number f = f then 7 else 0
+
+    go : (f : Bool) → f ≡ false → number f ≡ 7 → ⊥
+    go true s q = subst T s tt
+    go false s q = omega arith
+
+-- A decoder of encoding e that takes feeds.
+record Ready (e m : ℕ) (d : Decoder) : Type 0 where
+  stands : Stands e m d
+  valid : valid d ≡ true
+  on : eqb (d .ended) 1 ≡ false
+
+encoding-is : {e m : ℕ} {d : Decoder} → Stands e m d → d .encoding ≡ e
+encoding-is (reads s xs w) = refl
+encoding-is ended = refl
+
+feed-accepts : (d : Decoder) (t : Tables) (chunk room : List ℕ) → valid d ≡ true → eqb (d .ended) 1 ≡ false → fits (family (d .encoding)) t ≡ true → length chunk ≤ 65536 → length chunk + d .held ≤ length room → feedRefusal d t chunk room ≡ 0
+unfolding feedRefusal
+feed-accepts d t chunk room v n f c r = rw (v, n, f, le-ltb 65536 (length chunk) c, le-ltb (length room) (length chunk + d .held) r)
+
+finish-accepts : (d : Decoder) (room : List ℕ) → valid d ≡ true → eqb (d .ended) 1 ≡ false → d .held ≤ length room → finishRefusal d room ≡ 0
+unfolding finishRefusal
+finish-accepts d room v n r = rw (v, n, le-ltb (length room) (d .held) r)
+
+-- no report: the decoder takes more
+goes-on : (e m : ℕ) {taken handed chunk room : List ℕ} {t : Tables} {d : Decoder} {h : History} {n : ℕ} → Step e m taken handed d (feed chunk t room) h n → eqb n 11 ≡ false → eqb (d .ended) 1 ≡ false → eqb (h .decoder .ended) 1 ≡ false
+goes-on e m (refused d c n p) q o = o
+goes-on e m (fed s xs chunk t room w z b) q o = refl
+goes-on e m (reported s xs chunk t room w z b) q o = absurd (subst T q tt)
+
+module _ (t : Tables) (e m : ℕ) (a : e ≤ 39) (l : m ≤ 1) (f : fits (family e) t ≡ true) where
+  roomy-from : (ps : List Piece) (last : List ℕ) (h : History) → Ready e m (h .decoder) → Roomy ps last → Accepts t h ps last
+  unfolding Accepts Roomy
+  roomy-from [] last h i r = finish-accepts (h .decoder) last (i .valid) (i .on) (omega (arith, parts (h .decoder) (i .valid) .held, r))
+  roomy-from (p ∷ ps) last h i r =
+      let d = h .decoder in
+      let z = feed-accepts d t (p .chunk) (p .room) (i .valid) (i .on) (ap (λ (e : ℕ). fits (family e) t) (encoding-is (i .stands)) ∙ f) (r .0) (omega (arith, r .1, parts d (i .valid) .held)) in
+      let x = stepped e m h (i .stands) (feed (p .chunk) t (p .room)) in (
+        z,
+        λ q. subst (λ (h′ : History). Accepts t h′ ps last) (sym (x .leads)) (roomy-from ps last (x .next) (record {
+          stands = still e m (x .step) (i .stands);
+          valid = valid-step e m a l (x .step) (i .valid);
+          on = goes-on e m (x .step) (ap (λ (n : ℕ). eqb n 11) (sym (x .refusal)) ∙ q) (i .on);
+        }) (r .2)),
+      )
+
+pub roomy : (t : Tables) (e m rule : ℕ) → openRefusal e m rule ≡ 0 → (ps : List Piece) (last : List ℕ) → fits (family e) t ≡ true → Roomy ps last → Accepts t (start e m rule) ps last
+unfolding start
+roomy t e m rule o ps last f r =
+    let b = opening-bounds e m rule o in
+    let k = opened-is e m rule o in
+    let v : valid (start e m rule .decoder) ≡ true = valid-opening e m rule in
+    subst (λ (h : History). Accepts t h ps last) (sym k) (roomy-from t e m (b .0) (b .1) f ps last (record { taken = []; handed = []; decoder = holding e m (newShift e rule) [] })
+    (record { stands = stands-new e m rule; valid = ap (λ (h : History). valid (h .decoder)) (sym k) ∙ v; on = refl }) r)
+
+-- what is written at the front of a room, and what stood behind it
+written-length : (cs room : List ℕ) → length cs ≤ length room → length (cs ++ drop (length cs) room) ≡ length room
+written-length cs room h = simp (length-append, length-drop) (omega arith)
+
+handed-length : (e m : ℕ) (is : List Item) (d : Decoder) (room : List ℕ) → length (shown is) ≤ length room → length (handOut e m is d room .room) ≡ length room
+handed-length e m is d room h = go (eqb m 1 && broken is)
+  where
+    given : Bool → Outcome
+    given b = b then write 11 (before is) (closed e m) room else write 0 (shown is) d room
+
+    go : (b : Bool) → length (given b .room) ≡ length room
+    go true = written-length (before is) room (omega (arith, before-length is))
+    go false = written-length (shown is) room h
+
+-- no refusal says that the room suffices
+room-left : (a b : Bool) (n : ℕ) → eqb (a then 5 else b then 6 else n) 0 ≡ true → eqb n 0 ≡ true
+room-left true b n h = absurd (subst T (sym h) tt)
+room-left false true n h = absurd (subst T (sym h) tt)
+room-left false false n h = h
+
+feed-enough : (d : Decoder) (t : Tables) (chunk room : List ℕ) → eqb (feedRefusal d t chunk room) 0 ≡ true → length chunk + d .held ≤ length room
+unfolding feedRefusal
+feed-enough d t chunk room h = go (not (fits (family (d .encoding)) t)) (ltb 65536 (length chunk)) (ltb (length room) (length chunk + d .held)) refl (room-left (not (valid d)) (eqb (d .ended) 1) _ h)
+  where
+    number : (c e f : Bool) → ℕ
+    number c e f = c then 4 else e then 8 else f then 7 else 0
+
+    go : (c e f : Bool) → ltb (length room) (length chunk + d .held) ≡ f → eqb (number c e f) 0 ≡ true → length chunk + d .held ≤ length room
+    go true e f s q = absurd (subst T (sym q) tt)
+    go false true f s q = absurd (subst T (sym q) tt)
+    go false false true s q = absurd (subst T (sym q) tt)
+    go false false false s q = ltb-false (length room) (length chunk + d .held) s
+
+finish-enough : (d : Decoder) (room : List ℕ) → eqb (finishRefusal d room) 0 ≡ true → d .held ≤ length room
+unfolding finishRefusal
+finish-enough d room h = go (ltb (length room) (d .held)) refl (room-left (not (valid d)) (eqb (d .ended) 1) _ h)
+  where
+    number : Bool → ℕ
+    number f = f then 7 else 0
+
+    go : (f : Bool) → ltb (length room) (d .held) ≡ f → eqb (number f) 0 ≡ true → d .held ≤ length room
+    go true s q = absurd (subst T (sym q) tt)
+    go false s q = ltb-false (length room) (d .held) s
+
+held-length : (d : Decoder) → length (heldOf d) ≤ d .held
+held-length d = simp length-take (omega arith)
+
+feed-keeps : (d : Decoder) (t : Tables) (chunk room : List ℕ) → length (feeding d t chunk room .room) ≡ length room
+unfolding feeding
+feed-keeps d t chunk room = go (eqb (feedRefusal d t chunk room) 0) refl
+  where
+    f : Family
+    f = family (d .encoding)
+
+    r : Read
+    r = decode (next t (family (d .encoding))) (shiftOf d) (heldOf d ++ chunk)
+
+    given : Bool → Outcome
+    given b = b then handOutRead (d .encoding) (d .mode) r room else refuse (feedRefusal d t chunk room) d room
+
+    go : (b : Bool) → eqb (feedRefusal d t chunk room) 0 ≡ b → length (given b .room) ≡ length room
+    go true q =
+        let R = reading (keeps f) (next t f) (next-laws t f) (shiftOf d) (heldOf d ++ chunk) in
+        handed-length (d .encoding) (d .mode) (r .items) (holding (d .encoding) (d .mode) (r .shift) (r .rest)) room
+        (omega (arith, feed-enough d t chunk room q, R .count, ap length (R .split) ∙ length-append (R .used) (r .rest), length-append (heldOf d) chunk, held-length d))
+    go false q = refl
+
+finish-keeps : (d : Decoder) (room : List ℕ) → length (finishing d room .room) ≡ length room
+unfolding finishing
+finish-keeps d room = go (eqb (finishRefusal d room) 0) refl
+  where
+    is : List Item
+    is = ending noTables (family (d .encoding)) (shiftOf d) (heldOf d)
+
+    given : Bool → Outcome
+    given b = b then handOut (d .encoding) (d .mode) is (closed (d .encoding) (d .mode)) room else refuse (finishRefusal d room) d room
+
+    go : (b : Bool) → eqb (finishRefusal d room) 0 ≡ b → length (given b .room) ≡ length room
+    go true q = handed-length (d .encoding) (d .mode) is (closed (d .encoding) (d .mode)) room
+        (omega (arith, finish-enough d room q, ending-is noTables (family (d .encoding)) (shiftOf d) (heldOf d) .count, held-length d))
+    go false q = refl
+
+pub room-kept : (d : Decoder) → RoomKept d
+room-kept d = record { fed = feed-keeps d; finished = finish-keeps d }

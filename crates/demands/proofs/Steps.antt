@@ -1,0 +1,233 @@
+-- What a call does to a history, by cases, and the induction over every list of calls. Assumes nothing.
+use mathlib.Core.Path.{_≡_, refl, sym, ap, _∙_, subst}
+use mathlib.Core.Bool.{Bool, true, false, not, _&&_}
+use mathlib.Core.List.{List, [], _∷_, _++_, append-nil}
+use Prim.Native.Nat.{ℕ, _+_, _≤_}
+use lib.Dec.{T, ltb, eqb}
+use lib.ListN.{length, take, drop}
+use lib.Seq.{take-append-seam}
+use borrow.Author.Tests.{eqb-true}
+use Rattle.standard.specs.Base.{_then_else_}
+use Rattle.standard.specs.Encodings.{family, Tables, noTables, fits}
+use Rattle.standard.specs.Sequence.{Shift, more}
+use Rattle.standard.specs.Next.{next}
+use Rattle.standard.specs.Decode.{Item, Read, decode, ending, shown, broken, before}
+use Rattle.standard.proofs.FamilyLaws.{keeps, next-laws}
+use Rattle.standard.proofs.Walk.{at-more}
+use Rattle.standard.proofs.AnyTables.{more-any}
+use Rattle.standard.proofs.Reading.{reading, empty}
+use Rattle.decoder.specs.Valid.{valid}
+use Rattle.decoder.specs.Record.{holding, closed, newShift}
+use Rattle.decoder.specs.Calls.{openRefusal, opening, Outcome, refuse, write, handOut, handOutRead, feedRefusal, feeding, finishRefusal, finishing}
+use Rattle.demands.specs.Histories.{Call, feed, finish, History, accepted, noted, outcome, chunkOf, after, start}
+use Rattle.decoder.specs.declared.Decoder.{Decoder}
+use Rattle.decoder.proofs.Records.{bit-back, held-holding}
+
+-- A decoder of encoding e and mode m that calls leave: it reads on from a shift and the bytes of a started sequence, or it has ended.
+pub data Stands (e m : ℕ) : Decoder → Type 0 where
+  reads : (s : Shift) (xs : List ℕ) → next noTables (family e) s xs ≡ more → Stands e m (holding e m s xs)
+  ended : Stands e m (closed e m)
+
+-- What is read of the bytes held and a chunk.
+abbrev pub readOf : ℕ → Tables → Shift → List ℕ → List ℕ → Read
+readOf e t s xs chunk = decode (next t (family e)) s (xs ++ chunk)
+
+abbrev pub endOf : ℕ → Shift → List ℕ → List Item
+endOf e s xs = ending noTables (family e) s xs
+
+-- A call on a decoder, the history it leads to, and its refusal number.
+pub data Step (e m : ℕ) (taken handed : List ℕ) : Decoder → Call → History → ℕ → Type 0 where
+  refused : (d : Decoder) (c : Call) (n : ℕ) → accepted n ≡ false → Step e m taken handed d c (record { taken = taken; handed = handed; decoder = d }) n
+  fed : (s : Shift) (xs chunk : List ℕ) (t : Tables) (room : List ℕ) → next noTables (family e) s xs ≡ more → feedRefusal (holding e m s xs) t chunk room ≡ 0 → eqb m 1 && broken (readOf e t s xs chunk .items) ≡ false →
+      Step e m taken handed (holding e m s xs) (feed chunk t room) (record { taken = taken ++ chunk; handed = handed ++ shown (readOf e t s xs chunk .items); decoder = holding e m (readOf e t s xs chunk .shift) (readOf e t s xs chunk .rest) }) 0
+  reported : (s : Shift) (xs chunk : List ℕ) (t : Tables) (room : List ℕ) → next noTables (family e) s xs ≡ more → feedRefusal (holding e m s xs) t chunk room ≡ 0 → eqb m 1 && broken (readOf e t s xs chunk .items) ≡ true →
+      Step e m taken handed (holding e m s xs) (feed chunk t room) (record { taken = taken ++ chunk; handed = handed ++ before (readOf e t s xs chunk .items); decoder = closed e m }) 11
+  closes : (s : Shift) (xs room : List ℕ) → next noTables (family e) s xs ≡ more → finishRefusal (holding e m s xs) room ≡ 0 → eqb m 1 && broken (endOf e s xs) ≡ false →
+      Step e m taken handed (holding e m s xs) (finish room) (record { taken = taken; handed = handed ++ shown (endOf e s xs); decoder = closed e m }) 0
+  closes-reported : (s : Shift) (xs room : List ℕ) → next noTables (family e) s xs ≡ more → finishRefusal (holding e m s xs) room ≡ 0 → eqb m 1 && broken (endOf e s xs) ≡ true →
+      Step e m taken handed (holding e m s xs) (finish room) (record { taken = taken; handed = handed ++ before (endOf e s xs); decoder = closed e m }) 11
+
+-- a call's refusal is none of an accepted one's, unless it is 0
+five-six : (a b : Bool) (n : ℕ) → eqb n 11 ≡ false → eqb (a then 5 else b then 6 else n) 11 ≡ false
+five-six true b n h = refl
+five-six false true n h = refl
+five-six false false n h = h
+
+pub feed-not-11 : (d : Decoder) (t : Tables) (chunk room : List ℕ) → eqb (feedRefusal d t chunk room) 11 ≡ false
+unfolding feedRefusal
+feed-not-11 d t chunk room = five-six (not (valid d)) (eqb (d .ended) 1) _ (go (not (fits (family (d .encoding)) t)) (ltb 65536 (length chunk)) (ltb (length room) (length chunk + d .held)))
+  where
+    go : (c e f : Bool) → eqb (c then 4 else e then 8 else f then 7 else 0) 11 ≡ false
+    go true e f = refl
+    go false true f = refl
+    go false false true = refl
+    go false false false = refl
+
+pub finish-not-11 : (d : Decoder) (room : List ℕ) → eqb (finishRefusal d room) 11 ≡ false
+unfolding finishRefusal
+finish-not-11 d room = five-six (not (valid d)) (eqb (d .ended) 1) _ (go (ltb (length room) (d .held)))
+  where
+    go : (f : Bool) → eqb (f then 7 else 0) 11 ≡ false
+    go true = refl
+    go false = refl
+
+-- an accepted call finds a decoder that has not ended
+six : (a b : Bool) (n : ℕ) → eqb (a then 5 else b then 6 else n) 0 ≡ true → b ≡ false
+six true b n h = absurd (subst T (sym h) tt)
+six false true n h = absurd (subst T (sym h) tt)
+six false false n h = refl
+
+pub feed-open : (d : Decoder) (t : Tables) (chunk room : List ℕ) → eqb (feedRefusal d t chunk room) 0 ≡ true → eqb (d .ended) 1 ≡ false
+unfolding feedRefusal
+feed-open d t chunk room h = six (not (valid d)) (eqb (d .ended) 1) _ h
+
+pub finish-open : (d : Decoder) (room : List ℕ) → eqb (finishRefusal d room) 0 ≡ true → eqb (d .ended) 1 ≡ false
+unfolding finishRefusal
+finish-open d room h = six (not (valid d)) (eqb (d .ended) 1) _ h
+
+neither : (n : ℕ) → eqb n 0 ≡ false → eqb n 11 ≡ false → accepted n ≡ false
+neither n p q = rw (p, q)
+
+-- What a call comes to.
+pub record Stepped (e m : ℕ) (h : History) (c : Call) : Type 0 where
+  pub next : History
+  pub number : ℕ
+  pub leads : noted h (chunkOf c) (outcome h c) ≡ next
+  pub refusal : outcome h c .answer .refusal ≡ number
+  pub step : Step e m (h .taken) (h .handed) (h .decoder) c next number
+
+module _ (e m : ℕ) where
+  pub few : (s : Shift) (xs : List ℕ) → next noTables (family e) s xs ≡ more → length xs ≤ 3
+  few s xs w = at-more (keeps (family e)) (next noTables (family e)) (next-laws noTables (family e)) s xs w .0
+
+  -- the outcome of an accepted feed and finish
+  pub feed-holding : (s : Shift) (xs : List ℕ) (t : Tables) (chunk room : List ℕ) → next noTables (family e) s xs ≡ more → feedRefusal (holding e m s xs) t chunk room ≡ 0 →
+      feeding (holding e m s xs) t chunk room ≡ handOutRead e m (readOf e t s xs chunk) room
+  unfolding feeding
+  feed-holding s xs t chunk room w h = rw (h, bit-back (s .flag), held-holding e m s xs (few s xs w))
+
+  pub finish-holding : (s : Shift) (xs room : List ℕ) → next noTables (family e) s xs ≡ more → finishRefusal (holding e m s xs) room ≡ 0 →
+      finishing (holding e m s xs) room ≡ handOut e m (endOf e s xs) (closed e m) room
+  unfolding finishing
+  finish-holding s xs room w h = rw (h, bit-back (s .flag), held-holding e m s xs (few s xs w))
+
+  feed-refused : (d : Decoder) (t : Tables) (chunk room : List ℕ) → eqb (feedRefusal d t chunk room) 0 ≡ false → feeding d t chunk room ≡ refuse (feedRefusal d t chunk room) d room
+  unfolding feeding
+  feed-refused d t chunk room h = rw h
+
+  finish-refused : (d : Decoder) (room : List ℕ) → eqb (finishRefusal d room) 0 ≡ false → finishing d room ≡ refuse (finishRefusal d room) d room
+  unfolding finishing
+  finish-refused d room h = rw h
+
+  module _ (h : History) where
+    -- what was written stands at the front of the room
+    front : (cs room : List ℕ) → h .handed ++ take (length cs) (cs ++ drop (length cs) room) ≡ h .handed ++ cs
+    front cs room = rw (take-append-seam cs (drop (length cs) room))
+
+    refusing : (c : Call) (d : Decoder) → h .decoder ≡ d → (n : ℕ) (room : List ℕ) → eqb n 0 ≡ false → eqb n 11 ≡ false → outcome h c ≡ refuse n d room → Stepped e m h c
+    refusing c d k n room p q o = record {
+      next = h;
+      number = n;
+      leads = ap (noted h (chunkOf c)) o ∙ rw (p, q, append-nil (h .taken), append-nil (h .handed), ← k);
+      refusal = ap (λ (o : Outcome). o .answer .refusal) o;
+      step = refused (h .decoder) c n (neither n p q);
+    }
+
+    feeds : (s : Shift) (xs : List ℕ) → h .decoder ≡ holding e m s xs → next noTables (family e) s xs ≡ more → (chunk : List ℕ) (t : Tables) (room : List ℕ) → feedRefusal (holding e m s xs) t chunk room ≡ 0 → Stepped e m h (feed chunk t room)
+    feeds s xs k w chunk t room z = go (eqb m 1 && broken (readOf e t s xs chunk .items)) refl
+      where
+        r : Read
+        r = readOf e t s xs chunk
+
+        given : Bool → Outcome
+        given b = b then write 11 (before (r .items)) (closed e m) room else write 0 (shown (r .items)) (holding e m (r .shift) (r .rest)) room
+
+        is : outcome h (feed chunk t room) ≡ given (eqb m 1 && broken (r .items))
+        is = ap (λ (d : Decoder). feeding d t chunk room) k ∙ feed-holding s xs t chunk room w z
+
+        go : (b : Bool) → eqb m 1 && broken (r .items) ≡ b → Stepped e m h (feed chunk t room)
+        go true q = record {
+          next = record { taken = h .taken ++ chunk; handed = h .handed ++ before (r .items); decoder = closed e m };
+          number = 11;
+          leads = ap (noted h chunk) (is ∙ ap given q) ∙ (λ i. record { taken = h .taken ++ chunk; handed = front (before (r .items)) room i; decoder = closed e m });
+          refusal = ap (λ (o : Outcome). o .answer .refusal) (is ∙ ap given q);
+          step = rw k (reported s xs chunk t room w z q);
+        }
+        go false q = record {
+          next = record { taken = h .taken ++ chunk; handed = h .handed ++ shown (r .items); decoder = holding e m (r .shift) (r .rest) };
+          number = 0;
+          leads = ap (noted h chunk) (is ∙ ap given q) ∙ (λ i. record { taken = h .taken ++ chunk; handed = front (shown (r .items)) room i; decoder = holding e m (r .shift) (r .rest) });
+          refusal = ap (λ (o : Outcome). o .answer .refusal) (is ∙ ap given q);
+          step = rw k (fed s xs chunk t room w z q);
+        }
+
+    finishes : (s : Shift) (xs : List ℕ) → h .decoder ≡ holding e m s xs → next noTables (family e) s xs ≡ more → (room : List ℕ) → finishRefusal (holding e m s xs) room ≡ 0 → Stepped e m h (finish room)
+    finishes s xs k w room z = go (eqb m 1 && broken (endOf e s xs)) refl
+      where
+        given : Bool → Outcome
+        given b = b then write 11 (before (endOf e s xs)) (closed e m) room else write 0 (shown (endOf e s xs)) (closed e m) room
+
+        is : outcome h (finish room) ≡ given (eqb m 1 && broken (endOf e s xs))
+        is = ap (λ (d : Decoder). finishing d room) k ∙ finish-holding s xs room w z
+
+        go : (b : Bool) → eqb m 1 && broken (endOf e s xs) ≡ b → Stepped e m h (finish room)
+        go true q = record {
+          next = record { taken = h .taken; handed = h .handed ++ before (endOf e s xs); decoder = closed e m };
+          number = 11;
+          leads = ap (noted h []) (is ∙ ap given q) ∙ (λ i. record { taken = append-nil (h .taken) i; handed = front (before (endOf e s xs)) room i; decoder = closed e m });
+          refusal = ap (λ (o : Outcome). o .answer .refusal) (is ∙ ap given q);
+          step = rw k (closes-reported s xs room w z q);
+        }
+        go false q = record {
+          next = record { taken = h .taken; handed = h .handed ++ shown (endOf e s xs); decoder = closed e m };
+          number = 0;
+          leads = ap (noted h []) (is ∙ ap given q) ∙ (λ i. record { taken = append-nil (h .taken) i; handed = front (shown (endOf e s xs)) room i; decoder = closed e m });
+          refusal = ap (λ (o : Outcome). o .answer .refusal) (is ∙ ap given q);
+          step = rw k (closes s xs room w z q);
+        }
+
+    on-feed : (d : Decoder) → h .decoder ≡ d → Stands e m d → (chunk : List ℕ) (t : Tables) (room : List ℕ) (b : Bool) → eqb (feedRefusal d t chunk room) 0 ≡ b → Stepped e m h (feed chunk t room)
+    on-feed d k st chunk t room false q = refusing (feed chunk t room) d k (feedRefusal d t chunk room) room q (feed-not-11 d t chunk room)
+        (ap (λ (d : Decoder). feeding d t chunk room) k ∙ feed-refused d t chunk room q)
+    on-feed d k (reads s xs w) chunk t room true q = feeds s xs k w chunk t room (eqb-true (feedRefusal (holding e m s xs) t chunk room) 0 q)
+    on-feed d k ended chunk t room true q = absurd (subst T (feed-open (closed e m) t chunk room q) tt)
+
+    on-finish : (d : Decoder) → h .decoder ≡ d → Stands e m d → (room : List ℕ) (b : Bool) → eqb (finishRefusal d room) 0 ≡ b → Stepped e m h (finish room)
+    on-finish d k st room false q = refusing (finish room) d k (finishRefusal d room) room q (finish-not-11 d room) (ap (λ (d : Decoder). finishing d room) k ∙ finish-refused d room q)
+    on-finish d k (reads s xs w) room true q = finishes s xs k w room (eqb-true (finishRefusal (holding e m s xs) room) 0 q)
+    on-finish d k ended room true q = absurd (subst T (finish-open (closed e m) room q) tt)
+
+  pub stepped : (h : History) → Stands e m (h .decoder) → (c : Call) → Stepped e m h c
+  stepped h st (feed chunk t room) = on-feed h (h .decoder) refl st chunk t room (eqb (feedRefusal (h .decoder) t chunk room) 0) refl
+  stepped h st (finish room) = on-finish h (h .decoder) refl st room (eqb (finishRefusal (h .decoder) room) 0) refl
+
+  -- a call leaves a decoder that stands
+  pub still : {taken handed : List ℕ} {d : Decoder} {c : Call} {h : History} {n : ℕ} → Step e m taken handed d c h n → Stands e m d → Stands e m (h .decoder)
+  still (refused d c n p) st = st
+  still (fed s xs chunk t room w z q) st =
+      let r = readOf e t s xs chunk in
+      reads (r .shift) (r .rest) (more-any t noTables (family e) (r .shift) (r .rest) (reading (keeps (family e)) (next t (family e)) (next-laws t (family e)) s (xs ++ chunk) .waits))
+  still (reported s xs chunk t room w z q) st = ended
+  still (closes s xs room w z q) st = ended
+  still (closes-reported s xs room w z q) st = ended
+
+  -- The induction over every list of calls.
+  pub every-list : (P : History → Type 0) → ((h : History) (c : Call) (h′ : History) (n : ℕ) → Stands e m (h .decoder) → P h → Step e m (h .taken) (h .handed) (h .decoder) c h′ n → P h′) →
+      (h : History) (cs : List Call) → Stands e m (h .decoder) → P h → P (after h cs)
+  unfolding after
+  every-list P f h [] st p = p
+  every-list P f h (c ∷ cs) st p =
+      let x = stepped h st c in
+      subst (λ (h′ : History). P (after h′ cs)) (sym (x .leads)) (every-list P f (x .next) cs (still (x .step) st) (f h c (x .next) (x .number) st p (x .step)))
+
+-- what an accepted opening leaves
+pub opened-is : (e m rule : ℕ) → openRefusal e m rule ≡ 0 → start e m rule ≡ record { taken = []; handed = []; decoder = holding e m (newShift e rule) [] }
+unfolding start opening
+opened-is e m rule h = rw h
+
+pub refused-opening : (e m rule : ℕ) → eqb (openRefusal e m rule) 0 ≡ false → start e m rule ≡ record { taken = []; handed = []; decoder = closed 0 0 }
+unfolding start opening
+refused-opening e m rule h = rw h
+
+pub stands-new : (e m rule : ℕ) → Stands e m (holding e m (newShift e rule) [])
+stands-new e m rule = reads (newShift e rule) [] (empty noTables (family e) (newShift e rule))

@@ -1,0 +1,5 @@
+pub mod Histories
+pub mod Statements
+pub mod Whole
+pub mod Samples
+pub mod Orders

@@ -1,0 +1,61 @@
+-- The order of the refusals of opening, feed and finish: for each two causes that can hold at once, which number is given. Assumes nothing.
+use mathlib.Core.Path.{_≡_}
+use mathlib.Core.List.{List, [], _∷_}
+use Prim.Native.Nat.{ℕ}
+use lib.ListN.{length, replicate}
+use Rattle.standard.specs.Encodings.{noTables}
+use Rattle.decoder.specs.Record.{new, closed}
+use Rattle.decoder.specs.Calls.{refuse, opening, feeding, finishing}
+use Rattle.decoder.specs.declared.Decoder.{Decoder}
+use Rattle.decoder.specs.declared.Answer.{Answer}
+
+-- A record that no calls leave, since its mode is 2: of encoding e, ended or not, with so many bytes held.
+abbrev pub unmade : ℕ → ℕ → ℕ → Decoder
+unmade e ended held = record { encoding = e; mode = 2; state = 0; flag = 0; held = held; first = 0; second = 0; third = 0; ended = ended }
+
+-- Opening is refused with n, and answers a record that has ended.
+abbrev pub OpenRefused : ℕ → ℕ → ℕ → ℕ → Type 0
+OpenRefused e m rule n = _≡_ {A = Answer} (opening e m rule) (record { written = 0; refusal = n; decoder = closed 0 0 })
+
+-- A feed without tables, and a finish, are refused with n and leave everything as it was. Encoding 1 wants a table; encoding 0 wants none.
+abbrev pub FeedRefused : Decoder → List ℕ → List ℕ → ℕ → Type 0
+FeedRefused d chunk room n = feeding d noTables chunk room ≡ refuse n d room
+
+abbrev pub FinishRefused : Decoder → List ℕ → ℕ → Type 0
+FinishRefused d room n = finishing d room ≡ refuse n d room
+
+-- chunks of one byte, of 65,536 and of one more; rooms for them; no room
+abbrev pub one : List ℕ
+one = 0x41 ∷ []
+
+abbrev pub longest : List ℕ
+longest = replicate 65536 0x41
+
+abbrev pub tooLong : List ℕ
+tooLong = replicate 65537 0x41
+
+pub record Orders : Type 0 where
+  -- opening: 2, 3
+  pub open-2 : OpenRefused 40 0 0 2
+  pub open-2-mode-3 : OpenRefused 40 2 0 2
+  pub open-2-rule-3 : OpenRefused 40 0 2 2
+  pub open-mode-3 : OpenRefused 39 2 0 3
+  pub open-rule-3 : OpenRefused 39 0 2 3
+  -- feed: 5, 6, 4, 8, 7
+  pub feed-5-6 : FeedRefused (unmade 0 1 0) one one 5
+  pub feed-5-4 : FeedRefused (unmade 1 0 0) one one 5
+  pub feed-5-8 : FeedRefused (unmade 0 0 0) tooLong tooLong 5
+  pub feed-5-7 : FeedRefused (unmade 0 0 0) one [] 5
+  pub feed-6-4 : FeedRefused (closed 1 0) one one 6
+  pub feed-6-8 : FeedRefused (closed 0 0) tooLong tooLong 6
+  pub feed-6-7 : FeedRefused (closed 0 0) one [] 6
+  pub feed-4-8 : FeedRefused (new 1 0 0) tooLong tooLong 4
+  pub feed-4-7 : FeedRefused (new 1 0 0) one [] 4
+  pub feed-8-7 : FeedRefused (new 0 0 0) tooLong [] 8
+  pub feed-8 : FeedRefused (new 0 0 0) tooLong tooLong 8
+  pub feed-7 : FeedRefused (new 0 0 0) longest [] 7
+  -- finish: 5, 6, 7. A record that has ended holds nothing, so with 6 there is no 7.
+  pub finish-5-6 : FinishRefused (unmade 0 1 0) [] 5
+  pub finish-5-7 : FinishRefused (unmade 0 0 1) [] 5
+  pub finish-6 : FinishRefused (closed 0 0) [] 6
+  pub finish-7 : FinishRefused (feeding (new 0 0 0) noTables (0xC3 ∷ []) one .answer .decoder) [] 7

@@ -1,0 +1,52 @@
+-- Document 01, "Sample readings": those marked with a star, by their numbers, and one more of gb18030. Each is fed, then finished,
+-- in replacing mode. Assumes nothing.
+use mathlib.Core.Path.{_≡_}
+use mathlib.Core.List.{List, [], _∷_}
+use Prim.Native.Nat.{ℕ, _+_, _≤_}
+use lib.ListN.{length, replicate}
+use Rattle.standard.specs.Encodings.{Family, family, Second, cells, ranges, traits, Tables}
+use Rattle.decoder.specs.Record.{closed}
+use Rattle.demands.specs.Histories.{start}
+use Rattle.demands.specs.Statements.{Piece, cutting, Account, account}
+
+-- tables of the lengths that fit, every cell c; no ranges
+abbrev pub secondCells : Second → ℕ
+secondCells (cells n) = n
+secondCells ranges = 0
+
+unfoldable pub filled : ℕ → Family → Tables
+filled c f = record { first = replicate (traits f .first) c; second = replicate (secondCells (traits f .second)) c }
+
+-- Encoding e, lent the tables t, reads the bytes xs as the scalars cs, by both mark rules.
+abbrev pub gives : ℕ → ℕ → Tables → List ℕ → List ℕ → Type 0
+gives e rule t xs cs =
+    let once : Piece = record { chunk = xs; room = replicate (length xs + 3) 0 } in
+    _≡_ {A = Account} (account (start e 0 rule) (cutting t (once ∷ []) (replicate 3 0))) (record { handed = cs; reports = []; decoder = closed e 0 })
+
+abbrev pub Reads : ℕ → Tables → List ℕ → List ℕ → Type 0
+Reads e t xs cs = gives e 0 t xs cs × gives e 1 t xs cs
+
+-- the same with nothing mapped
+abbrev pub Unmapped : ℕ → List ℕ → List ℕ → Type 0
+Unmapped e xs cs = Reads e (filled 0 (family e)) xs cs
+
+pub record Samples : Type 0 where
+  pub no-bytes-1 : (e : ℕ) → e ≤ 39 → Unmapped e [] []
+  pub utf8-2 : Unmapped 0 (0xF0 ∷ 0x9F ∷ 0x92 ∷ 0xA9 ∷ []) (0x1F4A9 ∷ [])
+  pub utf8-3 : Unmapped 0 (0xE2 ∷ 0x82 ∷ []) (0xFFFD ∷ [])
+  pub utf8-4 : Unmapped 0 (0xED ∷ 0xA0 ∷ 0x80 ∷ []) (0xFFFD ∷ 0xFFFD ∷ 0xFFFD ∷ [])
+  pub utf8-4-overlong : Unmapped 0 (0xC0 ∷ 0x80 ∷ []) (0xFFFD ∷ 0xFFFD ∷ [])
+  pub shift-jis-5 : Unmapped 34 (0x82 ∷ 0x22 ∷ []) (0xFFFD ∷ 0x22 ∷ [])
+  pub gb18030-6 : Unmapped 30 (0x81 ∷ 0x30 ∷ 0x2C ∷ []) (0xFFFD ∷ 0x30 ∷ 0x2C ∷ [])
+  pub gb18030-7 : Unmapped 30 (0x81 ∷ 0x30 ∷ []) (0xFFFD ∷ [])
+  pub gb18030-8 : Unmapped 30 (0x81 ∷ 0x35 ∷ 0xF4 ∷ 0x37 ∷ []) (0xE7C7 ∷ [])
+  pub gb18030-8-pair : Reads 30
+      (record { first = replicate 23940 0; second = 189000 ∷ 65536 ∷ [] })
+      (0x90 ∷ 0x30 ∷ 0x81 ∷ 0x30 ∷ []) (0x10000 ∷ [])
+  pub utf16le-9 : Unmapped 38 (0x3D ∷ 0xD8 ∷ 0xA9 ∷ 0xDC ∷ []) (0x1F4A9 ∷ [])
+  pub utf16le-9-lone : Unmapped 38 (0x3D ∷ 0xD8 ∷ 0x41 ∷ 0x00 ∷ []) (0xFFFD ∷ 0x41 ∷ [])
+  pub iso2022jp-10 : Unmapped 33 (0x1B ∷ 0x28 ∷ 0x42 ∷ 0x1B ∷ 0x28 ∷ 0x42 ∷ []) (0xFFFD ∷ [])
+  pub iso2022jp-10-cut : Unmapped 33 (0x1B ∷ 0x24 ∷ []) (0xFFFD ∷ 0x24 ∷ [])
+  pub eucjp-11 : Unmapped 32 (0x8F ∷ 0xA1 ∷ 0x09 ∷ []) (0xFFFD ∷ 0x09 ∷ [])
+  pub big5-12 : Unmapped 31 (0x88 ∷ 0x62 ∷ []) (0xCA ∷ 0x304 ∷ [])
+  pub gb18030-fourth : Unmapped 30 (0x81 ∷ 0x30 ∷ 0x81 ∷ 0x20 ∷ []) (0xFFFD ∷ 0x30 ∷ 0xFFFD ∷ 0x20 ∷ [])

@@ -1,0 +1,176 @@
+-- The refusal of a call, and what the call leaves. Assumes nothing.
+use mathlib.Core.Path.{_≡_, refl, sym, ap, _∙_}
+use mathlib.Core.Bool.{Bool, true, false, not}
+use mathlib.Core.List.{List}
+use mathlib.Core.Option.{some, none}
+use Prim.Native.Nat.{ℕ, zero, suc, _+_, _-_, _≤_, _<_}
+use native.Mathlib.Omega.{arith}
+use lib.Dec.{ltb, leb, eqb}
+use lib.ListN.{length}
+use borrow.Author.Tests.{ltb-false, leb-true, leb-false, eqb-true, eqb-false, lt-ltb, le-ltb, le-leb, eq-eqb, ne-eqb}
+use Rattle.standard.specs.Base.{_then_else_, scalars}
+use Rattle.standard.specs.Encodings.{Family, family, traits, secondFits, Tables, fits}
+use Rattle.standard.specs.Encoders.{encoder}
+use Rattle.standard.proofs.Tests.{split, or-case, and-left}
+use Rattle.encoder_spec.specs.Writer.{Writing, Outcome, refuse, write, writerCall}
+use Rattle.encoder_spec.specs.declared.Written.{Written}
+use Rattle.encoder.specs.WriterCode.{writes, encoderOf, writingOf, Space, Wrote, textRefusal, refusalOf}
+
+-- the encodings with a writer
+module _ {A : Type 0} (e : ℕ) (w : writes e ≡ true) where
+  by-writer : (e ≡ 0 → A) → (e ≡ 21 → A) → ((e ≡ 0 → ⊥) → (e ≡ 21 → ⊥) → e ≤ 28 → A) → (e ≡ 39 → A) → A
+  by-writer f g h k = or-case (leb e 28) (eqb e 39) w
+      (λ l. split (eqb e 0) (λ z. f (eqb-true e 0 z)) (λ z. split (eqb e 21) (λ y. g (eqb-true e 21 y)) (λ y. h (eqb-false e 0 z) (eqb-false e 21 y) (leb-true e 28 l))))
+      (λ l. k (eqb-true e 39 l))
+
+encoder-writer : (e : ℕ) (t : Tables) → writes e ≡ true → encoder t (family e) ≡ some (encoderOf e (t .first))
+unfolding family encoderOf
+encoder-writer e t w = by-writer e w (λ h. rw h) (λ h. rw h) (λ f g h. rw (ne-eqb e 0 f, ne-eqb e 21 g, le-leb e 28 h)) (λ h. rw h)
+
+-- such an encoding has a first table of 128 cells or none
+first-fits : (f : Family) (t : Tables) → fits f t ≡ true → length (t .first) ≡ traits f .first
+unfolding fits
+first-fits f t h = eqb-true (length (t .first)) (traits f .first) (and-left (eqb (length (t .first)) (traits f .first)) (secondFits (traits f .second) (length (t .second))) h)
+
+pub table-few : (e : ℕ) (t : Tables) → writes e ≡ true → fits (family e) t ≡ true → length (t .first) ≤ 128
+unfolding family traits
+table-few e t w f = omega (arith, first-fits (family e) t f, few)
+  where
+    few : traits (family e) .first ≤ 128
+    few = by-writer e w
+        (λ h. rw h (omega arith))
+        (λ h. rw h (omega arith))
+        (λ f g h. rw (ne-eqb e 0 f, ne-eqb e 21 g, le-leb e 28 h) (omega arith))
+        (λ h. rw h (omega arith))
+
+-- those without
+no-encoder-at : (t : Tables) (k : ℕ) → k < 10 → encoder t (family (29 + k)) ≡ none
+unfolding family
+no-encoder-at t zero h = refl
+no-encoder-at t (suc zero) h = refl
+no-encoder-at t (suc (suc zero)) h = refl
+no-encoder-at t (suc (suc (suc zero))) h = refl
+no-encoder-at t (suc (suc (suc (suc zero)))) h = refl
+no-encoder-at t (suc (suc (suc (suc (suc zero))))) h = refl
+no-encoder-at t (suc (suc (suc (suc (suc (suc zero)))))) h = refl
+no-encoder-at t (suc (suc (suc (suc (suc (suc (suc zero))))))) h = refl
+no-encoder-at t (suc (suc (suc (suc (suc (suc (suc (suc zero)))))))) h = refl
+no-encoder-at t (suc (suc (suc (suc (suc (suc (suc (suc (suc zero))))))))) h = refl
+no-encoder-at t (suc (suc (suc (suc (suc (suc (suc (suc (suc (suc k)))))))))) h = absurd (omega arith)
+
+no-encoder : (e : ℕ) (t : Tables) → e ≤ 39 → writes e ≡ false → encoder t (family e) ≡ none
+no-encoder e t h w = split (leb e 28)
+    (λ l. let z : _≡_ {A = ℕ} 0 1 = cc (rw l at w) in absurd (omega arith))
+    (λ l. let g : 28 < e = leb-false e 28 l in let n : eqb e 39 ≡ false = rw l at w in
+    let k : e - 29 < 10 = omega (arith, eqb-false e 39 n) in
+    let q : e ≡ 29 + (e - 29) = omega arith in ap (λ (x : ℕ). encoder t (family x)) q ∙ no-encoder-at t (e - 29) k)
+
+-- The call, by its refusal.
+module _ (e m : ℕ) (t : Tables) (cs room : List ℕ) where
+  -- the bytes, and the refusal
+  abbrev w : Writing
+  w = writingOf e m (t .first) cs
+
+  abbrev refused : ℕ
+  refused = refusalOf e m t cs (length room)
+
+  -- what the call leaves where its refusal is n
+  by-refusal : ℕ → Outcome
+  by-refusal n = eqb n 0 then write w room else refuse n room
+
+  call : writerCall e m t cs room ≡ by-refusal refused
+  unfolding writerCall refusalOf textRefusal by-refusal
+  call = split (ltb 39 e) (λ h. rw h) (λ h. split (ltb 1 m) (λ g. rw (h, g)) (λ g. split (writes e)
+      (λ k. rw (h, g, k, encoder-writer e t k) (tests (fits (family e) t) (ltb 16384 (length cs)) (scalars cs) (ltb (length room) (length (w .bytes)))))
+      (λ k. rw (h, g, k, no-encoder e t (ltb-false 39 e h) k))))
+    where
+      tests : (f l s r : Bool) →
+          (f then (l then refuse 8 room else not s then refuse 10 room else r then refuse 7 room else write w room) else refuse 4 room) ≡
+          by-refusal (not f then 4 else l then 8 else not s then 10 else r then 7 else 0)
+      tests false l s r = refl
+      tests true true s r = refl
+      tests true false false r = refl
+      tests true false true true = refl
+      tests true false true false = refl
+
+  -- what is known of an accepted call
+  pub record Accepted : Type 0 where
+    pub few : length (t .first) ≤ 128
+    pub are-scalars : scalars cs ≡ true
+    pub space : Space w room
+
+  pub accepted : refused ≡ 0 → Accepted
+  unfolding refusalOf textRefusal
+  accepted h = let a = go (ltb 39 e) (ltb 1 m) (writes e) (fits (family e) t) (ltb 16384 (length cs)) (scalars cs) (ltb (length room) (length (w .bytes))) h in
+      record { few = table-few e t (a .0) (a .1); are-scalars = a .2; space = ltb-false (length room) (length (w .bytes)) (a .3) }
+    where
+      go : (a b w f l s r : Bool) →
+          _≡_ {A = ℕ} (a then 2 else b then 3 else not w then 9 else not f then 4 else l then 8 else not s then 10 else r then 7 else 0) 0 →
+          (w ≡ true) × (f ≡ true) × (s ≡ true) × (r ≡ false)
+      go true b w f l s r h = absurd (omega arith)
+      go false true w f l s r h = absurd (omega arith)
+      go false false false f l s r h = absurd (omega arith)
+      go false false true false l s r h = absurd (omega arith)
+      go false false true true true s r h = absurd (omega arith)
+      go false false true true false false r h = absurd (omega arith)
+      go false false true true false true true h = absurd (omega arith)
+      go false false true true false true false h = (refl, refl, refl, refl)
+
+  -- what the call leaves, part by part
+  abbrev Leaves : Written → List ℕ → Type 0
+  Leaves answer after = (answer ≡ writerCall e m t cs room .answer) × (after ≡ writerCall e m t cs room .room)
+
+  leaves : {o : Outcome} → writerCall e m t cs room ≡ o → Leaves (o .answer) (o .room)
+  leaves q = (ap (λ (o : Outcome). o .answer) (sym q), ap (λ (o : Outcome). o .room) (sym q))
+
+  module _ (r : ℕ) (p : r ≡ refused) where
+    pub tells-refusal : (r ≡ 0 → ⊥) → Leaves (record { written = 0; index = 0; refusal = r }) room
+    unfolding by-refusal
+    tells-refusal n = leaves (call ∙ ap by-refusal (sym p) ∙ rw (ne-eqb r 0 n))
+
+    pub tells-written : r ≡ 0 → {a : Written} {after : List ℕ} → Wrote w room a after → Leaves a after
+    unfolding by-refusal
+    tells-written z wrote =
+        let l = leaves {o = write w room} (call ∙ ap by-refusal (sym p) ∙ rw (eq-eqb r 0 z)) in
+        (wrote .answers ∙ l .0, wrote .leaves ∙ l .1)
+
+-- The refusals, one after the other.
+module _ (e m : ℕ) (t : Tables) (cs : List ℕ) (n : ℕ) where
+  pub refused-2 : 39 < e → 2 ≡ refusalOf e m t cs n
+  unfolding refusalOf
+  refused-2 h = rw (lt-ltb 39 e h)
+
+  module _ (h2 : e ≤ 39) where
+    pub refused-3 : 1 < m → 3 ≡ refusalOf e m t cs n
+    unfolding refusalOf
+    refused-3 h = rw (le-ltb 39 e h2, lt-ltb 1 m h)
+
+    module _ (h3 : m ≤ 1) where
+      pub refused-9 : writes e ≡ false → 9 ≡ refusalOf e m t cs n
+      unfolding refusalOf
+      refused-9 h = rw (le-ltb 39 e h2, le-ltb 1 m h3, h)
+
+      module _ (h9 : writes e ≡ true) where
+        pub refused-4 : fits (family e) t ≡ false → 4 ≡ refusalOf e m t cs n
+        unfolding refusalOf
+        refused-4 h = rw (le-ltb 39 e h2, le-ltb 1 m h3, h9, h)
+
+        pub refused-text : fits (family e) t ≡ true → textRefusal e m (t .first) cs n ≡ refusalOf e m t cs n
+        unfolding refusalOf
+        refused-text h = rw (le-ltb 39 e h2, le-ltb 1 m h3, h9, h)
+
+-- Those that depend on the scalars.
+module _ (e m : ℕ) (table cs : List ℕ) (n : ℕ) where
+  pub refused-8 : 16384 < length cs → 8 ≡ textRefusal e m table cs n
+  unfolding textRefusal
+  refused-8 h = rw (lt-ltb 16384 (length cs) h)
+
+  module _ (h8 : length cs ≤ 16384) where
+    pub refused-10 : scalars cs ≡ false → 10 ≡ textRefusal e m table cs n
+    unfolding textRefusal
+    refused-10 h = rw (le-ltb 16384 (length cs) h8, h)
+
+    pub refused-7 : scalars cs ≡ true → (r : Bool) → r ≡ ltb n (length (writingOf e m table cs .bytes)) →
+        (r then 7 else 0) ≡ textRefusal e m table cs n
+    unfolding textRefusal
+    refused-7 h r z = rw (le-ltb 16384 (length cs) h8, h, z)

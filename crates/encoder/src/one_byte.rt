@@ -1,0 +1,121 @@
+// The encodings of one byte a scalar: single-byte and x-user-defined. In html mode an unwritable scalar is a reference.
+
+use crate::references;
+use crate::slots;
+use encoder_spec::Written;
+ghost use mathlib.Core.Path.{_≡_};
+ghost use mathlib.Core.Bool.{true};
+ghost use Prim.Native.Nat.{_≤_};
+ghost use lib.ListN.{length};
+ghost use Rattle.standard.specs.Base.{scalars as areScalars};
+ghost use Rattle.encoder_spec.specs.Writer.{bytesOf};
+ghost use Rattle.encoder.specs.WriterCode.{given, encoderOf, OneByte, writingOf, Space, Wrote};
+
+// The byte of a scalar; 256 stands for an unwritable one.
+pub(crate) fn byte_of(encoding: u8, table: &[u32], c: u32) -> u32
+    requires { ⌜ (1 ≤ encoding) × (length (now table) ≤ 128) ⌝ }
+    ensures { λ r. ⌜ given r ≡ bytesOf (encoderOf encoding (now (table .entry)) c) ⌝ }
+{
+    if encoding == 21 {
+        return crate::single_byte::windows_1252(c);
+    }
+    if encoding <= 28 {
+        return crate::single_byte::byte_of(table, c);
+    }
+    crate::user_defined::byte_of(c)
+}
+
+// How many bytes are written of the scalars, with slots.
+fn count_by(encoding: u8, mode: u8, scalars: &[u32], table: &[u32], slots: &[u32]) -> usize
+    requires { ⌜ OneByte encoding (now table) (now slots) × (areScalars (now scalars) ≡ true) × (length (now scalars) ≤ 16384) ⌝ }
+    ensures { λ r. ⌜ r ≡ length (writingOf encoding mode (now (table .entry)) (now (scalars .entry)) .bytes) ⌝ }
+{
+    let mut n: usize = 0;
+    let mut i: usize = 0;
+    while i < scalars.len() {
+        let c = scalars[i];
+        if slots::byte_of(encoding, table, slots, c) < 256 {
+            n += 1;
+            i += 1;
+            continue;
+        }
+        if mode == 1 {
+            return n;
+        }
+        n += references::size(c);
+        i += 1;
+    }
+    n
+}
+
+// The same, with slots where they save time.
+pub(crate) fn count(encoding: u8, mode: u8, scalars: &[u32], table: &[u32]) -> usize
+    requires { ⌜ (1 ≤ encoding) × (areScalars (now scalars) ≡ true) × (length (now scalars) ≤ 16384) × (length (now table) ≤ 128) ⌝ }
+    ensures { λ r. ⌜ r ≡ length (writingOf encoding mode (now (table .entry)) (now (scalars .entry)) .bytes) ⌝ }
+{
+    if scalars.len() < slots::least(encoding) {
+        return count_by(encoding, mode, scalars, table, &table[0..0]);
+    }
+    let mut filled = [0u32; 2048];
+    slots::fill(encoding, table, &mut filled);
+    count_by(encoding, mode, scalars, table, &filled)
+}
+
+// The scalars written into a room that has space for all their bytes, with slots.
+fn write_by(
+    encoding: u8,
+    mode: u8,
+    scalars: &[u32],
+    table: &[u32],
+    slots: &[u32],
+    room: &mut [u8],
+) -> Written
+    requires { ⌜ OneByte encoding (now table) (now slots) × Space (writingOf encoding mode (now table) (now scalars)) (now room) ⌝ }
+    ensures { λ r. ⌜ Wrote (writingOf encoding mode (now (table .entry)) (now (scalars .entry))) (now (room .entry)) r (now (room .exit)) ⌝ }
+{
+    let mut o: usize = 0;
+    let mut i: usize = 0;
+    while i < scalars.len() {
+        let c = scalars[i];
+        let b = slots::byte_of(encoding, table, slots, c);
+        if b < 256 {
+            room[o] = b as u8;
+            o += 1;
+            i += 1;
+            continue;
+        }
+        if mode == 1 {
+            return Written {
+                written: o,
+                index: i,
+                refusal: 11,
+            };
+        }
+        o = references::put(room, o, c);
+        i += 1;
+    }
+    Written {
+        written: o,
+        index: 0,
+        refusal: 0,
+    }
+}
+
+// The same, with slots where they save time.
+pub(crate) fn write(
+    encoding: u8,
+    mode: u8,
+    scalars: &[u32],
+    table: &[u32],
+    room: &mut [u8],
+) -> Written
+    requires { ⌜ (1 ≤ encoding) × (length (now table) ≤ 128) × Space (writingOf encoding mode (now table) (now scalars)) (now room) ⌝ }
+    ensures { λ r. ⌜ Wrote (writingOf encoding mode (now (table .entry)) (now (scalars .entry))) (now (room .entry)) r (now (room .exit)) ⌝ }
+{
+    if scalars.len() < slots::least(encoding) {
+        return write_by(encoding, mode, scalars, table, &table[0..0], room);
+    }
+    let mut filled = [0u32; 2048];
+    slots::fill(encoding, table, &mut filled);
+    write_by(encoding, mode, scalars, table, &filled, room)
+}

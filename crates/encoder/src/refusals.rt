@@ -1,0 +1,104 @@
+// The refusals of the writer's call, in document 01's order: 2, 3, 9, 4, 8, 10, 7.
+
+use crate::writers::count;
+use crate::writers::most;
+use crate::writers::writes;
+use index::tables_fit;
+ghost use mathlib.Core.Path.{_≡_};
+ghost use mathlib.Core.Bool.{true};
+ghost use Prim.Native.Nat.{_≤_};
+ghost use lib.Dec.{ltb};
+ghost use lib.ListN.{length};
+ghost use Rattle.standard.specs.Base.{isScalar, scalars as areScalars};
+ghost use Rattle.standard.specs.Encodings.{lent};
+ghost use Rattle.encoder.specs.WriterCode.{noScalar, writingOf, textRefusal, refusalOf};
+
+fn is_scalar(c: u32) -> bool
+    ensures { λ r. ⌜ r ≡ isScalar c ⌝ }
+{
+    if c < 0xD800 {
+        return true;
+    }
+    if c < 0xE000 {
+        return false;
+    }
+    c <= 0x10FFFF
+}
+
+// 1 for a number that is no scalar, else 0.
+fn no_scalar(c: u32) -> u32
+    ensures { λ r. ⌜ (r ≡ noScalar c) × (r ≤ 1) ⌝ }
+{
+    if is_scalar(c) {
+        return 0;
+    }
+    1
+}
+
+// Are all of them scalars? The others are counted: a loop with no return in it takes several numbers at once.
+fn all_scalars(scalars: &[u32]) -> bool
+    requires { ⌜ length (now scalars) ≤ 16384 ⌝ }
+    ensures { λ r. ⌜ r ≡ areScalars (now (scalars .entry)) ⌝ }
+{
+    let mut others: u32 = 0;
+    let mut i: usize = 0;
+    while i < scalars.len() {
+        others += no_scalar(scalars[i]);
+        i += 1;
+    }
+    others == 0
+}
+
+// Is a room of so many bytes too small? The bytes are counted only where the most of them would not fit.
+fn lacks(encoding: u8, mode: u8, scalars: &[u32], table: &[u32], room: usize) -> bool
+    requires { ⌜ (areScalars (now scalars) ≡ true) × (length (now scalars) ≤ 16384) × (length (now table) ≤ 128) ⌝ }
+    ensures { λ r. ⌜ r ≡ ltb room (length (writingOf encoding mode (now (table .entry)) (now (scalars .entry)) .bytes)) ⌝ }
+{
+    if scalars.len() * most(encoding, mode) <= room {
+        return false;
+    }
+    room < count(encoding, mode, scalars, table)
+}
+
+// The refusal that depends on the scalars, or 0: 8, 10, 7.
+fn text_refusal(encoding: u8, mode: u8, scalars: &[u32], table: &[u32], room: usize) -> u8
+    requires { ⌜ length (now table) ≤ 128 ⌝ }
+    ensures { λ r. ⌜ r ≡ textRefusal encoding mode (now (table .entry)) (now (scalars .entry)) room ⌝ }
+{
+    if 16384 < scalars.len() {
+        return 8;
+    }
+    if !all_scalars(scalars) {
+        return 10;
+    }
+    if lacks(encoding, mode, scalars, table, room) {
+        return 7;
+    }
+    0
+}
+
+// The refusal of a call with so many bytes of room, or 0.
+pub(crate) fn refusal(
+    encoding: u8,
+    mode: u8,
+    scalars: &[u32],
+    t1: &[u32],
+    t2: &[u32],
+    room: usize,
+) -> u8
+    ensures { λ r. ⌜ r ≡ refusalOf encoding mode (lent (now (t1 .entry)) (now (t2 .entry))) (now (scalars .entry)) room ⌝ }
+{
+    if 39 < encoding {
+        return 2;
+    }
+    if 1 < mode {
+        return 3;
+    }
+    if !writes(encoding) {
+        return 9;
+    }
+    if !tables_fit(encoding, t1, t2) {
+        return 4;
+    }
+    text_refusal(encoding, mode, scalars, t1, room)
+}

@@ -1,0 +1,65 @@
+// The writer of each encoding number: UTF-8, or one byte a scalar.
+
+use encoder_spec::Written;
+ghost use mathlib.Core.Path.{_≡_};
+ghost use mathlib.Core.Bool.{true};
+ghost use Prim.Native.Nat.{_≤_};
+ghost use lib.ListN.{length};
+ghost use Rattle.standard.specs.Base.{scalars as areScalars};
+ghost use Rattle.encoder.specs.WriterCode.{writes, writingOf, mostOf, Space, Wrote};
+
+// Is there a writer for this encoding?
+pub(crate) fn writes(encoding: u8) -> bool
+    ensures { λ r. ⌜ r ≡ writes encoding ⌝ }
+{
+    if encoding <= 28 {
+        return true;
+    }
+    encoding == 39
+}
+
+// The most bytes that are written of one scalar.
+pub(crate) fn most(encoding: u8, mode: u8) -> usize
+    ensures { λ r. ⌜ (r ≡ mostOf encoding mode) × (r ≤ 10) ⌝ }
+{
+    if encoding == 0 {
+        return 4;
+    }
+    if mode == 1 {
+        return 1;
+    }
+    10
+}
+
+// How many bytes are written of the scalars.
+pub(crate) fn count(encoding: u8, mode: u8, scalars: &[u32], table: &[u32]) -> usize
+    requires { ⌜ (areScalars (now scalars) ≡ true) × (length (now scalars) ≤ 16384) × (length (now table) ≤ 128) ⌝ }
+    ensures { λ r. ⌜ r ≡ length (writingOf encoding mode (now (table .entry)) (now (scalars .entry)) .bytes) ⌝ }
+{
+    if encoding == 0 {
+        return crate::utf8::count(scalars);
+    }
+    crate::one_byte::count(encoding, mode, scalars, table)
+}
+
+// The scalars written into a room that has space for all their bytes.
+pub(crate) fn write(
+    encoding: u8,
+    mode: u8,
+    scalars: &[u32],
+    table: &[u32],
+    room: &mut [u8],
+) -> Written
+    requires { ⌜ (areScalars (now scalars) ≡ true) × (length (now table) ≤ 128) × Space (writingOf encoding mode (now table) (now scalars)) (now room) ⌝ }
+    ensures { λ r. ⌜ Wrote (writingOf encoding mode (now (table .entry)) (now (scalars .entry))) (now (room .entry)) r (now (room .exit)) ⌝ }
+{
+    if encoding == 0 {
+        let written = crate::utf8::write(scalars, room);
+        return Written {
+            written,
+            index: 0,
+            refusal: 0,
+        };
+    }
+    crate::one_byte::write(encoding, mode, scalars, table, room)
+}

@@ -1,0 +1,4 @@
+pub mod IndexLine
+pub mod IndexRead
+pub mod IndexCall
+pub mod Statements

@@ -1,0 +1,4 @@
+pub mod Layouts
+pub mod Pairing
+pub mod GbRuns
+pub mod RangeSearch

@@ -1,0 +1,29 @@
+-- What is written in refusing mode reads back. Assumes nothing.
+use mathlib.Core.Path.{_≡_}
+use mathlib.Core.List.{List, []}
+use Prim.Native.Nat.{ℕ, _≤_}
+use lib.ListN.{take}
+use Rattle.standard.specs.Encodings.{Tables}
+use Rattle.standard.specs.Sequence.{plain}
+use Rattle.decoder.specs.Record.{holding, closed}
+use Rattle.demands.specs.Histories.{Call, after, start}
+use Rattle.demands.specs.Statements.{Piece, joined, cutting, account, Accepts, AllFeeds}
+use Rattle.encoder_spec.specs.Writer.{Outcome, writerCall}
+
+-- Demand 2, reading back: the bytes bs through the decoder's calls with the tables t, mark kept, give the scalars cs and no error.
+pub record ReadBack (e m : ℕ) (t : Tables) (cs bs : List ℕ) : Type 0 where
+  -- any feeds that take these bytes: nothing is held
+  pub fed : (calls : List Call) → AllFeeds t calls → after (start e m 1) calls .taken ≡ bs →
+      (after (start e m 1) calls .handed ≡ cs) × (after (start e m 1) calls .decoder ≡ holding e m plain [])
+  -- any cutting into accepted feeds, and a finish
+  pub finished : (ps : List Piece) (last : List ℕ) → joined ps ≡ bs → Accepts t (start e m 1) ps last →
+      account (start e m 1) (cutting t ps last) ≡ record { handed = cs; reports = []; decoder = closed e m }
+
+-- what a call wrote
+abbrev pub written : Outcome → List ℕ
+written o = take (o .answer .written) (o .room)
+
+-- What is written in refusing mode without a refusal and without a report 11 reads back, in both modes of the reader.
+abbrev pub ReadsBack : Type 0
+ReadsBack = (e m : ℕ) (t : Tables) (cs room : List ℕ) → m ≤ 1 → writerCall e 1 t cs room .answer .refusal ≡ 0 →
+    ReadBack e m t cs (written (writerCall e 1 t cs room))

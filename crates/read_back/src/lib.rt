@@ -1,0 +1,1 @@
+// What is written reads back: specs/ and proofs/. No code.

@@ -1,0 +1,327 @@
+-- The feed loop: the bytes held and then the chunk, what is still to be handed out, and what one turn does. Assumes nothing.
+use mathlib.Core.Path.{_≡_, refl, sym, ap, _∙_, subst}
+use mathlib.Core.Bool.{Bool, true, false, _&&_, and-false}
+use mathlib.Core.List.{List, [], _∷_, _++_, append-assoc, append-nil}
+use Prim.Native.Nat.{ℕ, zero, suc, _+_, _-_, _≤_, _<_}
+use native.Mathlib.Omega.{arith}
+use native.Mathlib.Nat.{add-zero}
+use lib.Dec.{T, leb, eqb}
+use lib.ListN.{length, take, drop, getD, List·getD-append, length-append, length-drop, take-append-drop}
+use lib.Seq.{sets, sets-eq, length-take-le, getD-take, getD-drop, getD-append-add, take-all, drop-drop, take-nil, length-sets, take-at, drop-at}
+use borrow.Author.Tests.{leb-true, leb-false, eqb-true, ne-eqb, eq-eqb}
+use Rattle.standard.specs.Base.{_then_else_}
+use Rattle.standard.specs.Encodings.{Family, family, Tables, lent}
+use Rattle.standard.specs.Sequence.{Shift, Out, text, error, Next, more, item, shift, plain}
+use Rattle.standard.specs.Next.{next}
+use Rattle.standard.specs.Decode.{Item, span, Read, put, decode, given, shown, broken, before}
+use Rattle.standard.proofs.Tests.{and-left, and-right}
+use Rattle.standard.proofs.Items.{shown-cons}
+use Rattle.standard.proofs.Laws.{Laws, Law}
+use Rattle.standard.proofs.FamilyLaws.{keeps, next-laws}
+use Rattle.standard.proofs.Walk.{stop, at-item, at-more, nothing, decode-more, decode-item}
+use Rattle.sequences.specs.Code.{nextOf, outOf, front}
+use Rattle.sequences.specs.declared.Sequence.{Sequence}
+use Rattle.runs.specs.Run.{patch, puts, Runs}
+use Rattle.runs.proofs.Patches.{patch-sets, patch-none, patch-length, patch-patch}
+use Rattle.reading.specs.Reading.{bytesOf, hold, bit, leaves, Result, wrote, handed, reached}
+use Rattle.reading.specs.declared.Held.{Held}
+use Rattle.reading.specs.declared.Left.{Left}
+
+-- what a sequence gives, by its count
+pub out-error : (q : Sequence) → q .count ≡ 3 → given (outOf q) ≡ 0xFFFD ∷ []
+out-error q h = rw (eq-eqb (q .count) 3 h)
+
+pub out-none : (q : Sequence) → q .count ≡ 0 → given (outOf q) ≡ []
+out-none q h = rw h
+
+pub out-one : (q : Sequence) → q .count ≡ 1 → given (outOf q) ≡ q .first ∷ []
+out-one q h = rw h
+
+pub out-two : (q : Sequence) → (q .count ≡ 3 → ⊥) → (q .count ≡ 0 → ⊥) → (q .count ≡ 1 → ⊥) → given (outOf q) ≡ q .first ∷ q .second ∷ []
+out-two q h g k = rw (ne-eqb (q .count) 3 h) (take-all (q .count) (q .first ∷ q .second ∷ []) (omega arith))
+
+pub out-some : (q : Sequence) → (q .count ≡ 3 → ⊥) → (q .count ≡ 0 → ⊥) → 1 ≤ length (given (outOf q))
+out-some q h g = rw (ne-eqb (q .count) 3 h) (go (q .count) g)
+  where
+    go : (n : ℕ) → (n ≡ 0 → ⊥) → 1 ≤ length (take n (q .first ∷ q .second ∷ []))
+    go zero z = absurd (z refl)
+    go (suc n) z = omega arith
+
+-- the bytes held and then the chunk
+module _ (held : Held) (chunk : List ℕ) (h : held .count ≤ 3) where
+  held-length : length (bytesOf held) ≡ held .count
+  held-length = length-take-le (held .count) (held .first ∷ held .second ∷ held .third ∷ []) h
+
+  pub byte-held : (i : ℕ) → i < held .count → getD (bytesOf held ++ chunk) i 0 ≡ getD (held .first ∷ held .second ∷ held .third ∷ []) i 0
+  byte-held i g = List·getD-append (bytesOf held) chunk 0 i (omega (arith, held-length)) ∙ getD-take (held .count) (held .first ∷ held .second ∷ held .third ∷ []) i 0 g
+
+  pub byte-chunk : (i : ℕ) → held .count ≤ i → getD (bytesOf held ++ chunk) i 0 ≡ getD chunk (i - held .count) 0
+  byte-chunk i g =
+      let e : i ≡ length (bytesOf held) + (i - held .count) = omega (arith, held-length) in
+      ap (λ (k : ℕ). getD (bytesOf held ++ chunk) k 0) e ∙ getD-append-add (bytesOf held) chunk (i - held .count) 0
+
+  pub all-count : length (bytesOf held ++ chunk) ≡ held .count + length chunk
+  all-count = length-append (bytesOf held) chunk ∙ ap (λ (k : ℕ). k + length chunk) held-length
+
+  pub left-count : (at : ℕ) → length (drop at (bytesOf held ++ chunk)) ≡ held .count + length chunk - at
+  left-count at = length-drop at (bytesOf held ++ chunk) ∙ ap (λ (k : ℕ). k - at) all-count
+
+pub third-is : (a b c i : ℕ) → i < 3 → (i ≡ 0 → ⊥) → (i ≡ 1 → ⊥) → getD (a ∷ b ∷ c ∷ []) i 0 ≡ c
+third-is a b c i h g k = let e : i ≡ 2 = omega arith in rw e
+
+-- What is still to be handed out, from place w of the room on.
+abbrev written : ℕ → ℕ → List ℕ → Shift → List ℕ → List ℕ → Result
+written n w cs s xs room = record { left = leaves n (w + length cs) s xs; room = patch w cs room }
+
+unfoldable pub emit : ℕ → Read → ℕ → List ℕ → Result
+emit m r w room =
+    eqb m 1 && broken (r .items) then written 11 w (before (r .items)) plain [] room else
+    written 0 w (shown (r .items)) (r .shift) (r .rest) room
+
+zero-plus : (n : ℕ) → 0 + n ≡ n
+zero-plus n = omega arith
+
+emit-start : (m : ℕ) (r : Read) (room : List ℕ) → handed m r room ≡ emit m r 0 room
+unfolding emit
+emit-start m r room = go (eqb m 1 && broken (r .items))
+  where
+    same : (n : ℕ) (cs : List ℕ) (s : Shift) (xs : List ℕ) → wrote n cs s xs room ≡ written n 0 cs s xs room
+    same n cs s xs = rw (zero-plus (length cs))
+
+    go : (b : Bool) → (b then wrote 11 (before (r .items)) plain [] room else wrote 0 (shown (r .items)) (r .shift) (r .rest) room) ≡
+        (b then written 11 0 (before (r .items)) plain [] room else written 0 0 (shown (r .items)) (r .shift) (r .rest) room)
+    go true = same 11 (before (r .items)) plain []
+    go false = same 0 (shown (r .items)) (r .shift) (r .rest)
+
+-- at the end: nothing more is written
+emit-stop : (m : ℕ) (s : Shift) (xs : List ℕ) (w : ℕ) (room : List ℕ) → emit m (stop s xs) w room ≡ record { left = leaves 0 w s xs; room = room }
+unfolding emit broken shown
+emit-stop m s xs w room = rw (and-false (eqb m 1), add-zero w, append-nil (take w room), take-append-drop w room)
+
+-- an error in refusing mode: the report
+emit-report : (m k : ℕ) (r : Read) (w : ℕ) (room : List ℕ) → m ≡ 1 → emit m (put k error r) w room ≡ record { left = leaves 11 w plain []; room = room }
+unfolding emit broken before
+emit-report m k r w room h = rw (eq-eqb m 1 h, add-zero w, append-nil (take w room), take-append-drop w room)
+
+-- any other sequence: its scalars are written, and the rest from there on
+written-put : (n w : ℕ) (us vs : List ℕ) (s : Shift) (xs room : List ℕ) → w + length us ≤ length room →
+    written n w (us ++ vs) s xs room ≡ written n (w + length us) vs s xs (patch w us room)
+written-put n w us vs s xs room h =
+    let z : w + length (us ++ vs) ≡ w + length us + length vs = omega (arith, length-append us vs) in
+    λ i. record { left = leaves n (z i) s xs; room = sym (patch-patch w us vs room h) i }
+
+emit-put : (m k : ℕ) (o : Out) (r : Read) (w : ℕ) (room : List ℕ) → (m ≡ 1 → o ≡ error → ⊥) → w + length (given o) ≤ length room →
+    emit m (put k o r) w room ≡ emit m r (w + length (given o)) (patch w (given o) room)
+unfolding emit broken before shown
+emit-put m k (text cs) r w room n h = go (eqb m 1 && broken (r .items))
+  where
+    go : (b : Bool) → (b then written 11 w (cs ++ before (r .items)) plain [] room else written 0 w (cs ++ shown (r .items)) (r .shift) (r .rest) room) ≡
+        (b then written 11 (w + length cs) (before (r .items)) plain [] (patch w cs room) else written 0 (w + length cs) (shown (r .items)) (r .shift) (r .rest) (patch w cs room))
+    go true = written-put 11 w cs (before (r .items)) plain [] room h
+    go false = written-put 0 w cs (shown (r .items)) (r .shift) (r .rest) room h
+emit-put m k error r w room n h = rw (ne-eqb m 1 (λ z. n z refl)) (written-put 0 w (0xFFFD ∷ []) (shown (r .items)) (r .shift) (r .rest) room h)
+
+shown-none : shown [] ≡ []
+unfolding shown
+shown-none = refl
+
+sound-cons : (m k : ℕ) (o : Out) (is : List Item) → (m ≡ 1 → broken (span k o ∷ is) ≡ false) → (m ≡ 1 → o ≡ error → ⊥) × (m ≡ 1 → broken is ≡ false)
+unfolding broken
+sound-cons m k (text cs) is h = (λ e q. let z : _≡_ {A = ℕ} 0 1 = cc in absurd (omega arith), h)
+sound-cons m k error is h = (λ e q. subst T (h e) tt, λ e. absurd (subst T (h e) tt))
+
+-- the same for some sequences at once, as a run reads them
+emit-puts : (m : ℕ) (is : List Item) (r : Read) (w : ℕ) (room : List ℕ) → (m ≡ 1 → broken is ≡ false) → w + length (shown is) ≤ length room →
+    emit m (puts is r) w room ≡ emit m r (w + length (shown is)) (patch w (shown is) room)
+unfolding puts
+emit-puts m [] r w room n h = rw shown-none (λ i. emit m r (sym (add-zero w) i) (patch-none room w i))
+emit-puts m (span n o ∷ is) r w room sound h =
+    let k = sound-cons m n o is sound in
+    let l : length (shown (span n o ∷ is)) ≡ length (given o) + length (shown is) = ap length (shown-cons n o is) ∙ length-append (given o) (shown is) in
+    let here : w + length (given o) ≤ length room = omega (arith, h, l) in
+    let z : w + length (given o) + length (shown is) ≡ w + length (shown (span n o ∷ is)) = omega (arith, l) in
+    let p : patch (w + length (given o)) (shown is) (patch w (given o) room) ≡ patch w (shown (span n o ∷ is)) room =
+    patch-patch w (given o) (shown is) room here ∙ ap (λ (cs : List ℕ). patch w cs room) (sym (shown-cons n o is)) in
+    emit-put m n o (puts is r) w room (k .0) here ∙
+    emit-puts m is r (w + length (given o)) (patch w (given o) room) (k .1) (omega (arith, h, l, patch-length room w (given o) here)) ∙
+    (λ i. emit m r (z i) (p i))
+
+-- How the loop was called.
+pub record Args : Type 0 where
+  pub encoding : ℕ
+  pub mode : ℕ
+  pub held : Held
+  pub chunk : List ℕ
+  pub first : List ℕ
+  pub second : List ℕ
+  pub state : ℕ
+  pub flag : ℕ
+
+-- the sequence at a front, the bytes held and then the chunk, how many they are, and what is to be left
+abbrev pub nextIn : Args → Shift → List ℕ → Next
+nextIn a = next (lent (a .first) (a .second)) (family (a .encoding))
+
+abbrev pub bytesIn : Args → List ℕ
+bytesIn a = bytesOf (a .held) ++ a .chunk
+
+abbrev pub countIn : Args → ℕ
+countIn a = a .held .count + length (a .chunk)
+
+abbrev pub wanted : Args → List ℕ → Result
+wanted a room = reached (a .encoding) (a .mode) (a .state) (a .flag) (a .held) (lent (a .first) (a .second)) (a .chunk) room
+
+-- the laws of the encoding that reads
+laws : (a : Args) → Laws (keeps (family (a .encoding))) (nextIn a)
+laws a = next-laws (lent (a .first) (a .second)) (family (a .encoding))
+
+-- What holds at the loop's head: what is wanted is what is still to be handed out, from here on.
+pub record Running (a : Args) (room₀ room : List ℕ) (at state flag w : ℕ) : Type 0 where
+  pub few : a .held .count ≤ 3
+  pub short : length (a .chunk) ≤ 65536
+  pub place : at ≤ countIn a
+  pub space : countIn a - at + w ≤ length room
+  pub size : length room ≡ length room₀
+  pub outcome : wanted a room₀ ≡ emit (a .mode) (decode (nextIn a) (shift state (eqb flag 1)) (drop at (bytesIn a))) w room
+
+pub start-running : (a : Args) (room : List ℕ) → a .held .count ≤ 3 → length (a .chunk) ≤ 65536 → length (a .chunk) + a .held .count ≤ length room →
+    Running a room room 0 (a .state) (a .flag) 0
+start-running a room h l r = record {
+  few = h;
+  short = l;
+  place = omega arith;
+  space = omega arith;
+  size = refl;
+  outcome = emit-start (a .mode) (decode (nextIn a) (shift (a .state) (eqb (a .flag) 1)) (bytesIn a)) room;
+}
+
+pub item-of : (q : Sequence) → (q .width ≡ 0 → ⊥) → nextOf q ≡ item (q .width) (shift (q .state) (eqb (q .flag) 1)) (outOf q)
+item-of q h = rw (ne-eqb (q .width) 0 h)
+
+error-count : (q : Sequence) → outOf q ≡ error → q .count ≡ 3
+error-count q h = go (eqb (q .count) 3) refl
+  where
+    go : (b : Bool) → eqb (q .count) 3 ≡ b → q .count ≡ 3
+    go true e = eqb-true (q .count) 3 e
+    go false e = let k : text (take (q .count) (q .first ∷ q .second ∷ [])) ≡ error = rw e at h in let z : _≡_ {A = ℕ} 0 1 = cc in absurd (omega arith)
+
+count-error : (q : Sequence) → q .count ≡ 3 → outOf q ≡ error
+count-error q h = rw (eq-eqb (q .count) 3 h)
+
+-- at most three bytes behind a place, as bytes held
+pub leaves-is : (held : Held) (chunk : List ℕ) (at state flag w : ℕ) → held .count ≤ 3 →
+    (kept have b0 b1 b2 : ℕ) → kept ≡ bit (eqb flag 1) → have ≡ held .count + length chunk - at →
+    b0 ≡ getD (bytesOf held ++ chunk) at 0 → b1 ≡ getD (bytesOf held ++ chunk) (at + 1) 0 → b2 ≡ getD (bytesOf held ++ chunk) (at + 2) 0 →
+    _≡_ {A = Left} (record { written = w; refusal = 0; state = state; flag = kept; held = record { count = have; first = b0; second = b1; third = b2 } })
+    (leaves 0 w (shift state (eqb flag 1)) (drop at (bytesOf held ++ chunk)))
+leaves-is held chunk at state flag w h kept have b0 b1 b2 k l p0 p1 p2 =
+    let xs = bytesOf held ++ chunk in
+    let n : have ≡ length (drop at xs) = l ∙ sym (left-count held chunk h at) in
+    let f0 = p0 ∙ ap (λ (k : ℕ). getD xs k 0) (sym (add-zero at)) ∙ sym (getD-drop at xs 0 0) in
+    let f1 = p1 ∙ sym (getD-drop at xs 1 0) in
+    let f2 = p2 ∙ sym (getD-drop at xs 2 0) in
+    λ i. record { written = w; refusal = 0; state = state; flag = k i; held = record { count = n i; first = f0 i; second = f1 i; third = f2 i } }
+
+-- One turn, with the sequence found at the place.
+module _ {a : Args} {room₀ room : List ℕ} {at state flag w : ℕ} (R : Running a room₀ room at state flag w) (q : Sequence)
+    (here : nextOf q ≡ nextIn a (shift state (eqb flag 1)) (drop at (bytesIn a))) where
+  abbrev s : Shift
+  s = shift state (eqb flag 1)
+
+  abbrev left-over : List ℕ
+  left-over = drop at (bytesIn a)
+
+  left : length left-over ≡ countIn a - at
+  left = left-count (a .held) (a .chunk) (R .few) at
+
+  module _ (z : q .width ≡ 0) where
+    waits : nextIn a s left-over ≡ more
+    waits = sym here ∙ rw (eq-eqb (q .width) 0 z)
+
+    pub turn-few : countIn a - at ≤ 3
+    turn-few = omega (arith, left, at-more (keeps (family (a .encoding))) (nextIn a) (laws a) s left-over waits .0)
+
+    pub turn-more : wanted a room₀ ≡ record { left = leaves 0 w s left-over; room = room }
+    turn-more = R .outcome ∙ rw (decode-more (keeps (family (a .encoding))) (nextIn a) (laws a) s left-over waits) (emit-stop (a .mode) s left-over w room)
+
+  module _ (z : q .width ≡ 0 → ⊥) where
+    goes : nextIn a s left-over ≡ item (q .width) (shift (q .state) (eqb (q .flag) 1)) (outOf q)
+    goes = sym here ∙ item-of q z
+
+    law : Law (keeps (family (a .encoding))) left-over (item (q .width) (shift (q .state) (eqb (q .flag) 1)) (outOf q)) (nextIn a s (left-over ++ []))
+    law = at-item (keeps (family (a .encoding))) (nextIn a) (laws a) s left-over goes []
+
+    pub turn-width : (1 ≤ q .width) × (q .width ≤ countIn a - at)
+    turn-width = (law .1, omega (arith, left, law .2))
+
+    pub turn-space : w + length (given (outOf q)) ≤ length room
+    turn-space = omega (arith, left, law .2, law .3, R .space)
+
+    read : decode (nextIn a) s left-over ≡ put (q .width) (outOf q) (decode (nextIn a) (shift (q .state) (eqb (q .flag) 1)) (drop (q .width) left-over))
+    read = decode-item (keeps (family (a .encoding))) (nextIn a) (laws a) s left-over goes
+
+    pub turn-report : a .mode ≡ 1 → q .count ≡ 3 → wanted a room₀ ≡ record { left = leaves 11 w plain []; room = room }
+    turn-report m k = R .outcome ∙ rw (read, count-error q k) (emit-report (a .mode) (q .width) _ w room m)
+
+    pub turn-on : (a .mode ≡ 1 → q .count ≡ 3 → ⊥) → Running a room₀ (patch w (given (outOf q)) room) (at + q .width) (q .state) (q .flag) (w + length (given (outOf q)))
+    turn-on k = record {
+      few = R .few;
+      short = R .short;
+      place = omega (arith, turn-width .1, R .place);
+      space = omega (arith, patch-length room w (given (outOf q)) turn-space, law .3, turn-width .1, R .space, R .place);
+      size = patch-length room w (given (outOf q)) turn-space ∙ R .size;
+      outcome = R .outcome ∙ rw read (emit-put (a .mode) (q .width) (outOf q) _ w room (λ m e. k m (error-count q e)) turn-space ∙ rw (drop-drop (q .width) at (bytesIn a)) refl);
+    }
+
+-- No byte is left.
+pub turn-done : {a : Args} {room₀ room : List ℕ} {at state flag w : ℕ} → Running a room₀ room at state flag w → countIn a ≤ at →
+    wanted a room₀ ≡ record { left = leaves 0 w (shift state (eqb flag 1)) (drop at (bytesIn a)); room = room }
+turn-done {a} {room₀} {room} {at} {state} {flag} {w} R h =
+    let s = shift state (eqb flag 1) in
+    let l : length (drop at (bytesIn a)) ≤ 0 = omega (arith, left-count (a .held) (a .chunk) (R .few) at) in
+    let none = nothing (keeps (family (a .encoding))) (nextIn a) (laws a) s (drop at (bytesIn a)) l in
+    R .outcome ∙ rw (decode-more (keeps (family (a .encoding))) (nextIn a) (laws a) s (drop at (bytesIn a)) none) (emit-stop (a .mode) s (drop at (bytesIn a)) w room)
+
+pub stops-no : (m n : ℕ) → eqb m 1 && eqb n 3 ≡ false → m ≡ 1 → n ≡ 3 → ⊥
+stops-no m n h p q = let k : true ≡ false = rw (p, q) at h in subst T k tt
+
+pub stops-yes : (m n : ℕ) → eqb m 1 && eqb n 3 ≡ true → (m ≡ 1) × (n ≡ 3)
+stops-yes m n h = (eqb-true m 1 (and-left (eqb m 1) (eqb n 3) h), eqb-true n 3 (and-right (eqb m 1) (eqb n 3) h))
+
+-- From a place of the chunk to a place of the bytes held and then the chunk.
+module _ (held : Held) (chunk : List ℕ) (few : held .count ≤ 3) where
+  past : (k : ℕ) → drop (held .count + k) (bytesOf held ++ chunk) ≡ drop k chunk
+  past k = sym (drop-drop k (held .count) (bytesOf held ++ chunk)) ∙
+      ap (drop k) (drop-at (bytesOf held) chunk (held .count) (held-length held chunk few))
+
+  pub held-runs : {f : Shift → List ℕ → Next} {m at k w w′ : ℕ} {s s′ : Shift} {room room′ : List ℕ} → held .count ≤ at →
+      Runs f m chunk (at - held .count) k s s′ w w′ room room′ → Runs f m (bytesOf held ++ chunk) at (held .count + k) s s′ w w′ room room′
+  held-runs {f} {m} {at} {k} {w} {w′} {s} {s′} {room} {room′} h r =
+      let n = all-count held chunk few in
+      let z : held .count + (at - held .count) ≡ at = omega arith in
+      let from : drop at (bytesOf held ++ chunk) ≡ drop (at - held .count) chunk = ap (λ (n : ℕ). drop n (bytesOf held ++ chunk)) (sym z) ∙ past (at - held .count) in
+      record {
+        ahead = omega (arith, r .ahead);
+        inside = λ l. let i = r .inside (omega (arith, n)) in omega (arith, n);
+        space = omega (arith, n, r .space, r .ahead);
+        size = r .size;
+        ran = rw (from, past k) (r .ran);
+      }
+
+-- A run carries what holds at the loop's head.
+pub carried : {a : Args} {room₀ room room′ : List ℕ} {at at′ state state′ flag flag′ w w′ : ℕ} → Running a room₀ room at state flag w →
+    Runs (nextIn a) (a .mode) (bytesIn a) at at′ (shift state (eqb flag 1)) (shift state′ (eqb flag′ 1)) w w′ room room′ →
+    Running a room₀ room′ at′ state′ flag′ w′
+carried {a} {room₀} {room} {room′} {at} {at′} {state} {state′} {flag} {flag′} {w} {w′} R r =
+    let n = all-count (a .held) (a .chunk) (R .few) in
+    let e : emit (a .mode) (puts (r .ran .items) (decode (nextIn a) (shift state′ (eqb flag′ 1)) (drop at′ (bytesIn a)))) w room ≡
+    emit (a .mode) (decode (nextIn a) (shift state′ (eqb flag′ 1)) (drop at′ (bytesIn a))) w′ room′ =
+    emit-puts (a .mode) (r .ran .items) _ w room (r .ran .sound) (omega (arith, r .ran .count, r .space, n, R .space)) ∙
+    rw (r .ran .count, r .ran .wrote) refl in
+    record {
+      few = R .few;
+      short = R .short;
+      place = let i = r .inside (omega (arith, n, R .place)) in omega (arith, n);
+      space = omega (arith, r .space, r .size, n, R .space);
+      size = r .size ∙ R .size;
+      outcome = R .outcome ∙ ap (λ (x : Read). emit (a .mode) x w room) (r .ran .read) ∙ e;
+    }

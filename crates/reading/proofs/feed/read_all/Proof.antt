@@ -1,0 +1,182 @@
+-- The loop of an accepted feed. At its head what the call has to leave is what is still to be handed out from `at` on, into the room
+-- from `written` on (`Running`). The bytes behind `at` fall, since a run goes on and a sequence has a byte or more.
+use mathlib.Core.List.{List}
+use mathlib.Core.Path.{sym, ap, _∙_}
+use Prim.Native.Nat.{ℕ, _+_, _-_}
+use lib.ListN.{length}
+use native.Mathlib.Omega.{arith}
+use borrow.Author.Needs.{needs}
+use Rattle.reading.specs.Reading.{Result}
+use Rattle.reading.proofs.Loop.{Args, Running, start-running, carried, turn-done, turn-few, turn-more, turn-width, turn-space, turn-report, turn-on, stops-no, stops-yes}
+use Rattle.reading.proofs.feed.read_all.Statement.{statement}
+use Rattle.reading.proofs.feed.read_all.Tie as tie
+
+abbrev Inv-loop : tie.InvT-loop
+Inv-loop encoding mode held chunk t1 t2 room₀ state flag at₀ s₀ f₀ written₀ room at s f written =
+    Running (record { encoding = encoding; mode = mode; held = held; chunk = chunk; first = t1; second = t2; state = state; flag = flag }) room₀ room at s f written
+
+abbrev μ-loop : tie.MeasureT-loop
+μ-loop encoding mode held chunk t1 t2 room₀ state flag at₀ s₀ f₀ written₀ room at s f written = held .count + length chunk - at
+
+-- how the loop was called, and its room at the start
+abbrev start : tie.At-loop Inv-loop μ-loop → tie.Start Inv-loop μ-loop
+start c = c .before .before .before .before .before
+
+abbrev called : tie.At-loop Inv-loop μ-loop → Args
+called c =
+    let a = start c .args in
+    record { encoding = a .encoding; mode = a .mode; held = a .held; chunk = a .chunk .now; first = a .t1 .now; second = a .t2 .now; state = a .state; flag = a .flag }
+
+-- after the run of a turn: the loop's head, the run, and what holds behind it
+abbrev head : tie.After-struct-known Inv-loop μ-loop → tie.At-loop Inv-loop μ-loop
+head c = c .before .before .before .before .before
+
+abbrev run : tie.After-struct-known Inv-loop μ-loop → tie.After-run-from Inv-loop μ-loop
+run c = c .before .before .before
+
+abbrev ran : (c : tie.After-struct-known Inv-loop μ-loop) → (room : List ℕ) ×
+    Running (called (head c)) (start (head c) .args .room .now) room (run c .run-from .result .at) (run c .run-from .result .state) (run c .run-from .result .flag) (run c .run-from .result .written)
+ran c = (_, carried {state′ = run c .run-from .result .state} {flag′ = run c .run-from .result .flag} (head c .loop .inv) (run c .run-from .ensures))
+
+loop-holds : tie.Need-loop-holds Inv-loop μ-loop
+loop-holds c =
+    let a = c .before .before .before .before .args in
+    start-running
+    (record { encoding = a .encoding; mode = a .mode; held = a .held; chunk = a .chunk .now; first = a .t1 .now; second = a .t2 .now; state = a .state; flag = a .flag })
+    (a .room .now)
+    (omega arith)
+    (omega arith)
+    (omega arith)
+
+run-from-requires : tie.Need-run-from-requires Inv-loop μ-loop
+run-from-requires c κs = let R = c .before .loop .inv in (R .few, R .short, R .place)
+
+cast-if1 : tie.Need-cast-if1 Inv-loop μ-loop
+cast-if1 c = search needs
+
+add-if1 : tie.Need-add-if1 Inv-loop μ-loop
+add-if1 c = let R = ran c .1 in omega (arith, R .few, R .short)
+
+holds-requires : tie.Need-holds-requires Inv-loop μ-loop
+holds-requires c κs = let R = ran (c .before) .1 in (R .few, R .short, R .place, omega arith)
+
+same-length : tie.Need-same-length Inv-loop μ-loop
+same-length c = ran (c .before .before) .1 .size
+
+returns : tie.Need-returns Inv-loop μ-loop
+returns c =
+    let e = turn-done (ran (c .before .before) .1) (omega arith) in
+    (c .holds .ensures ∙ ap (λ (o : Result). o .left) (sym e), ap (λ (o : Result). o .room) (sym e))
+
+sequence-at-requires : tie.Need-sequence-at-requires Inv-loop μ-loop
+sequence-at-requires c κs = let R = ran (c .before) .1 in (R .few, R .short, R .place)
+
+-- the sequence found behind the run
+abbrev found : tie.After-struct-known2 Inv-loop μ-loop → tie.After-sequence-at Inv-loop μ-loop
+found c = c .before
+
+abbrev behind : tie.After-struct-known2 Inv-loop μ-loop → tie.After-struct-known Inv-loop μ-loop
+behind c = c .before .before .before
+
+holds-requires-2 : tie.Need-holds-requires-2 Inv-loop μ-loop
+holds-requires-2 c κs =
+    let at-sequence = found (c .before) .sequence-at in
+    let R = ran (behind (c .before)) .1 in
+    (R .few, R .short, R .place, turn-few R (at-sequence .result) (at-sequence .ensures) (omega arith))
+
+same-length-2 : tie.Need-same-length-2 Inv-loop μ-loop
+same-length-2 c = ran (behind (c .before .before)) .1 .size
+
+returns-2 : tie.Need-returns-2 Inv-loop μ-loop
+returns-2 c =
+    let at-sequence = found (c .before .before) .sequence-at in
+    let e = turn-more (ran (behind (c .before .before)) .1) (at-sequence .result) (at-sequence .ensures) (omega arith) in
+    (c .holds2 .ensures ∙ ap (λ (o : Result). o .left) (sym e), ap (λ (o : Result). o .room) (sym e))
+
+stops-requires : tie.Need-stops-requires Inv-loop μ-loop
+stops-requires c κs = search needs
+
+ended-requires : tie.Need-ended-requires Inv-loop μ-loop
+ended-requires c κs = search needs
+
+-- a whole sequence
+abbrev whole : tie.After-stops Inv-loop μ-loop → tie.After-struct-known2 Inv-loop μ-loop
+whole c = c .before .before
+
+same-length-3 : tie.Need-same-length-3 Inv-loop μ-loop
+same-length-3 c = ran (behind (whole (c .before .before))) .1 .size
+
+returns-3 : tie.Need-returns-3 Inv-loop μ-loop
+returns-3 c =
+    let at-stops = c .before .before in
+    let at-sequence = found (whole at-stops) .sequence-at in
+    let k = stops-yes _ _ (sym (at-stops .stops .ensures) ∙ c .before .if3 .taken) in
+    let e = turn-report (ran (behind (whole at-stops)) .1) (at-sequence .result) (at-sequence .ensures) (at-stops .before .if2 .left) (k .0) (k .1) in
+    (c .ended .ensures ∙ ap (λ (o : Result). o .left) (sym e), ap (λ (o : Result). o .room) (sym e))
+
+-- no error that ends it
+abbrev on : tie.After-put-arg Inv-loop μ-loop → tie.After-stops Inv-loop μ-loop
+on c = c .before .before
+
+put-requires : tie.Need-put-requires Inv-loop μ-loop
+put-requires c κs =
+    let at-sequence = found (whole (on c)) .sequence-at in
+    turn-space (ran (behind (whole (on c))) .1) (at-sequence .result) (at-sequence .ensures) (on c .before .if2 .left)
+
+cast-at : tie.Need-cast-at Inv-loop μ-loop
+cast-at c = search needs
+
+-- the end of a turn
+abbrev turned : tie.After-struct-known3 Inv-loop μ-loop → tie.After-put-arg Inv-loop μ-loop
+turned c = c .before .before .before .before
+
+add-at : tie.Need-add-at Inv-loop μ-loop
+add-at c =
+    let at-stops = on (turned c) in
+    let at-sequence = found (whole at-stops) .sequence-at in
+    let R = ran (behind (whole at-stops)) .1 in
+    let width = turn-width R (at-sequence .result) (at-sequence .ensures) (at-stops .before .if2 .left) in
+    omega (arith, R .few, R .short, R .place, width .1)
+
+loop-less : tie.Need-loop-less Inv-loop μ-loop
+loop-less c =
+    let at-stops = on (turned c) in
+    let at-sequence = found (whole at-stops) .sequence-at in
+    let R = ran (behind (whole at-stops)) .1 in
+    let width = turn-width R (at-sequence .result) (at-sequence .ensures) (at-stops .before .if2 .left) in
+    omega (arith, run (behind (whole at-stops)) .run-from .ensures .ahead, R .place, width)
+
+loop-again : tie.Need-loop-again Inv-loop μ-loop
+loop-again c =
+    let at-put = c .before .before .before .put in
+    let at-stops = on (turned c) in
+    let at-sequence = found (whole at-stops) .sequence-at in
+    let goes = stops-no _ _ (sym (at-stops .stops .ensures) ∙ turned c .before .if3 .left) in
+    rw (at-put .ensures .0, at-put .ensures .1) (turn-on (ran (behind (whole at-stops)) .1) (at-sequence .result) (at-sequence .ensures) (at-stops .before .if2 .left) goes)
+
+pub read-all-spec : {M : Type 1} → statement M
+read-all-spec =
+    tie.close
+    (tie.spec
+    Inv-loop
+    μ-loop
+    loop-holds
+    run-from-requires
+    cast-if1
+    add-if1
+    holds-requires
+    same-length
+    returns
+    sequence-at-requires
+    holds-requires-2
+    same-length-2
+    returns-2
+    stops-requires
+    ended-requires
+    same-length-3
+    returns-3
+    put-requires
+    cast-at
+    add-at
+    loop-less
+    loop-again)

@@ -1,0 +1,54 @@
+use mathlib.Core.Path.{sym, ap, _∙_}
+use native.Mathlib.Omega.{arith}
+use borrow.Author.Needs.{needs}
+use Rattle.reading.specs.Reading.{Result}
+use Rattle.reading.proofs.Guards.{end-5, end-7, end-read}
+use Rattle.reading.proofs.finish.end.Statement.{statement}
+use Rattle.reading.proofs.finish.end.Tie as tie
+
+unread-requires : tie.Need-unread-requires
+unread-requires c κs = search needs
+
+returns : tie.Need-returns
+returns c =
+    let a = c .before .before .before .before .args in
+    let e = end-5 (a .encoding) (a .mode) (a .state) (a .flag) (a .held) (a .room .now) (omega arith) in
+    (c .unread .ensures ∙ ap (λ (r : Result). r .left) (sym e), ap (λ (r : Result). r .room) (sym e))
+
+cast-if2 : tie.Need-cast-if2
+cast-if2 c = search needs
+
+unread-requires-2 : tie.Need-unread-requires-2
+unread-requires-2 c κs = search needs
+
+returns-2 : tie.Need-returns-2
+returns-2 c =
+    let a = c .before .before .before .before .before .before .args in
+    let e = end-7 (a .encoding) (a .mode) (a .state) (a .flag) (a .held) (a .room .now) (omega arith) (omega arith) in
+    (c .unread2 .ensures ∙ ap (λ (r : Result). r .left) (sym e), ap (λ (r : Result). r .room) (sym e))
+
+rest-requires : tie.Need-rest-requires
+rest-requires c κs = search needs
+
+same-length : tie.Need-same-length
+same-length c = search needs
+
+returns-3 : tie.Need-returns-3
+returns-3 c =
+    let at-rest = c .before .before in
+    let a = at-rest .before .before .before .before .before .before .before .args in
+    let e = end-read (a .encoding) (a .mode) (a .state) (a .flag) (a .held) (a .room .now) (omega arith) (omega arith) in
+    (at-rest .rest .ensures .0 ∙ ap (λ (r : Result). r .left) (sym e), at-rest .rest .ensures .1 ∙ ap (λ (r : Result). r .room) (sym e))
+
+pub end-spec : {M : Type 1} → statement M
+end-spec =
+    tie.close
+    (tie.spec
+    unread-requires
+    returns
+    cast-if2
+    unread-requires-2
+    returns-2
+    rest-requires
+    same-length
+    returns-3)

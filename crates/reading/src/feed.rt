@@ -1,0 +1,249 @@
+// The feed loop: sequence after sequence, from the bytes held and then the chunk.
+
+use crate::Held;
+use crate::Left;
+use crate::ended;
+use crate::run::run;
+use crate::unread;
+use runs::Place;
+use sequences::Sequence;
+use sequences::next;
+ghost use mathlib.Core.Path.{_≡_};
+ghost use mathlib.Core.Bool.{_&&_};
+ghost use mathlib.Core.List.{_++_};
+ghost use Prim.Native.Nat.{_+_, _-_, _≤_, _<_};
+ghost use lib.Dec.{eqb};
+ghost use lib.ListN.{length, getD, drop};
+ghost use Rattle.standard.specs.Encodings.{family, lent};
+ghost use Rattle.standard.specs.Sequence.{shift};
+ghost use Rattle.standard.specs.Next.{next};
+ghost use Rattle.standard.specs.Decode.{given};
+ghost use Rattle.sequences.specs.Code.{nextOf, outOf};
+ghost use Rattle.runs.specs.Run.{patch, placed, Run};
+ghost use Rattle.reading.specs.Reading.{bytesOf, bit, leaves, reached, readChunk};
+
+// The byte at a place of the bytes held and then the chunk; 0 past their end.
+fn byte_at(held: Held, chunk: &[u8], i: usize) -> u8
+    requires { ⌜ (held .count ≤ 3) × (i < 65544) ⌝ }
+    ensures { λ r. ⌜ r ≡ getD (bytesOf held ++ now (chunk .entry)) i 0 ⌝ }
+{
+    let count = held.count as usize;
+    if count <= i {
+        let j = i - count;
+        if j < chunk.len() {
+            return chunk[j];
+        }
+        return 0;
+    }
+    if i == 0 {
+        return held.first;
+    }
+    if i == 1 {
+        return held.second;
+    }
+    held.third
+}
+
+// The scalars of a sequence, written from a place on; an error is U+FFFD. The place after them.
+fn put(room: &mut [u32], written: usize, q: Sequence) -> usize
+    requires { ⌜ written + length (given (outOf q)) ≤ length (now room) ⌝ }
+    ensures { λ r. ⌜ (r ≡ written + length (given (outOf q))) × (now (room .exit) ≡ patch written (given (outOf q)) (now (room .entry))) ⌝ }
+{
+    let count = q.count;
+    if count == 3 {
+        room[written] = 0xFFFD;
+        return written + 1;
+    }
+    if count == 0 {
+        return written;
+    }
+    let first = q.first;
+    let second = q.second;
+    room[written] = first;
+    if count == 1 {
+        return written + 1;
+    }
+    room[written + 1] = second;
+    written + 2
+}
+
+// Does an error end the reading?
+fn stops(mode: u8, count: u8) -> bool
+    ensures { λ r. ⌜ r ≡ (eqb mode 1 && eqb count 3) ⌝ }
+{
+    if mode == 1 {
+        return count == 3;
+    }
+    false
+}
+
+// 1 for 1, and 0 for any other number
+fn bit(flag: u8) -> u8
+    ensures { λ r. ⌜ r ≡ bit (eqb flag 1) ⌝ }
+{
+    if flag == 1 {
+        return 1;
+    }
+    0
+}
+
+// The sequence at a place of the bytes held and then the chunk.
+fn sequence_at(
+    encoding: u8,
+    held: Held,
+    chunk: &[u8],
+    t1: &[u32],
+    t2: &[u32],
+    at: usize,
+    state: u8,
+    flag: u8,
+) -> Sequence
+    requires { ⌜ (held .count ≤ 3) × (length (now chunk) ≤ 65536) × (at ≤ held .count + length (now chunk)) ⌝ }
+    ensures { λ r. ⌜ nextOf r ≡ next (lent (now (t1 .entry)) (now (t2 .entry))) (family encoding)
+        (shift state (eqb flag 1)) (drop at (bytesOf held ++ now (chunk .entry))) ⌝ }
+{
+    let have = held.count as usize + chunk.len() - at;
+    let b0 = byte_at(held, chunk, at);
+    let b1 = byte_at(held, chunk, at + 1);
+    let b2 = byte_at(held, chunk, at + 2);
+    let b3 = byte_at(held, chunk, at + 3);
+    next(t1, t2, encoding, state, flag, b0, b1, b2, b3, have)
+}
+
+// All sequences read: at most three bytes are left, and held.
+fn holds(held: Held, chunk: &[u8], at: usize, state: u8, flag: u8, written: usize) -> Left
+    requires { ⌜ (held .count ≤ 3) × (length (now chunk) ≤ 65536) × (at ≤ held .count + length (now chunk))
+        × (held .count + length (now chunk) - at ≤ 3) ⌝ }
+    ensures { λ r. ⌜ r ≡ leaves 0 written (shift state (eqb flag 1)) (drop at (bytesOf held ++ now (chunk .entry))) ⌝ }
+{
+    let have = held.count as usize + chunk.len() - at;
+    let first = byte_at(held, chunk, at);
+    let second = byte_at(held, chunk, at + 1);
+    let third = byte_at(held, chunk, at + 2);
+    let kept = bit(flag);
+    Left {
+        written,
+        refusal: 0,
+        state,
+        flag: kept,
+        held: Held {
+            count: have as u8,
+            first,
+            second,
+            third,
+        },
+    }
+}
+
+// A run from a place of the bytes held and then the chunk, once the bytes held are read.
+fn run_from(
+    encoding: u8,
+    mode: u8,
+    held: Held,
+    chunk: &[u8],
+    t1: &[u32],
+    t2: &[u32],
+    at: usize,
+    room: &mut [u32],
+    written: usize,
+    state: u8,
+    flag: u8,
+) -> Place
+    requires { ⌜ (held .count ≤ 3) × (length (now chunk) ≤ 65536) × (at ≤ held .count + length (now chunk)) ⌝ }
+    ensures { λ r. ⌜ Run (lent (now (t1 .entry)) (now (t2 .entry))) (family encoding) mode (bytesOf held ++ now (chunk .entry))
+        (placed at written state flag) r (now (room .entry)) (now (room .exit)) ⌝ }
+{
+    let count = held.count as usize;
+    if at < count {
+        return Place {
+            at,
+            written,
+            state,
+            flag,
+        };
+    }
+    let here = Place {
+        at: at - count,
+        written,
+        state,
+        flag,
+    };
+    let r = run(encoding, mode, chunk, t1, t2, room, here);
+    let to = count + r.at;
+    Place {
+        at: to,
+        written: r.written,
+        state: r.state,
+        flag: r.flag,
+    }
+}
+
+// Sequence after sequence, a run at a time, until no whole one is left or an error ends it.
+fn read_all(
+    encoding: u8,
+    mode: u8,
+    held: Held,
+    chunk: &[u8],
+    t1: &[u32],
+    t2: &[u32],
+    room: &mut [u32],
+    state: u8,
+    flag: u8,
+) -> Left
+    requires { ⌜ (held .count ≤ 3) × (length (now chunk) ≤ 65536) × (length (now chunk) + held .count ≤ length (now room)) ⌝ }
+    ensures { λ r. ⌜ (r ≡ reached encoding mode state flag held (lent (now (t1 .entry)) (now (t2 .entry))) (now (chunk .entry)) (now (room .entry)) .left)
+        × (now (room .exit) ≡ reached encoding mode state flag held (lent (now (t1 .entry)) (now (t2 .entry))) (now (chunk .entry)) (now (room .entry)) .room) ⌝ }
+{
+    let mut at: usize = 0;
+    let mut s = state;
+    let mut f = flag;
+    let mut written: usize = 0;
+    loop {
+        let p = run_from(encoding, mode, held, chunk, t1, t2, at, room, written, s, f);
+        at = p.at;
+        written = p.written;
+        s = p.state;
+        f = p.flag;
+        if at == held.count as usize + chunk.len() {
+            return holds(held, chunk, at, s, f, written);
+        }
+        let q = sequence_at(encoding, held, chunk, t1, t2, at, s, f);
+        if q.width == 0 {
+            return holds(held, chunk, at, s, f, written);
+        }
+        if stops(mode, q.count) {
+            return ended(11, written);
+        }
+        written = put(room, written, q);
+        at += q.width as usize;
+        s = q.state;
+        f = q.flag;
+    }
+}
+
+// A chunk behind the bytes held, read from a shift into the room.
+pub fn read(
+    encoding: u8,
+    mode: u8,
+    held: Held,
+    chunk: &[u8],
+    t1: &[u32],
+    t2: &[u32],
+    room: &mut [u32],
+    state: u8,
+    flag: u8,
+) -> Left
+    ensures { λ r. ⌜ (r ≡ readChunk encoding mode state flag held (lent (now (t1 .entry)) (now (t2 .entry))) (now (chunk .entry)) (now (room .entry)) .left)
+        × (now (room .exit) ≡ readChunk encoding mode state flag held (lent (now (t1 .entry)) (now (t2 .entry))) (now (chunk .entry)) (now (room .entry)) .room) ⌝ }
+{
+    if 3 < held.count {
+        return unread(5, state, flag, held);
+    }
+    if 65536 < chunk.len() {
+        return unread(8, state, flag, held);
+    }
+    if room.len() < chunk.len() + held.count as usize {
+        return unread(7, state, flag, held);
+    }
+    read_all(encoding, mode, held, chunk, t1, t2, room, state, flag)
+}

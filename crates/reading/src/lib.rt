@@ -1,0 +1,58 @@
+// Reading by encoding number: the run, the feed loop and the end of input. Numbers and the bytes held go in, not a decoder's record.
+
+pub mod feed;
+pub mod finish;
+mod run;
+
+ghost use mathlib.Core.Path.{_≡_};
+ghost use mathlib.Core.List.{[]};
+ghost use Rattle.standard.specs.Sequence.{plain};
+ghost use Rattle.reading.specs.Reading.{leaves, kept};
+
+// The bytes held: how many, 0 to 3, and the bytes.
+pub struct Held {
+    pub count: u8,
+    pub first: u8,
+    pub second: u8,
+    pub third: u8,
+}
+
+// What reading leaves: the scalars written, a refusal number, report 11 or 0, the shift, and the bytes held.
+pub struct Left {
+    pub written: usize,
+    pub refusal: u8,
+    pub state: u8,
+    pub flag: u8,
+    pub held: Held,
+}
+
+// Nothing read: everything stays as it was.
+pub(crate) fn unread(refusal: u8, state: u8, flag: u8, held: Held) -> Left
+    ensures { λ r. ⌜ r ≡ kept refusal state flag held ⌝ }
+{
+    Left {
+        written: 0,
+        refusal,
+        state,
+        flag,
+        held,
+    }
+}
+
+// So many scalars written, no shift, and nothing held.
+pub(crate) fn ended(refusal: u8, written: usize) -> Left
+    ensures { λ r. ⌜ r ≡ leaves refusal written plain [] ⌝ }
+{
+    Left {
+        written,
+        refusal,
+        state: 0,
+        flag: 0,
+        held: Held {
+            count: 0,
+            first: 0,
+            second: 0,
+            third: 0,
+        },
+    }
+}

@@ -1,0 +1,19 @@
+use borrow.Author.Tests.{lt-ltb, le-ltb, eq-eqb, ne-eqb}
+use mathlib.Core.Path.{refl}
+use Rattle.showtext.proofs.next_step.Statement.{statement}
+use Rattle.showtext.proofs.next_step.Tie as tie
+
+returns : tie.Need-returns
+returns c = rw (eq-eqb _ 2 (c .if1 .taken)) refl
+
+returns-2 : tie.Need-returns-2
+returns-2 c = rw (ne-eqb _ 2 (c .before .if1 .left), ne-eqb _ 0 (c .if2 .taken)) refl
+
+returns-3 : tie.Need-returns-3
+returns-3 c = rw (ne-eqb _ 2 (c .before .before .if1 .left), eq-eqb _ 0 (c .before .if2 .left), lt-ltb _ _ (c .if3 .taken)) refl
+
+returns-4 : tie.Need-returns-4
+returns-4 c = rw (ne-eqb _ 2 (c .before .before .if1 .left), eq-eqb _ 0 (c .before .if2 .left), le-ltb _ _ (c .if3 .left)) refl
+
+pub next-step-spec : {M : Type 1} → statement M
+next-step-spec = tie.close (tie.spec returns returns-2 returns-3 returns-4)

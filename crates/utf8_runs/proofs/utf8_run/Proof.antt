@@ -1,0 +1,29 @@
+use Rattle.standard.specs.Encodings.{UTF-8}
+use Rattle.runs.proofs.Guard.{guarded-plain}
+use Rattle.runs.proofs.Running.{runs-none}
+use borrow.Author.Needs.{needs}
+use Rattle.utf8_runs.proofs.utf8_run.Statement.{statement}
+use Rattle.utf8_runs.proofs.utf8_run.Tie as tie
+
+ready-plain-requires : tie.Need-ready-plain-requires
+ready-plain-requires c κs = search needs
+
+returns : tie.Need-returns
+returns c = λ t. runs-none t UTF-8
+
+sequences-requires : tie.Need-sequences-requires
+sequences-requires c κs =
+    let args = c .before .before .before .before .before .args in
+    guarded-plain (args .chunk .now) (args .room .now) (c .before .before .ready-plain .ensures) (c .before .if1 .left) .2
+
+same-length : tie.Need-same-length
+same-length c = search needs
+
+returns-2 : tie.Need-returns-2
+returns-2 c =
+    let args = c .before .before .before .before .before .before .before .before .args in
+    let g = guarded-plain (args .chunk .now) (args .room .now) (c .before .before .before .before .before .ready-plain .ensures) (c .before .before .before .before .if1 .left) in λ t. rw (g .0, g .1) (c .before .before .sequences .ensures t)
+
+pub utf8-run-spec : {M : Type 1} → statement M
+utf8-run-spec =
+    tie.close (tie.spec ready-plain-requires returns sequences-requires same-length returns-2)

@@ -1,0 +1,5 @@
+pub mod Values
+pub mod Rows
+pub mod Utf16Runs
+pub mod WordBytes
+pub mod ByteRuns

@@ -1,0 +1,79 @@
+use borrow.Author.Needs.{needs}
+use native.Mathlib.Omega.{arith}
+use mathlib.Core.Path.{_≡_, refl, ap, _∙_}
+use Prim.Native.Nat.{ℕ, _+_, _-_, _*_, _%_, _≤_}
+use lib.ListN.{length, getD}
+use Rattle.word_runs.specs.Bytes.{byteOf}
+use Rattle.word_runs.specs.Units.{values}
+use Rattle.runs.specs.Run.{patch}
+use Rattle.word_runs.proofs.Values.{wrote-on}
+use Rattle.runs.proofs.Patches.{patch-none}
+use Rattle.word_runs.proofs.single_byte.put_words.Statement.{statement}
+use Rattle.word_runs.proofs.single_byte.put_words.Tie as tie
+
+-- The invariant: the scalars of the first j words, a multiple of four, are written.
+-- What is left of 256 falls by four at each turn.
+abbrev Inv-loop : tie.InvT-loop
+Inv-loop low high words room₀ o j₀ room j = (j ≤ 256) × (j % 4 ≡ 0) × (length room ≡ length room₀) × (room ≡ patch o (values (λ (k : ℕ). getD low (byteOf words k) 0) (j * 2)) room₀)
+
+abbrev μ-loop : tie.MeasureT-loop
+μ-loop low high words room₀ o j₀ room j = 256 - j
+
+loop-holds : tie.Need-loop-holds Inv-loop μ-loop
+unfolding values
+loop-holds c =
+    let args = c .before .before .before .before .args in
+    (omega arith, refl, refl, patch-none (args .room .now) (args .o))
+
+mul-put-four : tie.Need-mul-put-four Inv-loop μ-loop
+mul-put-four c = search needs
+
+add-put-four : tie.Need-add-put-four Inv-loop μ-loop
+add-put-four c = search needs
+
+put-four-requires : tie.Need-put-four-requires Inv-loop μ-loop
+put-four-requires c κs =
+    let at-loop = c .before .before .loop in
+    let start = c .before .before .before .before .before .before .before .pre in
+    (start .0, start .1, start .2, omega (arith, start .3, at-loop .inv .1), omega (arith, start .4, at-loop .inv .1, at-loop .inv .2))
+
+add-j : tie.Need-add-j Inv-loop μ-loop
+add-j c = search needs
+
+loop-less : tie.Need-loop-less Inv-loop μ-loop
+loop-less c = search needs
+
+loop-again : tie.Need-loop-again Inv-loop μ-loop
+loop-again c =
+    let args = c .before .before .before .before .before .before .before .before .before .before .args in
+    let at-loop = c .before .before .before .before .before .loop in
+    let f : ℕ → ℕ = λ (k : ℕ). getD (args .low .now) (byteOf (args .words .now) k) 0 in
+    let z : at-loop .j * 2 + 8 ≡ (at-loop .j + 4) * 2 = omega arith in
+    let wrote = wrote-on (args .room .now) (at-loop .room) _ (args .o) f (λ (k : ℕ). f (at-loop .j * 2 + k)) (at-loop .j * 2) 8 (at-loop .inv .3) (c .before .before .put-four .ensures) (λ k l. refl) (omega (arith, c .before .before .before .before .before .before .before .before .before .before .pre .4)) in
+    (omega (arith, at-loop .inv .1), omega (arith, at-loop .inv .1), omega (arith, at-loop .inv .2), wrote ∙ ap (λ (n : ℕ). patch (args .o) (values f n) (args .room .now)) z)
+
+same-length : tie.Need-same-length Inv-loop μ-loop
+same-length c = c .before .loop .inv .2
+
+returns : tie.Need-returns Inv-loop μ-loop
+returns c =
+    let args = c .before .before .before .before .before .before .args in
+    let at-loop = c .before .loop in
+    let all : at-loop .j ≡ 256 = omega arith in
+    at-loop .inv .3 ∙ ap (λ (n : ℕ). patch (args .o) (values (λ (k : ℕ). getD (args .low .now) (byteOf (args .words .now) k) 0) (n * 2)) (args .room .now)) all
+
+pub put-words-spec : {M : Type 1} → statement M
+put-words-spec =
+    tie.close
+    (tie.spec
+    Inv-loop
+    μ-loop
+    loop-holds
+    mul-put-four
+    add-put-four
+    put-four-requires
+    add-j
+    loop-less
+    loop-again
+    same-length
+    returns)

@@ -1,0 +1,121 @@
+use borrow.Author.Needs.{needs}
+use native.Mathlib.Omega.{arith}
+use mathlib.Core.Path.{_≡_, refl}
+use Prim.Native.Nat.{ℕ, _+_, _-_, _*_, _≤_, _<_}
+use lib.ListN.{length}
+use Rattle.standard.specs.Sequence.{plain}
+use Rattle.standard.specs.Encodings.{noTables}
+use Rattle.runs.specs.Run.{Ready}
+use Rattle.word_runs.specs.Units.{utf16Family}
+use Rattle.word_runs.proofs.Utf16Runs.{going-put}
+use Rattle.runs.proofs.Running.{Going, going-start}
+use Rattle.word_runs.proofs.utf_16.blocks.Statement.{statement}
+use Rattle.word_runs.proofs.utf_16.blocks.Tie as tie
+
+-- The invariant: in any mode a run has come from the start to this place, another can begin there, and the array is as long as at the start, 1 to 64.
+-- The bytes that are left fall at each turn, by a block.
+abbrev Inv-loop : tie.InvT-loop
+Inv-loop be chunk from room₀ place words₀ n size i₀ o₀ room words i o = (n ≡ length chunk) × (size ≡ length words₀) × (length room₀ < 18446744073709551616) × (length words ≡ length words₀) × (1 ≤ length words₀) × (length words₀ ≤ 64) × (Ready chunk i room o) × ((m : ℕ) → Going noTables (utf16Family be) m chunk from i plain plain place o room₀ room)
+
+abbrev μ-loop : tie.MeasureT-loop
+μ-loop be chunk from room₀ place words₀ n size i₀ o₀ room words i o = length chunk - i
+
+-- where a block has been read, the loop's head and the function's start, from where it was searched for surrogates
+abbrev read : tie.After-surrogates Inv-loop μ-loop → tie.After-read-words Inv-loop μ-loop
+read c = c .before .before .before .before
+
+abbrev head : tie.After-surrogates Inv-loop μ-loop → tie.At-loop Inv-loop μ-loop
+head c = read c .before .before .before
+
+abbrev start : tie.After-surrogates Inv-loop μ-loop → tie.Start Inv-loop μ-loop
+start c = head c .before .before .before .before
+
+loop-holds : tie.Need-loop-holds Inv-loop μ-loop
+loop-holds c =
+    let pre = c .before .before .before .pre in
+    (refl, refl, omega arith, refl, pre .1, pre .2, pre .0, λ m. going-start (pre .0))
+
+sub-loop : tie.Need-sub-loop Inv-loop μ-loop
+sub-loop c = search needs
+
+mul-loop : tie.Need-mul-loop Inv-loop μ-loop
+mul-loop c = search needs
+
+read-words-requires : tie.Need-read-words-requires Inv-loop μ-loop
+read-words-requires c κs = search needs
+
+surrogates-requires : tie.Need-surrogates-requires Inv-loop μ-loop
+surrogates-requires c κs = search needs
+
+same-length : tie.Need-same-length Inv-loop μ-loop
+same-length c = head (c .before) .loop .inv .7 0 .runs .size
+
+same-length-2 : tie.Need-same-length-2 Inv-loop μ-loop
+same-length-2 c = search needs
+
+returns : tie.Need-returns Inv-loop μ-loop
+returns c = λ m. head (c .before) .loop .inv .7 m .runs
+
+put-units-requires : tie.Need-put-units-requires Inv-loop μ-loop
+put-units-requires c κs = search needs
+
+mul-i : tie.Need-mul-i Inv-loop μ-loop
+mul-i c = search needs
+
+add-i : tie.Need-add-i Inv-loop μ-loop
+add-i c = search needs
+
+add-o : tie.Need-add-o Inv-loop μ-loop
+add-o c =
+    let inv = head (c .before .before .before .before .before .before) .loop .inv in
+    omega (arith, inv .0, inv .1, inv .2, inv .6, inv .7 0 .runs .size)
+
+loop-less : tie.Need-loop-less Inv-loop μ-loop
+loop-less c = search needs
+
+loop-again : tie.Need-loop-again Inv-loop μ-loop
+loop-again c =
+    let put = c .before .before in
+    let searched = put .before .before .before .before in
+    let args = start searched .args in
+    let loop = head searched .loop in
+    let inv = loop .inv in
+    let words = read searched .read-words .ensures in
+    let clear = searched .surrogates .ensures (put .before .before .before .if1 .left) in
+    let on : (m : ℕ) → Going noTables (utf16Family (args .be)) m (args .chunk .now) (args .from) (loop .i + length (args .words .now) * 2) plain plain (args .place) (loop .o + length (args .words .now)) (args .room .now) (put .put-units .last .1 .1 .0) =
+    λ m. going-put (args .be) m (args .chunk .now) (args .from) (loop .i) (args .place) (loop .o) (args .room .now) (loop .room) _ (loop .words) _
+    (inv .7 m) (length (args .words .now)) (inv .3) (words .0) (words .1) clear (omega (arith, inv .0, inv .1, inv .6)) (put .put-units .ensures) in
+    (inv .0, inv .1, inv .2, omega (arith, inv .3), inv .4, inv .5, on 0 .here, on)
+
+same-length-3 : tie.Need-same-length-3 Inv-loop μ-loop
+same-length-3 c = c .before .loop .inv .7 0 .runs .size
+
+same-length-4 : tie.Need-same-length-4 Inv-loop μ-loop
+same-length-4 c = search needs
+
+returns-2 : tie.Need-returns-2 Inv-loop μ-loop
+returns-2 c = λ m. c .before .loop .inv .7 m .runs
+
+pub blocks-spec : {M : Type 1} → statement M
+blocks-spec =
+    tie.close
+    (tie.spec
+    Inv-loop
+    μ-loop
+    loop-holds
+    sub-loop
+    mul-loop
+    read-words-requires
+    surrogates-requires
+    same-length
+    same-length-2
+    returns
+    put-units-requires
+    mul-i
+    add-i
+    add-o
+    loop-less
+    loop-again
+    same-length-3
+    same-length-4
+    returns-2)

@@ -1,0 +1,30 @@
+use Rattle.word_runs.proofs.Utf16Runs.{with-tables}
+use Rattle.word_runs.specs.Units.{utf16Family}
+use Rattle.runs.proofs.Guard.{guarded-plain}
+use Rattle.runs.proofs.Running.{runs-none}
+use borrow.Author.Needs.{needs}
+use Rattle.word_runs.proofs.utf_16.utf_16_run.Statement.{statement}
+use Rattle.word_runs.proofs.utf_16.utf_16_run.Tie as tie
+
+ready-plain-requires : tie.Need-ready-plain-requires
+ready-plain-requires c κs = search needs
+
+returns : tie.Need-returns
+returns c = λ t. runs-none t (utf16Family (c .before .before .before .before .args .be))
+
+units-requires : tie.Need-units-requires
+units-requires c κs =
+    let args = c .before .before .before .before .before .args in
+    guarded-plain (args .chunk .now) (args .room .now) (c .before .before .ready-plain .ensures) (c .before .if1 .left) .2
+
+same-length : tie.Need-same-length
+same-length c = search needs
+
+returns-2 : tie.Need-returns-2
+returns-2 c =
+    let args = c .before .before .before .before .before .before .before .before .args in
+    let g = guarded-plain (args .chunk .now) (args .room .now) (c .before .before .before .before .before .ready-plain .ensures) (c .before .before .before .before .if1 .left) in λ t. rw (g .0, g .1) (with-tables t (args .be) (c .before .before .units .ensures))
+
+pub utf-16-run-spec : {M : Type 1} → statement M
+utf-16-run-spec =
+    tie.close (tie.spec ready-plain-requires returns units-requires same-length returns-2)

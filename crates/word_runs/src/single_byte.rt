@@ -1,0 +1,335 @@
+// Runs of the single-byte encodings: by a table of 256 scalars, or byte by byte.
+
+use crate::words::read_words;
+use index::IRREGULAR;
+use index::mapped;
+use runs::Place;
+use runs::ready_plain;
+ghost use mathlib.Core.Path.{_≡_};
+ghost use mathlib.Core.List.{_∷_, []};
+ghost use Prim.Native.Nat.{ℕ, _+_, _*_, _/_, _%_, _≤_, _<_};
+ghost use lib.Dec.{ltb};
+ghost use lib.ListN.{length, getD};
+ghost use lib.Seq.{sets};
+ghost use Rattle.standard.specs.Base.{_then_else_, mapped};
+ghost use Rattle.standard.specs.Encodings.{Tables, lent, single-byte, windows-1252};
+ghost use Rattle.standard.specs.Indexes.{irregular};
+ghost use Rattle.runs.specs.Run.{Run, Ready, placed, patch};
+ghost use Rattle.word_runs.specs.Units.{values};
+ghost use Rattle.word_runs.specs.Bytes.{unmapped, byteScalar, windowsScalar, Halves, Same, byteOf, Through};
+
+// One of two scalars, by whether a byte is ASCII.
+fn choose(b: u8, ascii: u32, other: u32) -> u32
+    ensures { λ r. ⌜ r ≡ (ltb b 0x80 then ascii else other) ⌝ }
+{
+    if b < 0x80 {
+        return ascii;
+    }
+    other
+}
+
+// What an unmapped byte gives: U+FFFD, and 0x110000, which is no scalar, in mode 1.
+fn unmapped(mode: u8) -> u32
+    ensures { λ r. ⌜ r ≡ unmapped mode ⌝ }
+{
+    if mode == 1 {
+        return 0x110000;
+    }
+    0xFFFD
+}
+
+// The scalar of a byte. The cell is read for ASCII too, so that no branch tells the two apart.
+fn scalar(mode: u8, cells: &[u32], b: u8) -> u32
+    requires { ⌜ 128 ≤ length (now cells) ⌝ }
+    ensures { λ r. ⌜ r ≡ byteScalar mode (now (cells .entry)) b ⌝ }
+{
+    let c = cells[(b % 128) as usize];
+    if mapped(c) {
+        return choose(b, b as u32, c);
+    }
+    if b < 0x80 {
+        return b as u32;
+    }
+    unmapped(mode)
+}
+
+// The scalar of a byte in windows-1252. A cell is read for each byte, so that no branch tells them apart.
+fn windows_scalar(cells: &[u32], b: u8) -> u32
+    requires { ⌜ now cells ≡ irregular ⌝ }
+    ensures { λ r. ⌜ (r ≡ windowsScalar b) × (b < 256) ⌝ }
+{
+    let c = cells[(b % 32) as usize];
+    if b < 0x80 {
+        return b as u32;
+    }
+    if b < 0xA0 {
+        return c;
+    }
+    b as u32
+}
+
+// The scalar of a cell, or another where the cell is unmapped.
+fn mapped_or(c: u32, other: u32) -> u32
+    ensures { λ r. ⌜ r ≡ (mapped c then c else other) ⌝ }
+{
+    if mapped(c) {
+        return c;
+    }
+    other
+}
+
+// Each place of a table, as its cell.
+fn places(table: &mut [u32])
+    requires { ⌜ length (now table) ≡ 256 ⌝ }
+    ensures { λ r. ⌜ ((j : ℕ) → j < 256 → getD (now (table .exit)) j 0 ≡ j) ⌝ }
+{
+    let mut b: usize = 0;
+    while b < 256 {
+        table[b] = b as u32;
+        b += 1;
+    }
+}
+
+// The scalar of each byte, into a table.
+fn fill(mode: u8, cells: &[u32], table: &mut [u32])
+    requires { ⌜ (128 ≤ length (now cells)) × (length (now table) ≡ 256) ⌝ }
+    ensures { λ r. ⌜ ((j : ℕ) → j < 256 → getD (now (table .exit)) j 0 ≡ byteScalar mode (now (cells .entry)) j) ⌝ }
+{
+    places(table);
+    let other = unmapped(mode);
+    let mut k: usize = 0;
+    while k < 128 {
+        table[k + 128] = mapped_or(cells[k], other);
+        k += 1;
+    }
+}
+
+// The scalar of each byte in windows-1252, into a table.
+fn fill_windows(cells: &[u32], table: &mut [u32])
+    requires { ⌜ (now cells ≡ irregular) × (length (now table) ≡ 256) ⌝ }
+    ensures { λ r. ⌜ ((j : ℕ) → j < 256 → getD (now (table .exit)) j 0 ≡ windowsScalar j) ⌝ }
+{
+    places(table);
+    let mut k: usize = 0;
+    while k < 32 {
+        table[k + 128] = cells[k];
+        k += 1;
+    }
+}
+
+// The place of a byte in a table.
+fn place_of(b: u8) -> usize
+    ensures { λ r. ⌜ (r ≡ b) × (b < 256) ⌝ }
+{
+    b as usize
+}
+
+// A cell as a wider number.
+fn wide(c: u32) -> u64
+    ensures { λ r. ⌜ (r ≡ c) × (c < 4294967296) ⌝ }
+{
+    c as u64
+}
+
+// The scalars of a table as they are, and in the upper half of a number.
+fn halves(table: &[u32], low: &mut [u64], high: &mut [u64])
+    requires { ⌜ (length (now table) ≡ 256) × (length (now low) ≡ 256) × (length (now high) ≡ 256) ⌝ }
+    ensures { λ r. ⌜ Halves (now (low .exit)) (now (high .exit)) × Same (now (table .entry)) (now (low .exit)) ⌝ }
+{
+    let mut b: usize = 0;
+    while b < 256 {
+        let c = wide(table[b]);
+        low[b] = c;
+        high[b] = c * 4294967296;
+        b += 1;
+    }
+}
+
+// The scalars of a word's two bytes. They make one number, which is stored at once.
+fn put_word(low: &[u64], high: &[u64], word: u16, room: &mut [u32], o: usize)
+    requires { ⌜ (length (now low) ≡ 256) × (length (now high) ≡ 256) × Halves (now low) (now high) × (o + 2 ≤ length (now room)) ⌝ }
+    ensures { λ r. ⌜ now (room .exit) ≡ sets (now (room .entry)) o (getD (now (low .entry)) (word % 256) 0 ∷ getD (now (low .entry)) (word / 256) 0 ∷ []) ⌝ }
+{
+    let w = word as usize;
+    let both = low[w % 256] + high[w / 256];
+    room[o] = (both % 4294967296) as u32;
+    room[o + 1] = (both / 4294967296) as u32;
+}
+
+// The scalars of four words.
+fn put_four(low: &[u64], high: &[u64], words: &[u16], j: usize, room: &mut [u32], o: usize)
+    requires { ⌜ (length (now low) ≡ 256) × (length (now high) ≡ 256) × Halves (now low) (now high) × (j + 4 ≤ length (now words)) × (o + 8 ≤ length (now room)) ⌝ }
+    ensures { λ r. ⌜ now (room .exit) ≡ patch o (values (λ (k : ℕ). getD (now (low .entry)) (byteOf (now (words .entry)) (j * 2 + k)) 0) 8) (now (room .entry)) ⌝ }
+{
+    put_word(low, high, words[j], room, o);
+    put_word(low, high, words[j + 1], room, o + 2);
+    put_word(low, high, words[j + 2], room, o + 4);
+    put_word(low, high, words[j + 3], room, o + 6);
+}
+
+// The scalars of 256 words.
+fn put_words(low: &[u64], high: &[u64], words: &[u16], room: &mut [u32], o: usize)
+    requires { ⌜ (length (now low) ≡ 256) × (length (now high) ≡ 256) × Halves (now low) (now high) × (length (now words) ≡ 256) × (o + 512 ≤ length (now room)) ⌝ }
+    ensures { λ r. ⌜ now (room .exit) ≡ patch o (values (λ (k : ℕ). getD (now (low .entry)) (byteOf (now (words .entry)) k) 0) 512) (now (room .entry)) ⌝ }
+{
+    let mut j: usize = 0;
+    while j < 256 {
+        put_four(low, high, words, j, room, o + j * 2);
+        j += 4;
+    }
+}
+
+// Each byte through a table.
+fn look_up(table: &[u32], chunk: &[u8], from: usize, room: &mut [u32], place: usize)
+    requires { ⌜ (length (now table) ≡ 256) × (Ready (now chunk) from (now room) place) ⌝ }
+    ensures { λ r. ⌜ Through (λ (b : ℕ). getD (now (table .entry)) b 0) (now (chunk .entry)) from place (now (room .entry)) (now (room .exit)) ⌝ }
+{
+    let n = chunk.len() - from;
+    let mut low = [0u64; 256];
+    let mut high = [0u64; 256];
+    halves(table, &mut low, &mut high);
+    let mut words = [0u16; 256];
+    let mut k: usize = 0;
+    while n - k >= 512 {
+        read_words(chunk, from + k, &mut words);
+        put_words(&low, &high, &words, room, place + k);
+        k += 512;
+    }
+    while k < n {
+        room[place + k] = table[place_of(chunk[from + k])];
+        k += 1;
+    }
+}
+
+// A run of a single-byte encoding, byte by byte; it stops at an error in mode 1.
+fn single_bytes(
+    mode: u8,
+    chunk: &[u8],
+    t1: &[u32],
+    t2: &[u32],
+    from: usize,
+    room: &mut [u32],
+    place: usize,
+) -> Place
+    requires { ⌜ (128 ≤ length (now t1)) × (Ready (now chunk) from (now room) place) ⌝ }
+    ensures { λ r. ⌜ Run (lent (now (t1 .entry)) (now (t2 .entry))) single-byte mode (now (chunk .entry)) (placed from place 0 0) r (now (room .entry)) (now (room .exit)) ⌝ }
+{
+    let n = chunk.len();
+    let mut i = from;
+    let mut o = place;
+    while i < n {
+        let c = scalar(mode, t1, chunk[i]);
+        if c == 0x110000 {
+            return Place {
+                at: i,
+                written: o,
+                state: 0,
+                flag: 0,
+            };
+        }
+        room[o] = c;
+        i += 1;
+        o += 1;
+    }
+    Place {
+        at: i,
+        written: o,
+        state: 0,
+        flag: 0,
+    }
+}
+
+// A run of windows-1252, byte by byte.
+fn windows_bytes(cells: &[u32], chunk: &[u8], from: usize, room: &mut [u32], place: usize)
+    requires { ⌜ (now cells ≡ irregular) × (Ready (now chunk) from (now room) place) ⌝ }
+    ensures { λ r. ⌜ Through windowsScalar (now (chunk .entry)) from place (now (room .entry)) (now (room .exit)) ⌝ }
+{
+    let n = chunk.len() - from;
+    let mut k: usize = 0;
+    while k < n {
+        room[place + k] = windows_scalar(cells, chunk[from + k]);
+        k += 1;
+    }
+}
+
+// A run of a single-byte encoding, by a table where there are many bytes.
+fn single_byte_text(
+    mode: u8,
+    chunk: &[u8],
+    t1: &[u32],
+    t2: &[u32],
+    from: usize,
+    room: &mut [u32],
+    place: usize,
+) -> Place
+    requires { ⌜ (128 ≤ length (now t1)) × (Ready (now chunk) from (now room) place) ⌝ }
+    ensures { λ r. ⌜ Run (lent (now (t1 .entry)) (now (t2 .entry))) single-byte mode (now (chunk .entry)) (placed from place 0 0) r (now (room .entry)) (now (room .exit)) ⌝ }
+{
+    if mode == 1 {
+        return single_bytes(mode, chunk, t1, t2, from, room, place);
+    }
+    let n = chunk.len() - from;
+    if n < 512 {
+        return single_bytes(mode, chunk, t1, t2, from, room, place);
+    }
+    let mut table = [0u32; 256];
+    fill(mode, t1, &mut table);
+    look_up(&table, chunk, from, room, place);
+    Place {
+        at: from + n,
+        written: place + n,
+        state: 0,
+        flag: 0,
+    }
+}
+
+// A run of a single-byte encoding, whose table is lent.
+pub fn single_byte_run(
+    mode: u8,
+    chunk: &[u8],
+    t1: &[u32],
+    t2: &[u32],
+    room: &mut [u32],
+    p: Place,
+) -> Place
+    ensures { λ r. ⌜ Run (lent (now (t1 .entry)) (now (t2 .entry))) single-byte mode (now (chunk .entry)) p r (now (room .entry)) (now (room .exit)) ⌝ }
+{
+    if !ready_plain(chunk.len(), room.len(), p) {
+        return p;
+    }
+    if t1.len() < 128 {
+        return p;
+    }
+    single_byte_text(mode, chunk, t1, t2, p.at, room, p.written)
+}
+
+// Each byte of windows-1252, by a table where there are many.
+fn windows_scalars(chunk: &[u8], from: usize, room: &mut [u32], place: usize)
+    requires { ⌜ Ready (now chunk) from (now room) place ⌝ }
+    ensures { λ r. ⌜ Through windowsScalar (now (chunk .entry)) from place (now (room .entry)) (now (room .exit)) ⌝ }
+{
+    if chunk.len() - from < 512 {
+        windows_bytes(&IRREGULAR, chunk, from, room, place);
+        return;
+    }
+    let mut table = [0u32; 256];
+    fill_windows(&IRREGULAR, &mut table);
+    look_up(&table, chunk, from, room, place);
+}
+
+// A run of windows-1252, for any tables and in any mode.
+pub fn windows_1252_run(chunk: &[u8], room: &mut [u32], p: Place) -> Place
+    ensures { λ r. ⌜ ((t : Tables) (m : ℕ) → Run t windows-1252 m (now (chunk .entry)) p r (now (room .entry)) (now (room .exit))) ⌝ }
+{
+    if !ready_plain(chunk.len(), room.len(), p) {
+        return p;
+    }
+    windows_scalars(chunk, p.at, room, p.written);
+    let n = chunk.len() - p.at;
+    Place {
+        at: p.at + n,
+        written: p.written + n,
+        state: 0,
+        flag: 0,
+    }
+}
