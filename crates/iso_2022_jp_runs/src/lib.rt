@@ -1,12 +1,13 @@
 // Runs of ISO-2022-JP.
 
+use index::cell;
+use layouts::iso_2022_jp_pointer;
 use runs::Place;
 use runs::next_at;
 use runs::ready;
 use runs::scalar_of;
 use runs::wide;
 use sequences::Sequence;
-use sequences::code_point;
 ghost use mathlib.Core.Path.{_≡_};
 ghost use mathlib.Core.Bool.{Bool, true, false};
 ghost use mathlib.Core.List.{List, _∷_, []};
@@ -184,7 +185,11 @@ fn pairs(
 fn pair_code(index: &[u32], lead: u8, trail: u8) -> u32
     ensures { λ r. ⌜ ((r ≡ 0 → ⊥) → (second : List ℕ) (flag : Bool) (xs : List ℕ) → next (lent (now (index .entry)) second) ISO-2022-JP (shift 3 flag) (lead ∷ trail ∷ xs) ≡ item 2 (shift 3 false) (text (r ∷ []))) ⌝ }
 {
-    code_point(33, index, lead, trail)
+    let p = iso_2022_jp_pointer(lead, trail);
+    if p < 32768 {
+        return cell(index, p);
+    }
+    0
 }
 
 // Does a byte give one scalar, in the state of ASCII? In mode 1 an error gives none.

@@ -117,6 +117,16 @@ pub fn sum(row: u16, column: u16) -> usize
     (row as usize) + (column as usize)
 }
 
+// The pointer of a pair of ISO-2022-JP, whose run asks for no other.
+pub fn iso_2022_jp_pointer(lead: u8, trail: u8) -> usize
+    ensures { λ r. ⌜ r ≡ row (layoutOf 33) lead + column (layoutOf 33) trail ⌝ }
+{
+    sum(
+        one_offset(0x21, 94, 94, lead),
+        one_offset(0x21, 94, 1, trail),
+    )
+}
+
 // The pointer of a pair. The encoding is told once for row and column.
 pub fn pointer(encoding: u8, lead: u8, trail: u8) -> usize
     ensures { λ r. ⌜ r ≡ row (layoutOf encoding) lead + column (layoutOf encoding) trail ⌝ }
@@ -143,10 +153,7 @@ pub fn pointer(encoding: u8, lead: u8, trail: u8) -> usize
         return sum(shift_jis_row(lead), split_column(0x41, 188, trail));
     }
     if encoding == 33 {
-        return sum(
-            one_offset(0x21, 94, 94, lead),
-            one_offset(0x21, 94, 1, trail),
-        );
+        return iso_2022_jp_pointer(lead, trail);
     }
     sum(
         one_offset(0x81, 126, 190, lead),

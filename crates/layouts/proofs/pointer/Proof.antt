@@ -1,4 +1,5 @@
-use Rattle.layouts.proofs.Rows.{layout-gb18030, layout-big5, layout-euc-jp, layout-iso-2022-jp, layout-shift-jis, layout-euc-kr}
+use mathlib.Core.Path.{_≡_}
+use Rattle.layouts.proofs.Rows.{layout-gb18030, layout-big5, layout-euc-jp, layout-shift-jis, layout-euc-kr}
 use native.Mathlib.Omega.{arith}
 use borrow.Author.Needs.{needs}
 use Rattle.layouts.proofs.pointer.Statement.{statement}
@@ -64,6 +65,15 @@ returns-4 c =
     let args = c .before .before .before .before .before .before .before .args in
     rw (layout-shift-jis (args .encoding) (omega arith)) (omega (arith, c .sum4 .ensures, c .before .before .shift-jis-row .ensures, c .before .split-column3 .ensures))
 
+iso-2022-jp-pointer-requires : tie.Need-iso-2022-jp-pointer-requires
+iso-2022-jp-pointer-requires c κs = search needs
+
+returns-5 : tie.Need-returns-5
+returns-5 c =
+    let args = start (c .before .before) .args in
+    let e : args .encoding ≡ 33 = omega arith in
+    rw e (c .iso-2022-jp-pointer .ensures)
+
 one-offset-requires-5 : tie.Need-one-offset-requires-5
 one-offset-requires-5 c κs = search needs
 
@@ -73,24 +83,10 @@ one-offset-requires-6 c κs = search needs
 sum-requires-5 : tie.Need-sum-requires-5
 sum-requires-5 c κs = search needs
 
-returns-5 : tie.Need-returns-5
-returns-5 c =
-    let args = start (c .before .before .before .before) .args in
-    rw (layout-iso-2022-jp (args .encoding) (omega arith)) (omega (arith, c .sum5 .ensures, c .before .before .one-offset5 .ensures, c .before .one-offset6 .ensures))
-
-one-offset-requires-7 : tie.Need-one-offset-requires-7
-one-offset-requires-7 c κs = search needs
-
-one-offset-requires-8 : tie.Need-one-offset-requires-8
-one-offset-requires-8 c κs = search needs
-
-sum-requires-6 : tie.Need-sum-requires-6
-sum-requires-6 c κs = search needs
-
 returns-6 : tie.Need-returns-6
 returns-6 c =
     let args = start (c .before .before .before .before) .args in
-    rw (layout-euc-kr (args .encoding) (omega arith) (omega arith) (omega arith) (omega arith) (omega arith)) (omega (arith, c .sum6 .ensures, c .before .before .one-offset7 .ensures, c .before .one-offset8 .ensures))
+    rw (layout-euc-kr (args .encoding) (omega arith) (omega arith) (omega arith) (omega arith) (omega arith)) (omega (arith, c .sum5 .ensures, c .before .before .one-offset5 .ensures, c .before .one-offset6 .ensures))
 
 pub pointer-spec : {M : Type 1} → statement M
 pointer-spec =
@@ -112,11 +108,9 @@ pointer-spec =
     split-column-requires-3
     sum-requires-4
     returns-4
+    iso-2022-jp-pointer-requires
+    returns-5
     one-offset-requires-5
     one-offset-requires-6
     sum-requires-5
-    returns-5
-    one-offset-requires-7
-    one-offset-requires-8
-    sum-requires-6
     returns-6)
