@@ -3,14 +3,15 @@ use mathlib.Core.Path.{_≡_, refl, sym, ap, _∙_}
 use mathlib.Core.Bool.{Bool, true, false, not}
 use mathlib.Core.List.{List}
 use mathlib.Core.Option.{some, none}
-use Prim.Native.Nat.{ℕ, zero, suc, _+_, _-_, _≤_, _<_}
+use Prim.Native.Nat.{ℕ, _≤_, _<_}
 use native.Mathlib.Omega.{arith}
 use lib.Dec.{ltb, leb, eqb}
 use lib.ListN.{length}
-use borrow.Author.Tests.{ltb-false, leb-true, leb-false, eqb-true, eqb-false, lt-ltb, le-ltb, le-leb, eq-eqb, ne-eqb}
+use borrow.Author.Tests.{ltb-false, leb-true, eqb-true, eqb-false, lt-ltb, le-ltb, le-leb, eq-eqb, ne-eqb}
 use Rattle.standard.specs.Base.{_then_else_, scalars}
 use Rattle.standard.specs.Encodings.{Family, family, traits, secondFits, Tables, fits}
 use Rattle.standard.specs.Encoders.{encoder}
+use Rattle.standard.proofs.Families.{by-family, family-single-byte}
 use Rattle.standard.proofs.Tests.{split, or-case, and-left}
 use Rattle.encoder_spec.specs.Writer.{Writing, Outcome, refuse, write, writerCall}
 use Rattle.encoder_spec.specs.declared.Written.{Written}
@@ -20,7 +21,8 @@ use Rattle.encoder.specs.WriterCode.{writes, encoderOf, writingOf, Space
 module _ {A : Type 0} (e : ℕ) (w : writes e ≡ true) where
   by-writer : (e ≡ 0 → A) → (e ≡ 21 → A) → ((e ≡ 0 → ⊥) → (e ≡ 21 → ⊥) → e ≤ 28 → A) → (e ≡ 39 → A) → A
   by-writer f g h k = or-case (leb e 28) (eqb e 39) w
-      (λ l. split (eqb e 0) (λ z. f (eqb-true e 0 z)) (λ z. split (eqb e 21) (λ y. g (eqb-true e 21 y)) (λ y. h (eqb-false e 0 z) (eqb-false e 21 y) (leb-true e 28 l))))
+      (λ l. split (eqb e 0) (λ z. f (eqb-true e 0 z)) (λ z.
+      split (eqb e 21) (λ y. g (eqb-true e 21 y)) (λ y. h (eqb-false e 0 z) (eqb-false e 21 y) (leb-true e 28 l))))
       (λ l. k (eqb-true e 39 l))
 
 encoder-writer : (e : ℕ) (t : Tables) → writes e ≡ true → encoder t (family e) ≡ some (encoderOf e (t .first))
@@ -40,30 +42,32 @@ table-few e t w f = omega (arith, first-fits (family e) t f, few)
     few = by-writer e w
         (λ h. rw h (omega arith))
         (λ h. rw h (omega arith))
-        (λ f g h. rw (ne-eqb e 0 f, ne-eqb e 21 g, le-leb e 28 h) (omega arith))
+        (λ f g h. rw (family-single-byte e f g h) (omega arith))
         (λ h. rw h (omega arith))
 
 -- those without
-no-encoder-at : (t : Tables) (k : ℕ) → k < 10 → encoder t (family (29 + k)) ≡ none
-unfolding family
-no-encoder-at t zero h = refl
-no-encoder-at t (suc zero) h = refl
-no-encoder-at t (suc (suc zero)) h = refl
-no-encoder-at t (suc (suc (suc zero))) h = refl
-no-encoder-at t (suc (suc (suc (suc zero)))) h = refl
-no-encoder-at t (suc (suc (suc (suc (suc zero))))) h = refl
-no-encoder-at t (suc (suc (suc (suc (suc (suc zero)))))) h = refl
-no-encoder-at t (suc (suc (suc (suc (suc (suc (suc zero))))))) h = refl
-no-encoder-at t (suc (suc (suc (suc (suc (suc (suc (suc zero)))))))) h = refl
-no-encoder-at t (suc (suc (suc (suc (suc (suc (suc (suc (suc zero))))))))) h = refl
-no-encoder-at t (suc (suc (suc (suc (suc (suc (suc (suc (suc (suc k)))))))))) h = absurd (omega arith)
-
 no-encoder : (e : ℕ) (t : Tables) → e ≤ 39 → writes e ≡ false → encoder t (family e) ≡ none
-no-encoder e t h w = split (leb e 28)
-    (λ l. let z : _≡_ {A = ℕ} 0 1 = cc (rw l at w) in absurd (omega arith))
-    (λ l. let g : 28 < e = leb-false e 28 l in let n : eqb e 39 ≡ false = rw l at w in
-    let k : e - 29 < 10 = omega (arith, eqb-false e 39 n) in
-    let q : e ≡ 29 + (e - 29) = omega arith in ap (λ (x : ℕ). encoder t (family x)) q ∙ no-encoder-at t (e - 29) k)
+no-encoder e t h w = by-family (λ f. encoder t f ≡ none) e (record {
+  c0 = λ q. absurd (low (omega arith));
+  c21 = λ q. absurd (low (omega arith));
+  c1-28 = λ l k n. absurd (low k);
+  c29-30 = λ l k. refl;
+  c31 = λ q. refl;
+  c32 = λ q. refl;
+  c33 = λ q. refl;
+  c34 = λ q. refl;
+  c35 = λ q. refl;
+  c36 = λ q. refl;
+  c37 = λ q. refl;
+  c38 = λ q. refl;
+  c39 = λ l. absurd (last (omega arith));
+})
+  where
+    low : e ≤ 28 → ⊥
+    low l = let z : _≡_ {A = ℕ} 0 1 = cc (rw (le-leb e 28 l) at w) in omega arith
+
+    last : e ≡ 39 → ⊥
+    last q = let z : _≡_ {A = ℕ} 0 1 = cc (rw q at w) in omega arith
 
 -- The call, by its refusal.
 module _ (e m : ℕ) (t : Tables) (cs room : List ℕ) where

@@ -61,9 +61,13 @@ copied-on {chunk} {from} {j} {k} {w} {r} h l a b = record {
   wrote = wrote-on chunk from j k w r (omega (arith, a .inside)) l (a .wrote) (b .wrote);
 }
 
+-- the number of bytes, known to be another
+pub copied-as : {chunk : List ℕ} {at j k w : ℕ} {r r′ : List ℕ} → j ≡ k → Copied chunk at j w r r′ → Copied chunk at k w r r′
+copied-as e c = rw e at c
+
 -- what a copy of at most one byte has copied, if anything
 pub one-copied : {chunk : List ℕ} {at k w : ℕ} {r r′ : List ℕ} → (Copied chunk at k w r r′) × (k ≤ 1) × Begins chunk at k → (k ≡ 0 → ⊥) → Copied chunk at 1 w r r′
-one-copied {k = k} e n = let z : k ≡ 1 = omega arith in rw z at (e .0)
+one-copied {k = k} e n = copied-as (omega arith) (e .0)
 
 -- a stretch after an empty one
 pub copied-after-none : {chunk : List ℕ} {from k w : ℕ} {r r′ r″ : List ℕ} → Copied chunk from 0 w r r′ → Copied chunk from k w r′ r″ → Copied chunk from k w r r″

@@ -19,6 +19,10 @@ Inv-loop mode chunk t1 t2 from room₀ place flag n i₀ o₀ f₀ room i o f = 
 abbrev μ-loop : tie.MeasureT-loop
 μ-loop mode chunk t1 t2 from room₀ place flag n i₀ o₀ f₀ room i o f = length chunk - i
 
+-- the function's start, from the loop's head
+abbrev start : tie.At-loop Inv-loop μ-loop → tie.Start Inv-loop μ-loop
+start c = c .before .before .before .before .before
+
 loop-holds : tie.Need-loop-holds Inv-loop μ-loop
 loop-holds c = going-start (c .before .before .before .before .pre)
 
@@ -54,7 +58,7 @@ loop-less c = search needs
 
 loop-again : tie.Need-loop-again Inv-loop μ-loop
 loop-again c =
-    let args = c .before .before .before .before .before .before .before .before .before .before .args in
+    let args = start (c .before .before .before .before .before) .args in
     let loop = c .before .before .before .before .before .loop in let takes = c .before .before .one-scalar .ensures (not-false _ (c .before .if1 .left)) in going-one (loop .inv) (byte-there (args .mode) (args .chunk .now) (loop .i) (eqb (loop .f) 1) (lent (args .t1 .now) (args .t2 .now)) (omega arith) (takes .0) (takes .1) (c .byte-scalar .result) (c .byte-scalar .ensures))
 
 same-length-2 : tie.Need-same-length-2 Inv-loop μ-loop

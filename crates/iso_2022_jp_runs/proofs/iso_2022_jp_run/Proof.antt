@@ -5,6 +5,10 @@ use borrow.Author.Needs.{needs}
 use Rattle.iso_2022_jp_runs.proofs.iso_2022_jp_run.Statement.{statement}
 use Rattle.iso_2022_jp_runs.proofs.iso_2022_jp_run.Tie as tie
 
+-- the function's start, from where test 1 fails
+abbrev start : tie.Else1 → tie.Start
+start c = c .before .before .before .before .before .before
+
 ready-requires : tie.Need-ready-requires
 ready-requires c κs = search needs
 
@@ -15,7 +19,7 @@ returns c =
 
 sequences-requires : tie.Need-sequences-requires
 sequences-requires c κs =
-    let args = c .before .before .before .before .before .before .before .args in
+    let args = start (c .before) .args in
     guarded (args .chunk .now) (args .room .now) (c .before .before .ready .ensures) (c .before .if1 .left)
 
 same-length : tie.Need-same-length

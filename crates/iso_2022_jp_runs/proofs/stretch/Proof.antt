@@ -6,6 +6,10 @@ use borrow.Author.Needs.{needs}
 use Rattle.iso_2022_jp_runs.proofs.stretch.Statement.{statement}
 use Rattle.iso_2022_jp_runs.proofs.stretch.Tie as tie
 
+-- the function's start, from test 1
+abbrev start : tie.After-slice-known → tie.Start
+start c = c .before .before .before .before
+
 bytes-requires : tie.Need-bytes-requires
 bytes-requires c κs = search needs
 
@@ -13,7 +17,7 @@ same-length : tie.Need-same-length
 same-length c = search needs
 
 returns : tie.Need-returns
-returns c = let e : c .before .before .before .before .before .before .before .before .before .args .state ≡ 0 = omega arith in rw e (c .before .before .bytes .ensures)
+returns c = let e : start (c .before .before .before .before .before) .args .state ≡ 0 = omega arith in rw e (c .before .before .bytes .ensures)
 
 pairs-requires : tie.Need-pairs-requires
 pairs-requires c κs = search needs
@@ -22,7 +26,7 @@ same-length-2 : tie.Need-same-length-2
 same-length-2 c = search needs
 
 returns-2 : tie.Need-returns-2
-returns-2 c = let e : c .before .before .before .before .before .before .before .before .before .before .args .state ≡ 3 = omega arith in rw e (c .before .before .pairs .ensures)
+returns-2 c = let e : start (c .before .before .before .before .before .before) .args .state ≡ 3 = omega arith in rw e (c .before .before .pairs .ensures)
 
 returns-3 : tie.Need-returns-3
 returns-3 c =

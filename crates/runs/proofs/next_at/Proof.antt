@@ -8,6 +8,10 @@ use borrow.Author.Needs.{needs}
 use Rattle.runs.proofs.next_at.Statement.{statement}
 use Rattle.runs.proofs.next_at.Tie as tie
 
+-- the function's start, from where test 2 fails
+abbrev start : tie.Else2 → tie.Start
+start c = c .before .before .before .before .before
+
 none-requires : tie.Need-none-requires
 none-requires c κs = search needs
 
@@ -49,7 +53,7 @@ next-requires c κs = search needs
 
 returns-3 : tie.Need-returns-3
 returns-3 c =
-    let args = c .before .before .before .before .before .before .before .before .before .before .args in
+    let args = start (c .before .before .before .before .before) .args in
     λ z. c .next .ensures ∙ front-four (lent (args .t1 .now) (args .t2 .now)) (family (args .encoding)) (shift (args .state) (eqb (args .flag) 1)) (args .chunk .now) (args .i) (omega arith)
 
 pub next-at-spec : {M : Type 1} → statement M

@@ -4,6 +4,10 @@ use native.Mathlib.Omega.{arith}
 use Rattle.runs.proofs.scalar_of.Statement.{statement}
 use Rattle.runs.proofs.scalar_of.Tie as tie
 
+-- the function's start, from where test 4 fails
+abbrev start : tie.Else4 → tie.Start
+start c = c .before .before .before .before .before .before .before
+
 returns : tie.Need-returns
 returns c = λ z. absurd (z refl)
 
@@ -20,7 +24,7 @@ returns-4 c = λ z. absurd (z refl)
 
 returns-5 : tie.Need-returns-5
 returns-5 c =
-    let args = c .before .before .before .before .before .before .before .args in
+    let args = start c .args in
     λ z. gives-error (args .mode) (args .q) (omega arith) (omega arith) (omega arith)
 
 pub scalar-of-spec : {M : Type 1} → statement M

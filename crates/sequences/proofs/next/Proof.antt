@@ -38,6 +38,10 @@ some o =
     let args = o .before .before .before .args in
     ap (next (lent (args .t1 .now) (args .t2 .now)) (family (args .encoding)) (shifted o)) (front-some (args .have) (args .b0) (args .b1) (args .b2) (args .b3) (o .if1 .left))
 
+-- the seventh test, from the ninth
+abbrev seventh : tie.Else9 → tie.Else7
+seventh c = c .before .before
+
 waits-requires : tie.Need-waits-requires
 waits-requires c κs = search needs
 
@@ -149,7 +153,10 @@ returns-12 : tie.Need-returns-12
 returns-12 c =
     let o = first-9 (c .before .before .before .before .before) in
     let args = o .before .before .before .args in
-    let past = past-36 (args .encoding) (omega arith) (c .before .before .before .before .before .before .before .before .if6 .left) (c .before .before .before .before .before .before .before .if7 .left) (c .before .before .before .before .before .before .if8 .left) (c .before .before .before .before .before .if9 .left) (c .before .before .before .before .if10 .left) (c .before .before .before .if11 .left) in
+    let past = past-36 (args .encoding) (omega arith)
+    (seventh (c .before .before .before .before .before) .before .if6 .left) (seventh (c .before .before .before .before .before) .if7 .left)
+    (c .before .before .before .before .before .before .if8 .left) (c .before .before .before .before .before .if9 .left)
+    (c .before .before .before .before .if10 .left) (c .before .before .before .if11 .left) in
     c .drop-mark2 .ensures ∙ ap (unmarked (eqb (args .flag) 1)) (c .before .utf-16 .ensures []) ∙ sym (some o ∙ is-utf-16 (args .t1 .now) (args .t2 .now) (args .encoding) (shifted o) (bytes o) past (omega arith))
 
 user-defined-requires : tie.Need-user-defined-requires

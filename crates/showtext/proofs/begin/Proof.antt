@@ -15,6 +15,10 @@ line o = o .before .before .before
 abbrev opened : tie.After-feed → tie.After-open
 opened f = f .before .before .before .before .before .before
 
+-- where the encoding's name is put, from the end of the line
+abbrev named : tie.After-out5 → tie.After-put-encoding
+named c = c .before .before .before .before .before .before
+
 first-line-requires : tie.Need-first-line-requires
 first-line-requires c κs = search needs
 
@@ -114,7 +118,7 @@ same-length-6 c = search needs
 
 returns-4 : tie.Need-returns-4
 returns-4 c =
-    let encoded = c .before .before .before .before .before .before .before in
+    let encoded = named (c .before) in
     let here = encoded .before .before in
     let f = here .before .before .before .before in
     let o = opened f in

@@ -5,19 +5,24 @@ use borrow.Author.Needs.{needs}
 use Rattle.showtext.proofs.close.Statement.{statement}
 use Rattle.showtext.proofs.close.Tie as tie
 
--- the places behind the lines: the function's start, and the finish
-abbrev start : tie.After-show → tie.Start
-start c = c .before .before .before .before .before .before .before .before .before
+-- the function's start, from the answer of finish
+abbrev start : tie.After-finish → tie.Start
+start c = c .before .before .before .before
 
+-- the answer of finish, from the answer of show
 abbrev finished : tie.After-show → tie.After-finish
 finished c = c .before .before .before .before .before
+
+-- the answer of show, from the end of the line behind it
+abbrev shown : tie.After-out2 → tie.After-show
+shown c = c .before .before .before .before .before .before
 
 finish-requires : tie.Need-finish-requires
 finish-requires c κs = search needs
 
 show-requires : tie.Need-show-requires
 show-requires c κs =
-    let s = c .before .before .before .before .before .before .before .before in
+    let s = start (c .before .before .before .before) in
     let at-finish = c .before .before .before .before .finish in
     let f = finished-fits (s .args .decoder) (s .args .room .now) (at-finish .ensures .0) (at-finish .ensures .1) in
     (f .1, omega (arith, f .0, s .pre .0), omega (arith, f .0, s .pre .1))
@@ -28,7 +33,7 @@ slice-aggregate-put-number c = search needs
 put-number-requires : tie.Need-put-number-requires
 put-number-requires c κs =
     let at-show = c .before .before .before .before in
-    let s = start at-show in
+    let s = start (finished at-show) in
     let at-finish = finished at-show .finish in
     let f = finished-fits (s .args .decoder) (s .args .room .now) (at-finish .ensures .0) (at-finish .ensures .1) in
     omega (
@@ -49,11 +54,12 @@ same-length-2 c = search needs
 returns : tie.Need-returns
 unfolding bytes
 returns c =
-    let at-show = c .before .before .before .before .before .before .before in
-    let s = start at-show in
+    let at-show = shown (c .before) in
+    let s = start (finished at-show) in
     let at-finish = finished at-show .finish in
     let at-end = c .before .before .put-number in
-    closed-up (s .args .decoder) (s .args .count) (s .args .room .now) (s .args .out .now) (at-finish .ensures .0) (at-finish .ensures .1) (at-show .show .ensures) (at-end .ensures) (omega (arith, s .pre .0))
+    closed-up (s .args .decoder) (s .args .count) (s .args .room .now) (s .args .out .now)
+    (at-finish .ensures .0) (at-finish .ensures .1) (at-show .show .ensures) (at-end .ensures) (omega (arith, s .pre .0))
 
 pub close-spec : {M : Type 1} → statement M
 close-spec =

@@ -8,6 +8,10 @@ use Rattle.showtext.proofs.go_on.Tie as tie
 abbrev start : tie.After-feed → tie.Start
 start c = c .before .before .before .before .before
 
+-- the answer of feed, from where the lines are put
+abbrev after-feed : tie.After-out → tie.After-feed
+after-feed c = c .before .before .before .before .before .before
+
 feed-requires : tie.Need-feed-requires
 feed-requires c κs = search needs
 
@@ -26,9 +30,9 @@ same-length-2 c = search needs
 
 returns : tie.Need-returns
 returns c =
-    let args = start (c .before .before .before .before .before .before .before) .args in
-    let at-pre = start (c .before .before .before .before .before .before .before) .pre in
-    let at-feed = c .before .before .before .before .before .before .before .feed in
+    let args = start (after-feed (c .before)) .args in
+    let at-pre = start (after-feed (c .before)) .pre in
+    let at-feed = after-feed (c .before) .feed in
     let at-show = c .before .before .show in
     went-on (args .decoder) (args .count) (args .chunk .now) (args .room .now) (args .out .now) (at-feed .ensures .0) (at-feed .ensures .1) (at-show .ensures) (omega (arith, at-pre .0))
 

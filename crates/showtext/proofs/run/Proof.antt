@@ -17,18 +17,24 @@ Inv-loop buffer₀ room₀ out₀ s₀ step₀ turns₀ buffer room out s step t
 abbrev μ-loop : tie.MeasureT-loop
 μ-loop buffer₀ room₀ out₀ s₀ step₀ turns₀ buffer room out s step turns = turns
 
--- the turn's places: its head, where the turns were counted, the buffer read
+-- the turn's places: where some bytes were read, the buffer was filled, the turns were counted, and its head
 abbrev Turned : Type 0
 Turned = tie.After-turn Inv-loop μ-loop
 
-abbrev head : Turned → tie.At-loop Inv-loop μ-loop
-head t = t .before .before .before .before .before .before .before .before .before .before .before .before
+abbrev read-head : tie.After-fill Inv-loop μ-loop → tie.At-loop Inv-loop μ-loop
+read-head c = c .before .before .before .before
 
-abbrev counted : Turned → tie.Else1 Inv-loop μ-loop
-counted t = t .before .before .before .before .before .before .before .before .before .before
+abbrev some-read : Turned → tie.Else2 Inv-loop μ-loop
+some-read t = t .before .before .before .before .before
 
 abbrev read : Turned → tie.After-fill Inv-loop μ-loop
-read t = t .before .before .before .before .before .before .before .before
+read t = some-read t .before .before .before
+
+abbrev counted : Turned → tie.Else1 Inv-loop μ-loop
+counted t = read t .before .before
+
+abbrev head : Turned → tie.At-loop Inv-loop μ-loop
+head t = read-head (read t)
 
 -- how far its count and its text go
 few : (t : Turned) → let l = head t .loop in (t .turn .result .count ≤ l .s .count + length (l .room)) × (t .turn .result .length ≤ length (l .out))
@@ -38,6 +44,10 @@ few t = let l = head t .loop in turned-few (l .step) (l .s) _ (l .room) (l .out)
 lengths : (t : Turned) → let a = head t .before .before .before .before .before .args in
     (length (read t .fill .last .1 .0) ≡ length (a .buffer .now)) × (length (t .turn .last .1 .1 .1 .0) ≡ length (a .room .now)) × (length (t .turn .last .1 .1 .1 .1 .0) ≡ length (a .out .now))
 lengths t = let i = head t .loop .inv in let kept = t .turn .kept in (read t .fill .kept .1 .0 ∙ i .0, kept .1 .1 .1 .0 ∙ i .1, kept .1 .1 .1 .1 .0 ∙ i .2)
+
+-- the turn, from where its text is printed
+abbrev turned : tie.After-print Inv-loop μ-loop → Turned
+turned c = c .before .before .before .before .before .before
 
 idle-requires : tie.Need-idle-requires Inv-loop μ-loop
 idle-requires c κs = search needs
@@ -64,13 +74,13 @@ fill-requires : tie.Need-fill-requires Inv-loop μ-loop
 fill-requires c κs = search needs
 
 same-length-4 : tie.Need-same-length-4 Inv-loop μ-loop
-same-length-4 c = c .before .before .before .fill .kept .1 .0 ∙ c .before .before .before .before .before .before .before .loop .inv .0
+same-length-4 c = c .before .before .before .fill .kept .1 .0 ∙ read-head (c .before .before .before) .loop .inv .0
 
 same-length-5 : tie.Need-same-length-5 Inv-loop μ-loop
-same-length-5 c = c .before .before .before .before .before .before .before .loop .inv .1
+same-length-5 c = read-head (c .before .before .before) .loop .inv .1
 
 same-length-6 : tie.Need-same-length-6 Inv-loop μ-loop
-same-length-6 c = c .before .before .before .before .before .before .before .loop .inv .2
+same-length-6 c = read-head (c .before .before .before) .loop .inv .2
 
 returns-2 : tie.Need-returns-2 Inv-loop μ-loop
 returns-2 c = search needs
@@ -91,13 +101,13 @@ print-requires : tie.Need-print-requires Inv-loop μ-loop
 print-requires c κs = let t = c .before .before .before .before .before in omega (arith, few t .1, t .turn .kept .1 .1 .1 .1 .0)
 
 same-length-7 : tie.Need-same-length-7 Inv-loop μ-loop
-same-length-7 c = lengths (c .before .before .before .before .before .before .before) .0
+same-length-7 c = lengths (turned (c .before)) .0
 
 same-length-8 : tie.Need-same-length-8 Inv-loop μ-loop
-same-length-8 c = lengths (c .before .before .before .before .before .before .before) .1
+same-length-8 c = lengths (turned (c .before)) .1
 
 same-length-9 : tie.Need-same-length-9 Inv-loop μ-loop
-same-length-9 c = lengths (c .before .before .before .before .before .before .before) .2
+same-length-9 c = lengths (turned (c .before)) .2
 
 returns-3 : tie.Need-returns-3 Inv-loop μ-loop
 returns-3 c = search needs
@@ -110,7 +120,7 @@ loop-less c = search needs
 
 loop-again : tie.Need-loop-again Inv-loop μ-loop
 loop-again c =
-    let t = c .before .before .before .before .before .before .before .before in
+    let t = turned (c .before .before) in
     let i = head t .loop .inv in
     let l = lengths t in
     (l .0, l .1, l .2, i .3, i .4, i .5, omega (arith, few t .0, i, counted t .if1 .left))

@@ -5,6 +5,10 @@ use borrow.Author.Needs.{needs}
 use Rattle.showtext.proofs.show.Statement.{statement}
 use Rattle.showtext.proofs.show.Tie as tie
 
+-- the function's start, from where the lines are put
+abbrev start : tie.After-out → tie.Start
+start c = c .before .before .before .before .before .before .before
+
 sub-put-scalars : tie.Need-sub-put-scalars
 sub-put-scalars c = search needs
 
@@ -25,7 +29,7 @@ same-length c = search needs
 
 returns : tie.Need-returns
 returns c =
-    let args = c .before .before .before .before .before .before .before .before .args in
+    let args = start (c .before) .args in
     let at-put-scalars = c .before .before .put-scalars in
     record { decoder = refl; count = refl; refusal = refl; put = shown-part (args .answer .written) (args .count) (args .room .now) (at-put-scalars .ensures) }
 

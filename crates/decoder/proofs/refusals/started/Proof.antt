@@ -4,6 +4,10 @@ use borrow.Author.Needs.{needs}
 use Rattle.decoder.proofs.refusals.started.Statement.{statement}
 use Rattle.decoder.proofs.refusals.started.Tie as tie
 
+-- the function's start, from the answer of next
+abbrev start : tie.After-next → tie.Start
+start c = c .before .before .before .before .before .before
+
 returns : tie.Need-returns
 returns c =
     let d = c .before .before .args .d in
@@ -25,7 +29,7 @@ next-requires : tie.Need-next-requires
 next-requires c κs = search needs
 
 returns-2 : tie.Need-returns-2
-returns-2 c = started-is ((c .before .before .before .before .before .before .before .args) .d) _ (c .before .next .result) (omega arith) (c .before .next .ensures)
+returns-2 c = started-is (start (c .before) .args .d) _ (c .before .next .result) (omega arith) (c .before .next .ensures)
 
 pub started-spec : {M : Type 1} → statement M
 started-spec =

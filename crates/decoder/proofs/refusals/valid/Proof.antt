@@ -5,6 +5,10 @@ use borrow.Author.Needs.{needs}
 use Rattle.decoder.proofs.refusals.valid.Statement.{statement}
 use Rattle.decoder.proofs.refusals.valid.Tie as tie
 
+-- the function's start, from test 4
+abbrev start : tie.After-struct-known4 → tie.Start
+start c = c .before .before .before .before .before .before .before
+
 returns : tie.Need-returns
 returns c = sym (no-encoding ((c .before .before .args) .d) (omega arith))
 
@@ -16,12 +20,12 @@ returns-3 c = sym (no-flag ((c .before .before .before .before .before .before .
 
 returns-4 : tie.Need-returns-4
 returns-4 c =
-    let args = c .before .before .before .before .before .before .before .before .args in
+    let args = start (c .before) .args in
     sym (no-held (args .d) (omega arith) (omega arith) (omega arith) (omega arith))
 
 returns-5 : tie.Need-returns-5
 returns-5 c =
-    let args = c .before .before .before .before .before .before .before .before .before .before .args in
+    let args = start (c .before .before .before) .args in
     sym (no-ended (args .d) (omega arith) (omega arith) (omega arith) (omega arith) (omega arith))
 
 unused-requires : tie.Need-unused-requires
@@ -32,14 +36,14 @@ valid-rest-requires c κs = search needs
 
 returns-6 : tie.Need-returns-6
 returns-6 c =
-    let args = c .before .before .before .before .before .before .before .before .before .before .before .before .before .args in
+    let args = start (c .before .before .before .before .before .before) .args in
     let at-unused = c .before .before .unused in
     let at-if6 = c .before .if6 in
     c .valid-rest .ensures ∙ sym (valid-rest (args .d) (omega arith) (omega arith) (omega arith) (omega arith) (omega arith) (sym (at-unused .ensures) ∙ at-if6 .taken))
 
 returns-7 : tie.Need-returns-7
 returns-7 c =
-    let args = c .before .before .before .before .before .before .before .before .before .before .before .before .args in
+    let args = start (c .before .before .before .before .before) .args in
     let at-unused = c .before .unused in
     sym (no-unused (args .d) (omega arith) (omega arith) (omega arith) (omega arith) (omega arith) (sym (at-unused .ensures) ∙ c .if6 .left))
 

@@ -6,6 +6,10 @@ use borrow.Author.Needs.{needs}
 use Rattle.decoder.proofs.refusals.valid_rest.Statement.{statement}
 use Rattle.decoder.proofs.refusals.valid_rest.Tie as tie
 
+-- the function's start, from where test 4 fails
+abbrev start : tie.Else4 → tie.Start
+start c = c .before .before .before .before .before .before
+
 possible-requires : tie.Need-possible-requires
 possible-requires c κs = search needs
 
@@ -34,7 +38,7 @@ returns-4 c =
 
 returns-5 : tie.Need-returns-5
 returns-5 c =
-    let args = c .before .before .before .before .before .before .before .args in
+    let args = start (c .before) .args in
     sym (rest-ended (args .d) (omega arith) ∙ rw (eq-eqb (args .d .held) 0 (omega arith), eq-eqb (args .d .state) 0 (omega arith)))
 
 pub valid-rest-spec : {M : Type 1} → statement M

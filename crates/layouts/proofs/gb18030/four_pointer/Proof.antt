@@ -50,7 +50,7 @@ returns-4 c =
 sub-upper : tie.Need-sub-upper
 sub-upper c =
     let args = start (c .before .before .before) .args in
-    let at-within = c .before .before .before .before .before .before .before .within in
+    let at-within = first (c .before .before .before) .before .within in
     let at-if1 = c .before .before .before .before .before .before .if1 in
     omega (arith, within-low 0x81 (args .b) 0xFE (holds (at-within .ensures) (at-if1 .left)))
 

@@ -9,6 +9,18 @@ use borrow.Author.Needs.{needs}
 use Rattle.pair_runs.proofs.gb18030.four_at.Statement.{statement}
 use Rattle.pair_runs.proofs.gb18030.four_at.Tie as tie
 
+-- the answer of four-pointer, from where `last` is back
+abbrev after-four-pointer : tie.After-last → tie.After-four-pointer
+after-four-pointer c = c .before .before .before .before .before .before
+
+-- where test 1 fails, from where test 3 fails
+abbrev else1 : tie.Else3 → tie.Else1
+else1 c = c .before .before .before .before .before .before .before
+
+-- the function's start, from where test 1 fails
+abbrev start : tie.Else1 → tie.Start
+start c = c .before .before .before .before
+
 returns : tie.Need-returns
 returns c = λ z. absurd (z refl)
 
@@ -53,8 +65,8 @@ returns-4 c = λ z. absurd (z refl)
 
 four-scalar-requires : tie.Need-four-scalar-requires
 four-scalar-requires c κs =
-    let pre = c .before .before .before .before .before .before .before .before .before .before .before .before .before .before .pre in
-    let at-if1 = c .before .before .before .before .before .before .before .before .before .before .if1 in
+    let pre = start (else1 (c .before .before .before)) .pre in
+    let at-if1 = else1 (c .before .before .before) .if1 in
     pre .1 (not-false _ (at-if1 .left))
 
 same-length : tie.Need-same-length
@@ -63,9 +75,9 @@ same-length c = search needs
 -- after the three tests of the pointer
 returns-5 : tie.Need-returns-5
 returns-5 c =
-    let args = c .before .before .before .before .before .before .before .before .before .before .before .before .before .before .before .before .before .args in
-    let at-if1 = c .before .before .before .before .before .before .before .before .before .before .before .before .before .if1 in
-    let at-four-pointer = c .before .before .before .before .before .before .before .four-pointer in
+    let args = start (else1 (c .before .before .before .before .before .before)) .args in
+    let at-if1 = else1 (c .before .before .before .before .before .before) .if1 in
+    let at-four-pointer = after-four-pointer (c .before) .four-pointer in
     let at-if3 = c .before .before .before .before .before .before .if3 in
     let at-gap = c .before .before .before .before .before .gap in
     let at-if4 = c .before .before .before .before .if4 in

@@ -5,6 +5,10 @@ use borrow.Author.Needs.{needs}
 use Rattle.pair_runs.proofs.gb18030.range_scalar.Statement.{statement}
 use Rattle.pair_runs.proofs.gb18030.range_scalar.Tie as tie
 
+-- the function's start, from the answer of pair-scalar
+abbrev start : tie.After-pair-scalar → tie.Start
+start c = c .before .before .before .before .before .before .before
+
 returns : tie.Need-returns
 returns c = λ z. absurd (z refl)
 
@@ -40,8 +44,8 @@ pair-scalar-requires c κs = search needs
 
 returns-3 : tie.Need-returns-3
 returns-3 c =
-    let args = c .before .before .before .before .before .before .before .args in
-    let pre = c .before .before .before .before .before .before .before .pre in
+    let args = start c .args in
+    let pre = start c .pre in
     let at-after = c .before .before .before .before .pointer-after in
     λ z.
     let e = c .pair-scalar .ensures z in

@@ -5,6 +5,10 @@ use borrow.Author.Needs.{needs}
 use Rattle.pair_runs.proofs.pairs.bad_width.Statement.{statement}
 use Rattle.pair_runs.proofs.pairs.bad_width.Tie as tie
 
+-- the function's start, from where test 3 fails
+abbrev start : tie.Else3 → tie.Start
+start c = c .before .before .before .before .before .before
+
 returns : tie.Need-returns
 returns c = λ n. absurd (n refl)
 
@@ -22,7 +26,7 @@ returns-3 c = λ n. absurd (n refl)
 
 returns-4 : tie.Need-returns-4
 returns-4 c =
-    let args = c .before .before .before .before .before .before .before .args in
+    let args = start (c .before) .args in
     let at-within = c .before .before .before .before .within in
     let at-if2 = c .before .before .before .if2 in
     let at-row-of = c .before .before .row-of in
@@ -31,7 +35,7 @@ returns-4 c =
 
 returns-5 : tie.Need-returns-5
 returns-5 c =
-    let args = c .before .before .before .before .before .before .before .args in
+    let args = start (c .before) .args in
     let at-within = c .before .before .before .before .within in
     let at-if2 = c .before .before .before .if2 in
     let at-row-of = c .before .before .row-of in

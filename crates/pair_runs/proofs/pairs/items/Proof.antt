@@ -18,17 +18,22 @@ use Rattle.pair_runs.proofs.Pairing.{bad-pair, self-pairs}
 use Rattle.pair_runs.proofs.pairs.items.Statement.{statement}
 use Rattle.pair_runs.proofs.pairs.items.Tie as tie
 
--- The invariant: a run has come from the start to this place, `last` is as long as at the start, and the room's length in bytes is a number of 64 bits.
+-- The invariant: a run has come from the start to this place, `last` is as long as at the start, and the room's length in bytes is
+-- a number of 64 bits.
 -- The bytes that are left fall at each turn, by the width of what was read.
 abbrev Inv-loop : tie.InvT-loop
-Inv-loop encoding mode chunk t1 t2 layout ordered last₀ from room₀ place i₀ o₀ last room i o = (Going (lent t1 t2) (family encoding) mode chunk from i plain plain place o room₀ room) × (length last ≡ length last₀) × (length room₀ * 4 < 18446744073709551616)
+Inv-loop encoding mode chunk t1 t2 layout ordered last₀ from room₀ place i₀ o₀ last room i o =
+    (Going (lent t1 t2) (family encoding) mode chunk from i plain plain place o room₀ room) × (length last ≡ length last₀) × (length room₀ * 4 < 18446744073709551616)
 
 abbrev μ-loop : tie.MeasureT-loop
 μ-loop encoding mode chunk t1 t2 layout ordered last₀ from room₀ place i₀ o₀ last room i o = length chunk - i
 
--- the start, from a turn; and from each try in a turn, the one before it
+-- the start, from the loop's head and from a turn; and from each try in a turn, the one before it
+abbrev begun : tie.At-loop Inv-loop μ-loop → tie.Start Inv-loop μ-loop
+begun c = c .before .before .before .before .before .before .before
+
 abbrev start : tie.In-loop Inv-loop μ-loop → tie.Start Inv-loop μ-loop
-start c = c .before .before .before .before .before .before .before .before
+start c = begun (c .before)
 
 abbrev from-ascii : tie.After-copy-ascii Inv-loop μ-loop → tie.In-loop Inv-loop μ-loop
 from-ascii c = c .before .before .before .before

@@ -5,6 +5,10 @@ use borrow.Author.Needs.{needs}
 use Rattle.pair_runs.proofs.pairs.pair.Statement.{statement}
 use Rattle.pair_runs.proofs.pairs.pair.Tie as tie
 
+-- the function's start, from where test 1 fails
+abbrev start : tie.Else1 → tie.Start
+start c = c .before .before .before .before
+
 cell-of-requires : tie.Need-cell-of-requires
 cell-of-requires c κs = search needs
 
@@ -38,7 +42,7 @@ add-result c = search needs
 
 returns-4 : tie.Need-returns-4
 returns-4 c =
-    let args = c .before .before .before .before .before .before .before .before .args in
+    let args = start (c .before .before .before .before) .args in
     let at-cell-of = c .before .before .before .before .before .cell-of in
     let at-if1 = c .before .before .before .before .if1 in
     let at-within = c .before .within in

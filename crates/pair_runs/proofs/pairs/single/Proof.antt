@@ -7,6 +7,10 @@ use borrow.Author.Needs.{needs}
 use Rattle.pair_runs.proofs.pairs.single.Statement.{statement}
 use Rattle.pair_runs.proofs.pairs.single.Tie as tie
 
+-- the function's start, from where test 3 fails
+abbrev start : tie.Else3 → tie.Start
+start c = c .before .before .before .before
+
 shift-jis-single-requires : tie.Need-shift-jis-single-requires
 shift-jis-single-requires c κs = search needs
 
@@ -52,8 +56,8 @@ replaced-requires-2 c κs = search needs
 
 returns-6 : tie.Need-returns-6
 returns-6 c =
-    let args = c .before .before .before .before .before .before .before .args in
-    let pre = c .before .before .before .before .before .before .before .pre in
+    let args = start (c .before .before .before) .args in
+    let pre = start (c .before .before .before) .pre in
     let at-within = c .before .before .before .before .within in
     let at-if3 = c .before .before .before .if3 in
     λ n t1 t2 xs.

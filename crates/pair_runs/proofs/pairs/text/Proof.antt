@@ -5,6 +5,10 @@ use borrow.Author.Needs.{needs}
 use Rattle.pair_runs.proofs.pairs.text.Statement.{statement}
 use Rattle.pair_runs.proofs.pairs.text.Tie as tie
 
+-- the function's start, from where `last` is back
+abbrev start : tie.After-last → tie.Start
+start c = c .before .before .before .before .before .before .before
+
 sub-if1 : tie.Need-sub-if1
 sub-if1 c = search needs
 
@@ -16,7 +20,7 @@ slice-aggregate-items-2 c = search needs
 
 items-requires : tie.Need-items-requires
 items-requires c κs =
-    let pre = c .before .before .before .before .before .before .before .before .pre in
+    let pre = start (c .before) .pre in
     (pre .0, pre .1, λ h. absurd (omega (arith, h)), λ q. absurd (subst T (sym q) tt), pre .2)
 
 same-length : tie.Need-same-length

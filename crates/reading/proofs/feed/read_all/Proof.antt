@@ -1,5 +1,4 @@
--- The loop of an accepted feed. At its head what the call has to leave is what is still to be handed out from `at` on, into the room
--- from `written` on (`Running`). The bytes behind `at` fall, since a run goes on and a sequence has a byte or more.
+-- The loop of an accepted feed. Assumes nothing.
 use mathlib.Core.List.{List}
 use mathlib.Core.Path.{sym, ap, _∙_}
 use Prim.Native.Nat.{ℕ, _+_, _-_}
@@ -11,6 +10,8 @@ use Rattle.reading.proofs.Loop.{Args, Running, start-running, carried, 
 use Rattle.reading.proofs.feed.read_all.Statement.{statement}
 use Rattle.reading.proofs.feed.read_all.Tie as tie
 
+-- The invariant: what the call has to leave is what is still to be handed out from `at` on, into the room from `written` on.
+-- The bytes behind `at` fall at each turn, since a run goes on and a sequence has a byte or more.
 abbrev Inv-loop : tie.InvT-loop
 Inv-loop encoding mode held chunk t1 t2 room₀ state flag at₀ s₀ f₀ written₀ room at s f written =
     Running (record { encoding = encoding; mode = mode; held = held; chunk = chunk; first = t1; second = t2; state = state; flag = flag }) room₀ room at s f written

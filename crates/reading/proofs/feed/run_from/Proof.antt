@@ -6,6 +6,10 @@ use Rattle.reading.proofs.Loop.{held-runs}
 use Rattle.reading.proofs.feed.run_from.Statement.{statement}
 use Rattle.reading.proofs.feed.run_from.Tie as tie
 
+-- the function's start, from where test 1 fails
+abbrev start : tie.Else1 → tie.Start
+start c = c .before .before .before .before .before .before
+
 cast-count : tie.Need-cast-count
 cast-count c = search needs
 
@@ -19,7 +23,7 @@ run-requires c κs = search needs
 
 add-to : tie.Need-add-to
 add-to c =
-    let args = c .before .before .before .before .before .before .before .before .before .before .before .args in
+    let args = start (c .before .before .before .before .before) .args in
     let r = c .before .before .before .run .ensures in
     let i = r .inside (omega arith) in
     omega arith
@@ -29,7 +33,7 @@ same-length c = search needs
 
 returns-2 : tie.Need-returns-2
 returns-2 c =
-    let args = c .before .before .before .before .before .before .before .before .before .before .before .args in
+    let args = start (c .before .before .before .before .before) .args in
     held-runs (args .held) (args .chunk .now) (omega arith) (omega arith) (c .before .before .before .run .ensures)
 
 pub run-from-spec : {M : Type 1} → statement M

@@ -12,6 +12,10 @@ use borrow.Author.Needs.{needs}
 use Rattle.reading.proofs.feed.sequence_at.Statement.{statement}
 use Rattle.reading.proofs.feed.sequence_at.Tie as tie
 
+-- the function's start, from the third answer of byte-at
+abbrev start : tie.After-byte-at3 → tie.Start
+start c = c .before .before .before .before .before .before .before
+
 cast-have : tie.Need-cast-have
 cast-have c = search needs
 
@@ -47,7 +51,7 @@ next-requires c κs = search needs
 
 returns : tie.Need-returns
 returns c =
-    let args = c .before .before .before .before .before .before .before .before .before .args in
+    let args = start (c .before .before) .args in
     c .next .ensures ∙
     front-is
     (lent (args .t1 .now) (args .t2 .now))

@@ -6,6 +6,10 @@ use Rattle.reading.proofs.Guards.{end-5, end-7, end-read}
 use Rattle.reading.proofs.finish.end.Statement.{statement}
 use Rattle.reading.proofs.finish.end.Tie as tie
 
+-- the function's start, from where test 2 fails
+abbrev start : tie.Else2 → tie.Start
+start c = c .before .before .before .before .before
+
 unread-requires : tie.Need-unread-requires
 unread-requires c κs = search needs
 
@@ -36,7 +40,7 @@ same-length c = search needs
 returns-3 : tie.Need-returns-3
 returns-3 c =
     let at-rest = c .before .before in
-    let a = at-rest .before .before .before .before .before .before .before .args in
+    let a = start (at-rest .before .before) .args in
     let e = end-read (a .encoding) (a .mode) (a .state) (a .flag) (a .held) (a .room .now) (omega arith) (omega arith) in
     (at-rest .rest .ensures .0 ∙ ap (λ (r : Result). r .left) (sym e), at-rest .rest .ensures .1 ∙ ap (λ (r : Result). r .room) (sym e))
 

@@ -8,6 +8,10 @@ use borrow.Author.Needs.{needs}
 use Rattle.reading.proofs.finish.last_scalar.Statement.{statement}
 use Rattle.reading.proofs.finish.last_scalar.Tie as tie
 
+-- the function's start, from the answer of next
+abbrev start : tie.After-next → tie.Start
+start c = c .before .before .before
+
 sub-empty : tie.Need-sub-empty
 sub-empty c = search needs
 
@@ -28,13 +32,13 @@ returns c =
 
 returns-2 : tie.Need-returns-2
 returns-2 c =
-    let args = c .before .before .before .before .before .before .before .args in
+    let args = start (c .before .before .before .before) .args in
     let at-next = c .before .before .before .before .next in
     last-error _ (shift (args .state) (eqb (args .flag) 1)) (args .b) (at-next .result) (at-next .ensures ∙ by-33 _ _ _) (omega arith) (omega arith)
 
 returns-3 : tie.Need-returns-3
 returns-3 c =
-    let args = c .before .before .before .before .before .before .before .args in
+    let args = start (c .before .before .before .before) .args in
     let at-next = c .before .before .before .before .next in
     last-one _ (shift (args .state) (eqb (args .flag) 1)) (args .b) (at-next .result) (at-next .ensures ∙ by-33 _ _ _) (omega arith) (omega arith)
 

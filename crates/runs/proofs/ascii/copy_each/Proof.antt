@@ -15,6 +15,10 @@ Inv-loop chunk from room₀ place n k₀ room k = Copying chunk from place k roo
 abbrev μ-loop : tie.MeasureT-loop
 μ-loop chunk from room₀ place n k₀ room k = n - k
 
+-- the function's start, from the loop's head
+abbrev start : tie.At-loop Inv-loop μ-loop → tie.Start Inv-loop μ-loop
+start c = c .before .before .before
+
 sub-n : tie.Need-sub-n Inv-loop μ-loop
 sub-n c = search needs
 
@@ -35,7 +39,7 @@ same-length c = search needs
 
 returns : tie.Need-returns Inv-loop μ-loop
 returns c =
-    let args = c .before .before .before .before .before .before .before .before .before .args in
+    let args = start (c .before .before .before .before .before .before) .args in
     (copying-stop (c .before .before .before .before .before .before .loop .inv) (c .before .before .before .copy-one .ensures .0) (c .if1 .taken), begins-stop (args .chunk .now) (args .from) (c .before .before .before .before .before .before .loop .k) (c .before .before .before .copy-one .ensures .2) (c .if1 .taken))
 
 add-k : tie.Need-add-k Inv-loop μ-loop

@@ -1,9 +1,13 @@
 use mathlib.Core.Path.{_≡_}
-use Rattle.runs.proofs.Stretches.{copied-on, copied-after-none}
+use Rattle.runs.proofs.Stretches.{copied-as, copied-on, copied-after-none}
 use borrow.Author.Needs.{needs}
 use native.Mathlib.Omega.{arith}
 use Rattle.runs.proofs.ascii.copy_stretch.Statement.{statement}
 use Rattle.runs.proofs.ascii.copy_stretch.Tie as tie
+
+-- the answer of copy-fours, from the test behind it
+abbrev fours : tie.After-slice-known3 → tie.After-copy-fours
+fours c = c .before .before
 
 sub-if1 : tie.Need-sub-if1
 sub-if1 c = search needs
@@ -42,7 +46,9 @@ same-length-2 : tie.Need-same-length-2
 same-length-2 c = search needs
 
 returns-2 : tie.Need-returns-2
-returns-2 c = let first = rw (c .before .before .before .before .if3 .taken) at (c .before .before .before .before .before .before .before .copy-fours .ensures) in (copied-on (omega arith) (omega (arith, first .inside)) first (c .before .before .copy-blocks .ensures), λ l q. omega arith)
+returns-2 c =
+    let first = copied-as (c .before .before .before .before .if3 .taken) (fours (c .before .before .before .before .before) .copy-fours .ensures) in
+    (copied-on (omega arith) (omega (arith, first .inside)) first (c .before .before .copy-blocks .ensures), λ l q. omega arith)
 
 same-length-3 : tie.Need-same-length-3
 same-length-3 c = search needs
@@ -57,7 +63,10 @@ same-length-4 : tie.Need-same-length-4
 same-length-4 c = search needs
 
 returns-4 : tie.Need-returns-4
-returns-4 c = let none : c .before .before .before .before .before .before .before .before .copy-fours .result ≡ 0 = omega arith in (copied-after-none (rw none at (c .before .before .before .before .before .before .before .before .copy-fours .ensures)) (c .before .before .copy-each .ensures .0), c .before .before .copy-each .ensures .1)
+returns-4 c =
+    let at-fours = fours (c .before .before .before .before .before .before) .copy-fours in
+    let none : at-fours .result ≡ 0 = omega arith in
+    (copied-after-none (copied-as none (at-fours .ensures)) (c .before .before .copy-each .ensures .0), c .before .before .copy-each .ensures .1)
 
 pub copy-stretch-spec : {M : Type 1} → statement M
 copy-stretch-spec =

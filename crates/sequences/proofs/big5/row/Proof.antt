@@ -5,6 +5,10 @@ use borrow.Author.Needs.{needs}
 use Rattle.sequences.proofs.big5.row.Statement.{statement}
 use Rattle.sequences.proofs.big5.row.Tie as tie
 
+-- the function's start, from the fourth answer of entry
+abbrev start : tie.After-entry4 → tie.Start
+start c = c .before .before .before .before .before .before .before
+
 entry-requires : tie.Need-entry-requires
 entry-requires c κs = search needs
 
@@ -46,12 +50,12 @@ cast-if4 c = search needs
 
 returns-4 : tie.Need-returns-4
 returns-4 c =
-    let args = c .before .before .before .before .before .before .before .before .args in
+    let args = start (c .before) .args in
     sym (row-3 (args .p) (c .if4 .taken ∙ c .before .entry4 .ensures))
 
 returns-5 : tie.Need-returns-5
 returns-5 c =
-    let args = c .before .before .before .before .before .before .before .before .args in
+    let args = start (c .before) .args in
     sym (row-4 (args .p) (omega arith) (omega arith) (omega arith) (omega arith))
 
 pub row-spec : {M : Type 1} → statement M

@@ -13,9 +13,9 @@ use borrow.Author.Needs.{needs}
 use Rattle.sequences.proofs.euc_jp.euc_jp.Statement.{statement}
 use Rattle.sequences.proofs.euc_jp.euc_jp.Tie as tie
 
--- where the function starts, from the test of the lead
-abbrev start : tie.After-leads → tie.Start
-start c = c .before .before .before .before .before .before
+-- where the function starts, from the third test
+abbrev start : tie.Else2 → tie.Start
+start c = c .before .before .before .before
 
 gives-requires : tie.Need-gives-requires
 gives-requires c κs = search needs
@@ -41,7 +41,7 @@ waits-requires c κs = search needs
 
 returns-3 : tie.Need-returns-3
 returns-3 c =
-    let args = c .before .before .before .before .before .before .before .args in
+    let args = start (c .before .before .before) .args in
     λ xs. c .waits .ensures ∙ sym (euc-jp-8F-wait (lent (args .t1 .now) (args .t2 .now)) (args .have) (args .b0) (args .b1) (args .b2) xs (omega arith) (omega arith))
 
 three-requires : tie.Need-three-requires
@@ -49,7 +49,7 @@ three-requires c κs = search needs
 
 returns-4 : tie.Need-returns-4
 returns-4 c =
-    let args = c .before .before .before .before .before .before .before .args in
+    let args = start (c .before .before .before) .args in
     λ xs. c .three .ensures xs ∙ sym (euc-jp-8F (lent (args .t1 .now) (args .t2 .now)) (args .have) (args .b0) (args .b1) (args .b2) xs (omega arith) (omega arith))
 
 leads-requires : tie.Need-leads-requires
@@ -61,7 +61,7 @@ wrong-requires c κs = search needs
 returns-5 : tie.Need-returns-5
 unfolding layoutOf
 returns-5 c =
-    let args = start (c .before .before) .args in
+    let args = start (c .before .before .before .before) .args in
     λ xs. c .wrong .ensures ∙ sym (euc-jp-bad (lent (args .t1 .now) (args .t2 .now)) (args .have) (args .b0) (args .b1) (args .b2) xs (omega arith) (omega arith) (omega arith) (fails (c .before .before .leads .ensures) (c .before .if5 .taken)))
 
 code-point-requires : tie.Need-code-point-requires
@@ -73,7 +73,7 @@ gives-pair-requires-2 c κs = search needs
 returns-6 : tie.Need-returns-6
 unfolding layoutOf
 returns-6 c =
-    let args = start (c .before .before .before) .args in
+    let args = start (c .before .before .before .before .before) .args in
     λ xs. c .gives-pair2 .ensures ∙ rw (c .before .code-point .ensures)
     (sym (euc-jp-led (lent (args .t1 .now) (args .t2 .now)) (args .b0) (take (args .have - 1) (args .b1 ∷ args .b2 ∷ xs)) (holds (c .before .before .before .leads .ensures) (c .before .before .if5 .left)) ∙
     await-pair (args .have) (args .b1) (args .b2 ∷ xs) (λ c. pairCode eucJpLayout (args .t1 .now) (args .b0) c)))

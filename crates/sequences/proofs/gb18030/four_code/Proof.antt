@@ -5,6 +5,10 @@ use borrow.Author.Needs.{needs}
 use Rattle.sequences.proofs.gb18030.four_code.Statement.{statement}
 use Rattle.sequences.proofs.gb18030.four_code.Tie as tie
 
+-- the function's start, from the answer of mapped
+abbrev start : tie.After-mapped → tie.Start
+start c = c .before .before .before .before .before .before .before
+
 gap-requires : tie.Need-gap-requires
 gap-requires c κs = search needs
 
@@ -33,7 +37,7 @@ mapped-requires c κs = search needs
 
 returns-4 : tie.Need-returns-4
 returns-4 c =
-    let args = c .before .before .before .before .before .before .before .before .args in
+    let args = start (c .before) .args in
     let at-gap = c .before .before .before .before .before .before .gap in
     let at-if1 = c .before .before .before .before .before .if1 in
     let at-range-code = c .before .before .before .range-code in
@@ -42,7 +46,7 @@ returns-4 c =
 
 returns-5 : tie.Need-returns-5
 returns-5 c =
-    let args = c .before .before .before .before .before .before .before .before .args in
+    let args = start (c .before) .args in
     let at-gap = c .before .before .before .before .before .before .gap in
     let at-if1 = c .before .before .before .before .before .if1 in
     let at-range-code = c .before .before .before .range-code in

@@ -8,9 +8,9 @@ use borrow.Author.Needs.{needs}
 use Rattle.sequences.proofs.gb18030.gb18030.Statement.{statement}
 use Rattle.sequences.proofs.gb18030.gb18030.Tie as tie
 
--- where the function starts, from the test of the second byte
-abbrev start : tie.After-within → tie.Start
-start c = c .before .before .before .before .before .before .before
+-- where the function starts, from the test of the lead
+abbrev start : tie.After-leads → tie.Start
+start c = c .before .before .before .before .before
 
 gives-requires : tie.Need-gives-requires
 gives-requires c κs = search needs
@@ -37,7 +37,7 @@ wrong-requires c κs = search needs
 returns-3 : tie.Need-returns-3
 unfolding layoutOf
 returns-3 c =
-    let args = c .before .before .before .before .before .before .before .args in
+    let args = start (c .before .before) .args in
     λ xs. c .wrong .ensures ∙ sym (gb18030-bad (lent (args .t1 .now) (args .t2 .now)) (args .have) (args .b0) (args .b1) (args .b2) (args .b3) xs (omega arith) (fails (c .before .before .leads .ensures) (c .before .if3 .taken)))
 
 within-requires : tie.Need-within-requires
@@ -49,7 +49,7 @@ waits-requires c κs = search needs
 returns-4 : tie.Need-returns-4
 unfolding layoutOf
 returns-4 c =
-    let args = start (c .before .before .before) .args in
+    let args = start (c .before .before .before .before .before) .args in
     λ xs. c .waits .ensures ∙ sym (gb18030-wait (lent (args .t1 .now) (args .t2 .now)) (args .have) (args .b0) (args .b1) (args .b2) (args .b3) xs (holds (c .before .before .before .before .before .leads .ensures) (c .before .before .before .before .if3 .left)) (sym (c .before .before .before .within .ensures) ∙ c .before .before .if4 .taken) (omega arith))
 
 third-requires : tie.Need-third-requires
@@ -59,7 +59,7 @@ third-requires c κs = ((holds (c .before .before .before .before .leads .ensure
 returns-5 : tie.Need-returns-5
 unfolding layoutOf
 returns-5 c =
-    let args = start (c .before .before .before) .args in
+    let args = start (c .before .before .before .before .before) .args in
     λ xs. c .third .ensures xs ∙ sym (gb18030-third (lent (args .t1 .now) (args .t2 .now)) (args .have) (args .b0) (args .b1) (args .b2) (args .b3) xs (holds (c .before .before .before .before .before .leads .ensures) (c .before .before .before .before .if3 .left)) (sym (c .before .before .before .within .ensures) ∙ c .before .before .if4 .taken) (omega arith))
 
 code-point-requires : tie.Need-code-point-requires
@@ -71,7 +71,7 @@ gives-pair-requires c κs = search needs
 returns-6 : tie.Need-returns-6
 unfolding layoutOf
 returns-6 c =
-    let args = start (c .before .before .before) .args in
+    let args = start (c .before .before .before .before .before) .args in
     λ xs. c .gives-pair .ensures ∙ rw (c .before .code-point .ensures) (sym (gb18030-pair (lent (args .t1 .now) (args .t2 .now)) (args .have) (args .b0) (args .b1) (args .b2) (args .b3) xs (holds (c .before .before .before .before .before .leads .ensures) (c .before .before .before .before .if3 .left))
     (sym (c .before .before .before .within .ensures) ∙ c .before .before .if4 .left)))
 

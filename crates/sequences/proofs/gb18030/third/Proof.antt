@@ -1,5 +1,7 @@
-use mathlib.Core.Path.{sym, ap, _∙_}
+use mathlib.Core.Path.{_≡_, sym, ap, _∙_}
+use mathlib.Core.Bool.{true}
 use Rattle.standard.proofs.Tests.{fails, holds}
+use Rattle.standard.specs.Base.{within}
 use Rattle.standard.specs.Sequence.{code}
 use Rattle.standard.specs.Sequences.Gb18030.{gb18030FourCode}
 use Rattle.layouts.proofs.Fours.{four-in}
@@ -9,9 +11,16 @@ use borrow.Author.Needs.{needs}
 use Rattle.sequences.proofs.gb18030.third.Statement.{statement}
 use Rattle.sequences.proofs.gb18030.third.Tie as tie
 
--- where the function starts, from the test of the fourth byte
+-- the test of the third byte, from that of the fourth; the function's start, from there
+abbrev third : tie.After-within2 → tie.After-within
+third c = c .before .before .before
+
 abbrev start : tie.After-within2 → tie.Start
-start c = c .before .before .before .before .before
+start c = third c .before .before
+
+-- the third byte is in range
+in-range : (c : tie.After-within2) → within 0x81 (start c .args .d) 0xFE ≡ true
+in-range c = holds (third c .within .ensures) (c .before .before .if1 .left)
 
 within-requires : tie.Need-within-requires
 within-requires c κs = search needs
@@ -40,8 +49,9 @@ wrong-requires-2 c κs = search needs
 
 returns-3 : tie.Need-returns-3
 returns-3 c =
-    let args = c .before .before .before .before .before .before .before .args in
-    λ xs. c .wrong2 .ensures ∙ sym (fourth-other (args .ranges .now) (args .have) (args .b) (args .c) (args .d) (args .e) xs (holds (c .before .before .before .before .before .within .ensures) (c .before .before .before .before .if1 .left)) (omega arith) (fails (c .before .before .within2 .ensures) (c .before .if3 .taken)))
+    let args = start (c .before .before) .args in
+    λ xs. c .wrong2 .ensures ∙ sym (fourth-other (args .ranges .now) (args .have) (args .b) (args .c) (args .d) (args .e) xs
+    (in-range (c .before .before)) (omega arith) (fails (c .before .before .within2 .ensures) (c .before .if3 .taken)))
 
 four-pointer-requires : tie.Need-four-pointer-requires
 four-pointer-requires c κs = search needs
@@ -56,8 +66,10 @@ returns-4 : tie.Need-returns-4
 returns-4 c =
     let args = start (c .before .before .before .before) .args in
     let digit = holds (c .before .before .before .before .within2 .ensures) (c .before .before .before .if3 .left) in
-    let pointer = c .before .before .four-pointer .ensures ∙ four-in (args .b) (args .c) (args .d) (args .e) (start (c .before .before .before .before) .pre .0) (start (c .before .before .before .before) .pre .1) (holds (c .before .before .before .before .before .before .before .within .ensures) (c .before .before .before .before .before .before .if1 .left)) digit in
-    λ xs. c .gives-code .ensures ∙ ap (code 4) (c .before .four-code .ensures ∙ ap (gb18030FourCode (args .ranges .now)) pointer) ∙ sym (fourth-digit (args .ranges .now) (args .have) (args .b) (args .c) (args .d) (args .e) xs (holds (c .before .before .before .before .before .before .before .within .ensures) (c .before .before .before .before .before .before .if1 .left)) (omega arith) digit)
+    let pre = start (c .before .before .before .before) .pre in
+    let pointer = c .before .before .four-pointer .ensures ∙ four-in (args .b) (args .c) (args .d) (args .e) (pre .0) (pre .1) (in-range (c .before .before .before .before)) digit in
+    λ xs. c .gives-code .ensures ∙ ap (code 4) (c .before .four-code .ensures ∙ ap (gb18030FourCode (args .ranges .now)) pointer) ∙
+    sym (fourth-digit (args .ranges .now) (args .have) (args .b) (args .c) (args .d) (args .e) xs (in-range (c .before .before .before .before)) (omega arith) digit)
 
 pub third-spec : {M : Type 1} → statement M
 third-spec =

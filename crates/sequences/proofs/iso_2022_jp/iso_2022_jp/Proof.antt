@@ -10,6 +10,10 @@ use borrow.Author.Needs.{needs}
 use Rattle.sequences.proofs.iso_2022_jp.iso_2022_jp.Statement.{statement}
 use Rattle.sequences.proofs.iso_2022_jp.iso_2022_jp.Tie as tie
 
+-- the function's start, from where test 4 fails
+abbrev start : tie.Else4 → tie.Start
+start c = c .before .before .before .before .before
+
 waits-requires : tie.Need-waits-requires
 waits-requires c κs = search needs
 
@@ -52,7 +56,7 @@ waits-requires-2 c κs = search needs
 returns-5 : tie.Need-returns-5
 unfolding layoutOf
 returns-5 c =
-    let args = c .before .before .before .before .before .before .before .args in
+    let args = start (c .before .before) .args in
     λ second xs. c .waits2 .ensures ∙ sym (iso-2022-jp-wait (lent (args .t1 .now) second) (shift (args .state) (eqb (args .flag) 1)) (args .have) (args .b0) (args .b1) (args .b2) xs (omega arith) (omega arith) (holds (c .before .before .before .leads .ensures) (c .before .before .if4 .left)) (omega arith))
 
 trail-requires : tie.Need-trail-requires
@@ -61,7 +65,7 @@ trail-requires c κs = search needs
 returns-6 : tie.Need-returns-6
 unfolding layoutOf
 returns-6 c =
-    let args = c .before .before .before .before .before .before .before .args in
+    let args = start (c .before .before) .args in
     λ second xs. c .trail .ensures ∙ sym (iso-2022-jp-pair (lent (args .t1 .now) second) (shift (args .state) (eqb (args .flag) 1)) (args .have) (args .b0) (args .b1) (args .b2) xs (omega arith) (omega arith) (holds (c .before .before .before .leads .ensures) (c .before .before .if4 .left)) (omega arith))
 
 pub iso-2022-jp-spec : {M : Type 1} → statement M

@@ -6,6 +6,10 @@ use borrow.Author.Needs.{needs}
 use Rattle.sequences.proofs.utf_16.utf_16.Statement.{statement}
 use Rattle.sequences.proofs.utf_16.utf_16.Tie as tie
 
+-- the function's start, from the answer of unit
+abbrev start : tie.After-unit → tie.Start
+start c = c .before .before
+
 waits-requires : tie.Need-waits-requires
 waits-requires c κs = search needs
 
@@ -46,7 +50,7 @@ waits-requires-2 c κs = search needs
 
 returns-5 : tie.Need-returns-5
 returns-5 c =
-    let args = c .before .before .before .before .before .before .before .args in
+    let args = start (c .before .before .before .before .before) .args in
     λ xs. c .waits2 .ensures ∙ sym (utf-16-wait (args .be) (args .have) (args .b0) (args .b1) (args .b2) (args .b3) xs (c .before .before .before .before .before .unit .result) (c .before .before .before .before .before .unit .ensures) (omega arith) (omega arith) (omega arith) (omega arith))
 
 unit-requires-2 : tie.Need-unit-requires-2
@@ -57,7 +61,7 @@ pair-requires c κs = search needs
 
 returns-6 : tie.Need-returns-6
 returns-6 c =
-    let args = c .before .before .before .before .before .before .before .before .args in
+    let args = start (c .before .before .before .before .before .before) .args in
     λ xs. c .pair .ensures ∙ ap (utf16Pair (c .before .before .before .before .before .before .unit .result)) (c .before .unit2 .ensures) ∙ sym (utf-16-pair (args .be) (args .have) (args .b0) (args .b1) (args .b2) (args .b3) xs (c .before .before .before .before .before .before .unit .result) (c .before .before .before .before .before .before .unit .ensures) (omega arith) (omega arith) (omega arith) (omega arith))
 
 pub utf-16-spec : {M : Type 1} → statement M

@@ -85,7 +85,7 @@ pub +put-digits-spec : {M : Type 1} → statement M
     -- put-digits-requires
     (λ c κs. let pre = c .before .before .before .before .before .pre in (omega (arith, pre .0, some t c), (pre .1 .0, omega (arith, one-more t c, pre .1 .1))))
     -- last-digit-requires
-    (λ c κs. c .before .before .before .before .before .before .before .before .pre .1 .0)
+    (λ c κs. let front = c .before .before .before in front .before .before .before .before .before .pre .1 .0)
     -- slice-write-out, add-result, same-length
     (λ c. let p = c .before .before .before in
     let pre = p .before .before .before .before .before .before .pre in

@@ -13,6 +13,10 @@ use Rattle.showtext.proofs.lines.put_encoding.Tie as tie
 abbrev start : tie.After-name2 → tie.Start
 start c = c .before .before .before
 
+-- the second answer of name, from where its letters are put
+abbrev after-name2 : tie.After-out → tie.After-name2
+after-name2 c = c .before .before .before .before .before .before .before
+
 slice-aggregate-name : tie.Need-slice-aggregate-name
 slice-aggregate-name c = search needs
 
@@ -47,8 +51,8 @@ same-length c = search needs
 returns : tie.Need-returns
 unfolding bytes
 returns c =
-    let args = start (c .before .before .before .before .before .before .before .before) .args in
-    let at-name2 = c .before .before .before .before .before .before .before .before .name2 in
+    let args = start (after-name2 (c .before)) .args in
+    let at-name2 = after-name2 (c .before) .name2 in
     let at-put-words = c .before .before .put-words in
     same (ap (line (bytes "encoding")) (part-is (args .encoding) (replicate 20 0) (omega arith) _ _ (at-name2 .ensures .0) (at-name2 .ensures .1))) (at-put-words .ensures)
 

@@ -2,7 +2,8 @@ use mathlib.Core.Path.{refl, _∙_}
 use mathlib.Core.Logic.{inr}
 use Rattle.showtext.proofs.Texts.{put-scalar}
 use Rattle.showtext.proofs.Numbers.{count-few, hexadecimal-few}
-use lib.ListN.{length-set}
+use Prim.Native.Nat.{_+_, _≤_}
+use lib.ListN.{length, length-set}
 use native.Mathlib.Omega.{arith}
 use Rattle.showtext.proofs.lines.put_scalar.Statement.{statement}
 use Rattle.showtext.proofs.lines.put_scalar.Tie as tie
@@ -11,73 +12,47 @@ use Rattle.showtext.proofs.lines.put_scalar.Tie as tie
 abbrev start : tie.After-put-count → tie.Start
 start c = c .before .before .before
 
+-- behind the count twelve bytes are left
+left : (c : tie.After-put-count) → c .put-count .result + 12 ≤ length (c .put-count .last .0)
+left c = omega (arith, count-few (start c .args .n), start c .pre, c .put-count .ensures .behind, c .put-count .kept .0)
+
 put-count-requires : tie.Need-put-count-requires
 put-count-requires c κs = omega (arith, count-few ((c .before .before .args) .n), c .before .before .pre)
 
 slice-write-out : tie.Need-slice-write-out
-slice-write-out c =
-    let args = c .before .before .before .before .before .args in
-    let at-pre = c .before .before .before .before .before .pre in
-    let at-put-count = c .before .before .put-count in
-    omega (arith, count-few (args .n), at-pre, at-put-count .ensures .behind, at-put-count .kept .0)
+slice-write-out c = omega (arith, left (c .before .before))
 
 add-out : tie.Need-add-out
-add-out c =
-    let args = c .before .before .before .before .before .args in
-    let at-pre = c .before .before .before .before .before .pre in
-    let at-put-count = c .before .before .put-count in
-    record { fits = omega (arith, count-few (args .n), at-pre, at-put-count .ensures .behind, at-put-count .kept .0) }
+add-out c = record { fits = omega (arith, left (c .before .before), c .before .before .put-count .kept .0) }
 
 slice-write-out-2 : tie.Need-slice-write-out-2
-slice-write-out-2 c =
-    let args = c .before .before .before .before .before .args in
-    let at-pre = c .before .before .before .before .before .pre in
-    let at-put-count = c .before .before .put-count in
-    simp length-set (omega (arith, count-few (args .n), at-pre, at-put-count .ensures .behind, at-put-count .kept .0))
+slice-write-out-2 c = simp length-set (omega (arith, left (c .before .before)))
 
 add-out-2 : tie.Need-add-out-2
-add-out-2 c =
-    let args = c .before .before .before .before .before .args in
-    let at-pre = c .before .before .before .before .before .pre in
-    let at-put-count = c .before .before .put-count in
-    record { fits = omega (arith, count-few (args .n), at-pre, at-put-count .ensures .behind, at-put-count .kept .0) }
+add-out-2 c = record { fits = omega (arith, left (c .before .before), c .before .before .put-count .kept .0) }
 
 slice-write-out-3 : tie.Need-slice-write-out-3
-slice-write-out-3 c =
-    let args = c .before .before .before .before .before .args in
-    let at-pre = c .before .before .before .before .before .pre in
-    let at-put-count = c .before .before .put-count in
-    simp length-set (omega (arith, count-few (args .n), at-pre, at-put-count .ensures .behind, at-put-count .kept .0))
+slice-write-out-3 c = simp length-set (omega (arith, left (c .before .before)))
 
 add-put-digits : tie.Need-add-put-digits
-add-put-digits c =
-    let args = c .before .before .before .before .before .before .args in
-    let at-pre = c .before .before .before .before .before .before .pre in
-    let at-put-count = c .before .before .before .put-count in
-    record { fits = omega (arith, count-few (args .n), at-pre, at-put-count .ensures .behind, at-put-count .kept .0) }
+add-put-digits c = record { fits = omega (arith, left (c .before .before .before), c .before .before .before .put-count .kept .0) }
 
 put-digits-requires : tie.Need-put-digits-requires
 put-digits-requires c κs =
-    let args = c .before .before .before .before .before .before .args in
-    let at-pre = c .before .before .before .before .before .before .pre in
-    let at-put-count = c .before .before .before .put-count in
-    (inr refl, simp length-set (omega (arith, count-few (args .n), hexadecimal-few (args .c), at-pre, at-put-count .ensures .behind, at-put-count .kept .0)))
+    let args = start (c .before .before .before) .args in
+    (inr refl, simp length-set (omega (arith, left (c .before .before .before), hexadecimal-few (args .c))))
 
 slice-write-out-4 : tie.Need-slice-write-out-4
 slice-write-out-4 c =
     let args = start (c .before .before .before .before .before .before) .args in
-    let at-pre = start (c .before .before .before .before .before .before) .pre in
-    let at-put-count = c .before .before .before .before .before .before .put-count in
     let at-put-digits = c .before .before .put-digits in
-    omega (arith, count-few (args .n), hexadecimal-few (args .c), at-pre, at-put-count .ensures .behind, at-put-count .kept .0, at-put-digits .ensures .behind, simp length-set at (at-put-digits .kept .0))
+    omega (arith, left (c .before .before .before .before .before .before), hexadecimal-few (args .c), at-put-digits .ensures .behind, simp length-set at (at-put-digits .kept .0))
 
 add-result : tie.Need-add-result
 add-result c =
     let args = start (c .before .before .before .before .before .before) .args in
-    let at-pre = start (c .before .before .before .before .before .before) .pre in
     let at-put-count = c .before .before .before .before .before .before .put-count in
-    let at-put-digits = c .before .before .put-digits in
-    record { fits = omega (arith, count-few (args .n), hexadecimal-few (args .c), at-pre, at-put-count .ensures .behind, at-put-digits .ensures .behind) }
+    record { fits = omega (arith, left (c .before .before .before .before .before .before), hexadecimal-few (args .c), at-put-count .kept .0, c .before .before .put-digits .ensures .behind) }
 
 same-length : tie.Need-same-length
 same-length c =

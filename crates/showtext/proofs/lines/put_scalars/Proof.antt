@@ -18,6 +18,10 @@ Inv-loop out₀ at n scalars o₀ i₀ out o i = (i ≤ length scalars) × (o �
 abbrev μ-loop : tie.MeasureT-loop
 μ-loop out₀ at n scalars o₀ i₀ out o i = length scalars - i
 
+-- the function's start, from the loop's head
+abbrev start : tie.At-loop Inv-loop μ-loop → tie.Start Inv-loop μ-loop
+start c = c .before .before .before
+
 loop-holds : tie.Need-loop-holds Inv-loop μ-loop
 loop-holds c = (search needs, search needs, refl, no-lines ((c .before .before .args) .n))
 
@@ -41,7 +45,7 @@ loop-less c = search needs
 
 loop-again : tie.Need-loop-again Inv-loop μ-loop
 loop-again c =
-    let args = c .before .before .before .before .before .before .before .before .before .args in
+    let args = start (c .before .before .before .before .before .before) .args in
     let at-loop = c .before .before .before .before .before .before .loop in
     let at-put-scalar = c .before .before .put-scalar in
     (search needs, omega (arith, at-loop .inv .1, line-few (args .n + at-loop .i) (getD (args .scalars .now) (at-loop .i) 0), at-put-scalar .ensures .behind), at-put-scalar .kept .0 ∙ at-loop .inv .2, put-next (args .n) (args .scalars .now) (at-loop .i) (omega arith) (at-loop .inv .3) (at-put-scalar .ensures))

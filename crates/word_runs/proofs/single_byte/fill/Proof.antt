@@ -17,6 +17,10 @@ Inv-loop mode cells table₀ other k₀ table k = (k ≤ 128) × (other ≡ unma
 abbrev μ-loop : tie.MeasureT-loop
 μ-loop mode cells table₀ other k₀ table k = 128 - k
 
+-- the function's start, from the answer of unmapped
+abbrev start : tie.After-unmapped Inv-loop μ-loop → tie.Start Inv-loop μ-loop
+start c = c .before .before .before .before .before .before .before
+
 places-requires : tie.Need-places-requires Inv-loop μ-loop
 places-requires c κs = search needs
 
@@ -24,7 +28,7 @@ unmapped-requires : tie.Need-unmapped-requires Inv-loop μ-loop
 unmapped-requires c κs = search needs
 
 loop-holds : tie.Need-loop-holds Inv-loop μ-loop
-loop-holds c = (omega arith, c .unmapped .ensures, replaced-none _ _ (omega (arith, c .before .before .before .before .before .before .before .pre .1)) (c .before .before .before .places .ensures))
+loop-holds c = (omega arith, c .unmapped .ensures, replaced-none _ _ (omega (arith, start c .pre .1)) (c .before .before .before .places .ensures))
 
 mul-mapped-or : tie.Need-mul-mapped-or Inv-loop μ-loop
 mul-mapped-or c = search needs
@@ -52,17 +56,17 @@ loop-less c = search needs
 
 loop-again : tie.Need-loop-again Inv-loop μ-loop
 loop-again c =
-    let args = c .before .before .before .before .before .before .before .before .before .before .before .args in
+    let args = start (c .before .before .before .before) .args in
     let at-loop = c .before .before .before .loop in
     let cell = getD (args .cells .now) (at-loop .k) 0 in
     (omega arith, at-loop .inv .1, replaced-more _ (at-loop .table) (at-loop .k) (at-loop .inv .2) (c .mapped-or .result) (omega arith) (c .mapped-or .ensures ∙ ap (λ (x : ℕ). mapped cell then cell else x) (at-loop .inv .1)))
 
 same-length : tie.Need-same-length Inv-loop μ-loop
-same-length c = c .before .loop .inv .2 .long ∙ sym (c .before .before .before .before .before .before .before .before .before .pre .1)
+same-length c = c .before .loop .inv .2 .long ∙ sym (start (c .before .before) .pre .1)
 
 returns : tie.Need-returns Inv-loop μ-loop
 returns c =
-    let args = c .before .before .before .before .before .before .before .before .before .args in
+    let args = start (c .before .before) .args in
     let at-loop = c .before .loop in
     let mode = args .mode in
     let cells = args .cells .now in

@@ -16,6 +16,10 @@ Inv-loop cells table₀ k₀ table k = (k ≤ 32) × Replaced (λ (j : ℕ). get
 abbrev μ-loop : tie.MeasureT-loop
 μ-loop cells table₀ k₀ table k = 32 - k
 
+-- the function's start, from the loop's head
+abbrev start : tie.At-loop Inv-loop μ-loop → tie.Start Inv-loop μ-loop
+start c = c .before .before .before .before .before .before .before
+
 places-requires : tie.Need-places-requires Inv-loop μ-loop
 places-requires c κs = search needs
 
@@ -26,7 +30,7 @@ mul-table : tie.Need-mul-table Inv-loop μ-loop
 mul-table c = search needs
 
 shared-slice-read-table : tie.Need-shared-slice-read-table Inv-loop μ-loop
-shared-slice-read-table c = omega (arith, ap length (c .before .before .before .before .before .before .before .before .before .pre .0), irregular-length)
+shared-slice-read-table c = omega (arith, ap length (start (c .before .before) .pre .0), irregular-length)
 
 add-table : tie.Need-add-table Inv-loop μ-loop
 add-table c = search needs
@@ -45,18 +49,18 @@ loop-less c = search needs
 
 loop-again : tie.Need-loop-again Inv-loop μ-loop
 loop-again c =
-    let args = c .before .before .before .before .before .before .before .before .before .args in
+    let args = start (c .before .before) .args in
     let at-loop = c .before .before .loop in
     (omega arith, replaced-more _ (at-loop .table) (at-loop .k) (at-loop .inv .1) (getD (args .cells .now) (at-loop .k) 0) (omega arith) refl)
 
 same-length : tie.Need-same-length Inv-loop μ-loop
-same-length c = c .before .loop .inv .1 .long ∙ sym (c .before .before .before .before .before .before .before .before .pre .1)
+same-length c = c .before .loop .inv .1 .long ∙ sym (start (c .before) .pre .1)
 
 returns : tie.Need-returns Inv-loop μ-loop
 returns c =
-    let args = c .before .before .before .before .before .before .before .before .args in
+    let args = start (c .before) .args in
     let at-loop = c .before .loop in
-    replaced-all _ (at-loop .table) (at-loop .k) (at-loop .inv .1) windowsScalar (λ j l. windows-ascii j l) (λ j l. windows-upper (args .cells .now) (c .before .before .before .before .before .before .before .before .pre .0) j (omega arith)) (λ j l l′. windows-same (j + 128) (omega arith))
+    replaced-all _ (at-loop .table) (at-loop .k) (at-loop .inv .1) windowsScalar (λ j l. windows-ascii j l) (λ j l. windows-upper (args .cells .now) (start (c .before) .pre .0) j (omega arith)) (λ j l l′. windows-same (j + 128) (omega arith))
 
 pub fill-windows-spec : {M : Type 1} → statement M
 fill-windows-spec =

@@ -16,6 +16,10 @@ Inv-loop table low₀ high₀ b₀ low high b = (b ≤ 256) × (length low ≡ 2
 abbrev μ-loop : tie.MeasureT-loop
 μ-loop table low₀ high₀ b₀ low high b = 256 - b
 
+-- the function's start, from the loop's head
+abbrev start : tie.At-loop Inv-loop μ-loop → tie.Start Inv-loop μ-loop
+start c = c .before .before .before .before
+
 loop-holds : tie.Need-loop-holds Inv-loop μ-loop
 loop-holds c = (omega arith, omega arith, omega arith, λ j l. absurd (omega arith), λ j l. absurd (omega arith), λ j l. absurd (omega arith))
 
@@ -51,7 +55,7 @@ loop-less c = search needs
 
 loop-again : tie.Need-loop-again Inv-loop μ-loop
 loop-again c =
-    let args = c .before .before .before .before .before .before .before .args in
+    let args = start (c .before .before .before) .args in
     let at-loop = c .before .before .before .loop in
     let cell : ℕ → ℕ = λ (j : ℕ). getD (args .table .now) j 0 in
     (omega arith, simp length-set (at-loop .inv .1), simp length-set (at-loop .inv .2), filled-more cell (at-loop .low) (at-loop .b) (c .wide .result) (omega (arith, at-loop .inv .1)) (at-loop .inv .3) (c .wide .ensures .0), filled-more (λ (j : ℕ). cell j * 4294967296) (at-loop .high) (at-loop .b) (c .wide .result * 4294967296) (omega (arith, at-loop .inv .2)) (at-loop .inv .4) (ap (λ (x : ℕ). x * 4294967296) (c .wide .ensures .0)), below-more _ _ (at-loop .inv .5) (c .wide .ensures .1))

@@ -24,19 +24,35 @@ cell table chunk from j = getD table (getD chunk (from + j) 0) 0
 abbrev Looked : List ℕ → List ℕ → ℕ → ℕ → List ℕ → ℕ → List ℕ → Type 0
 Looked table chunk from place room₀ k room = ((j : ℕ) → j < k → getD chunk (from + j) 0 < 256) × (room ≡ patch place (values (cell table chunk from) k) room₀)
 
--- The invariant of the first loop: k bytes are looked up, by tables that hold the cells in both halves. The second: k are, if as many were where it began.
--- What is left of n falls at each turn, by 512 bytes and then by one.
+-- The invariant of the first loop: k bytes are looked up, by tables that hold the cells in both halves.
+-- What is left of n falls at each turn, by 512 bytes.
 abbrev Inv-loop : tie.InvT-loop
 Inv-loop table chunk from room₀ place n low high words₀ k₀ room words k = (k ≤ n) × (length room ≡ length room₀) × (length words ≡ 256) × (length low ≡ 256) × (length high ≡ 256) × Halves low high × Same table low × Looked table chunk from place room₀ k room
 
 abbrev μ-loop : tie.MeasureT-loop
 μ-loop table chunk from room₀ place n low high words₀ k₀ room words k = n - k
 
+-- The invariant of the second loop: k bytes are looked up, if as many were where it began.
+-- What is left of n falls by one at each turn.
 abbrev Inv-loop2 : tie.InvT-loop2
 Inv-loop2 table chunk from room₀ place n k₀ room k = (k ≤ n) × (length room ≡ length room₀) × ((r : List ℕ) → length r ≡ length room₀ → Looked table chunk from place r k₀ room₀ → Looked table chunk from place r k room)
 
 abbrev μ-loop2 : tie.MeasureT-loop2
 μ-loop2 table chunk from room₀ place n k₀ room k = n - k
+
+-- the function's start, from the answer of halves; that, from the first loop's head
+abbrev start : tie.After-halves Inv-loop μ-loop Inv-loop2 μ-loop2 → tie.Start Inv-loop μ-loop Inv-loop2 μ-loop2
+start c = c .before .before .before .before .before .before
+
+abbrev halved : tie.At-loop Inv-loop μ-loop Inv-loop2 μ-loop2 → tie.After-halves Inv-loop μ-loop Inv-loop2 μ-loop2
+halved c = c .before .before .before
+
+-- the head, from the words of a turn; those, from where they are put
+abbrev head : tie.After-read-words Inv-loop μ-loop Inv-loop2 μ-loop2 → tie.At-loop Inv-loop μ-loop Inv-loop2 μ-loop2
+head c = c .before .before .before
+
+abbrev words : tie.After-put-words Inv-loop μ-loop Inv-loop2 μ-loop2 → tie.After-read-words Inv-loop μ-loop Inv-loop2 μ-loop2
+words c = c .before .before .before .before .before .before
 
 sub-n : tie.Need-sub-n Inv-loop μ-loop Inv-loop2 μ-loop2
 sub-n c = search needs
@@ -53,7 +69,7 @@ halves-requires c κs = search needs
 loop-holds : tie.Need-loop-holds Inv-loop μ-loop Inv-loop2 μ-loop2
 unfolding values
 loop-holds c =
-    let args = c .before .before .before .before .before .before .before .before .args in
+    let args = start (c .before .before) .args in
     let made = c .before .before .halves .ensures in
     (omega arith, refl, refl, search needs, search needs, made .0, made .1, (λ j l. absurd (omega arith), patch-none (args .room .now) (args .place)))
 
@@ -87,7 +103,7 @@ add-put-words c = search needs
 
 put-words-requires : tie.Need-put-words-requires Inv-loop μ-loop Inv-loop2 μ-loop2
 put-words-requires c κs =
-    let inv = c .before .before .before .before .before .before .before .before .loop .inv in
+    let inv = head (c .before .before .before .before .before) .loop .inv in
     (inv .3, inv .4, inv .5, omega (arith, inv .2), omega (arith, inv .0, inv .1))
 
 add-k : tie.Need-add-k Inv-loop μ-loop Inv-loop2 μ-loop2
@@ -98,10 +114,10 @@ loop-less c = search needs
 
 loop-again : tie.Need-loop-again Inv-loop μ-loop Inv-loop2 μ-loop2
 loop-again c =
-    let args = c .before .before .before .before .before .before .before .before .before .before .before .before .before .before .before .before .before .before .before .before .args in
-    let at-loop = c .before .before .before .before .before .before .before .before .before .before .before .loop in
+    let args = start (halved (head (words (c .before .before)))) .args in
+    let at-loop = head (words (c .before .before)) .loop in
     let inv = at-loop .inv in
-    let read = c .before .before .before .before .before .before .before .before .read-words .ensures in
+    let read = words (c .before .before) .read-words .ensures in
     let chunk = args .chunk .now in
     let table = args .table .now in
     let from = args .from in
@@ -147,7 +163,7 @@ loop2-less c = search needs
 
 loop2-again : tie.Need-loop2-again Inv-loop μ-loop Inv-loop2 μ-loop2
 loop2-again c =
-    let args = c .before .before .before .before .before .before .before .before .before .before .before .before .before .before .before .args in
+    let args = start (halved (c .before .before .before .before .before .before)) .args in
     let at-loop2 = c .before .before .before .before .loop2 in
     let at-place-of = c .before .place-of in
     let f = cell (args .table .now) (args .chunk .now) (args .from) in
@@ -158,7 +174,7 @@ same-length c = c .before .loop2 .inv .1 ∙ c .before .before .before .loop .in
 
 returns : tie.Need-returns Inv-loop μ-loop Inv-loop2 μ-loop2
 returns c =
-    let args = c .before .before .before .before .before .before .before .before .before .before .before .before .args in
+    let args = start (halved (c .before .before .before)) .args in
     let at-loop = c .before .before .before .loop in
     let at-loop2 = c .before .loop2 in
     let h = at-loop2 .inv .2 (args .room .now) (sym (at-loop .inv .1)) (at-loop .inv .7) in

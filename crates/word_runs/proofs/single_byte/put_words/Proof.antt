@@ -19,6 +19,10 @@ Inv-loop low high words room₀ o j₀ room j = (j ≤ 256) × (j % 4 ≡ 0) × 
 abbrev μ-loop : tie.MeasureT-loop
 μ-loop low high words room₀ o j₀ room j = 256 - j
 
+-- the function's start, from the loop's head
+abbrev start : tie.At-loop Inv-loop μ-loop → tie.Start Inv-loop μ-loop
+start c = c .before .before .before .before .before
+
 loop-holds : tie.Need-loop-holds Inv-loop μ-loop
 unfolding values
 loop-holds c =
@@ -34,8 +38,8 @@ add-put-four c = search needs
 put-four-requires : tie.Need-put-four-requires Inv-loop μ-loop
 put-four-requires c κs =
     let at-loop = c .before .before .loop in
-    let start = c .before .before .before .before .before .before .before .pre in
-    (start .0, start .1, start .2, omega (arith, start .3, at-loop .inv .1), omega (arith, start .4, at-loop .inv .1, at-loop .inv .2))
+    let pre = start (c .before .before) .pre in
+    (pre .0, pre .1, pre .2, omega (arith, pre .3, at-loop .inv .1), omega (arith, pre .4, at-loop .inv .1, at-loop .inv .2))
 
 add-j : tie.Need-add-j Inv-loop μ-loop
 add-j c = search needs
@@ -45,11 +49,13 @@ loop-less c = search needs
 
 loop-again : tie.Need-loop-again Inv-loop μ-loop
 loop-again c =
-    let args = c .before .before .before .before .before .before .before .before .before .before .args in
+    let began = start (c .before .before .before .before .before) in
+    let args = began .args in
     let at-loop = c .before .before .before .before .before .loop in
     let f : ℕ → ℕ = λ (k : ℕ). getD (args .low .now) (byteOf (args .words .now) k) 0 in
     let z : at-loop .j * 2 + 8 ≡ (at-loop .j + 4) * 2 = omega arith in
-    let wrote = wrote-on (args .room .now) (at-loop .room) _ (args .o) f (λ (k : ℕ). f (at-loop .j * 2 + k)) (at-loop .j * 2) 8 (at-loop .inv .3) (c .before .before .put-four .ensures) (λ k l. refl) (omega (arith, c .before .before .before .before .before .before .before .before .before .before .pre .4)) in
+    let wrote = wrote-on (args .room .now) (at-loop .room) _ (args .o) f (λ (k : ℕ). f (at-loop .j * 2 + k)) (at-loop .j * 2) 8
+    (at-loop .inv .3) (c .before .before .put-four .ensures) (λ k l. refl) (omega (arith, began .pre .4)) in
     (omega (arith, at-loop .inv .1), omega (arith, at-loop .inv .1), omega (arith, at-loop .inv .2), wrote ∙ ap (λ (n : ℕ). patch (args .o) (values f n) (args .room .now)) z)
 
 same-length : tie.Need-same-length Inv-loop μ-loop

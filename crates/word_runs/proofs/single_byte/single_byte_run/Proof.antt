@@ -6,6 +6,10 @@ use borrow.Author.Needs.{needs}
 use Rattle.word_runs.proofs.single_byte.single_byte_run.Statement.{statement}
 use Rattle.word_runs.proofs.single_byte.single_byte_run.Tie as tie
 
+-- the function's start, from where test 1 fails
+abbrev start : tie.Else1 → tie.Start
+start c = c .before .before .before .before .before .before
+
 ready-plain-requires : tie.Need-ready-plain-requires
 ready-plain-requires c κs = search needs
 
@@ -16,12 +20,12 @@ returns c =
 
 returns-2 : tie.Need-returns-2
 returns-2 c =
-    let args = c .before .before .before .before .before .before .before .args in
+    let args = start (c .before) .args in
     runs-none (lent (args .t1 .now) (args .t2 .now)) single-byte
 
 single-byte-text-requires : tie.Need-single-byte-text-requires
 single-byte-text-requires c κs =
-    let args = c .before .before .before .before .before .before .before .before .args in
+    let args = start (c .before .before) .args in
     (omega arith, guarded-plain (args .chunk .now) (args .room .now) (c .before .before .before .ready-plain .ensures) (c .before .before .if1 .left) .2)
 
 same-length : tie.Need-same-length
@@ -29,7 +33,7 @@ same-length c = search needs
 
 returns-3 : tie.Need-returns-3
 returns-3 c =
-    let args = c .before .before .before .before .before .before .before .before .before .before .before .args in
+    let args = start (c .before .before .before .before .before) .args in
     let g = guarded-plain (args .chunk .now) (args .room .now) (c .before .before .before .before .before .before .ready-plain .ensures) (c .before .before .before .before .before .if1 .left) in rw (g .0, g .1) (c .before .before .single-byte-text .ensures)
 
 pub single-byte-run-spec : {M : Type 1} → statement M

@@ -7,6 +7,14 @@ use borrow.Author.Needs.{needs}
 use Rattle.word_runs.proofs.single_byte.single_byte_text.Statement.{statement}
 use Rattle.word_runs.proofs.single_byte.single_byte_text.Tie as tie
 
+-- where the table is filled, from where the scalars are put
+abbrev table : tie.After-room3 → tie.After-table
+table c = c .before .before .before .before .before .before
+
+-- the function's start, from where the table is filled
+abbrev start : tie.After-table → tie.Start
+start c = c .before .before .before .before .before .before .before
+
 single-bytes-requires : tie.Need-single-bytes-requires
 single-bytes-requires c κs = search needs
 
@@ -51,13 +59,14 @@ same-length-3 c = search needs
 
 returns-3 : tie.Need-returns-3
 returns-3 c =
-    let args = c .before .before .before .before .before .before .before .before .before .before .before .before .before .before .args in
+    let args = start (table (c .before)) .args in
     let found = c .before .before .look-up in
     let filled = c .before .before .before .before .before .before .fill in
     let scalar = byteScalar (args .mode) (args .t1 .now) in
     let put = looked-up scalar (filled .last .1 .1 .0) (args .chunk .now) (args .from) (args .place) (args .room .now) (found .last .1 .1 .1 .0) (filled .ensures) (found .ensures) in
-    run-through (lent (args .t1 .now) (args .t2 .now)) single-byte (args .mode) scalar (c .before .before .before .before .before .before .before .before .before .before .before .before .before .before .pre .1) put
-    (λ j l. single-at (args .t1 .now) (args .t2 .now) (args .mode) (args .chunk .now) (args .from + j) (omega arith) (λ y z. c .before .before .before .before .before .before .before .before .before .if1 .left y))
+    run-through (lent (args .t1 .now) (args .t2 .now)) single-byte (args .mode) scalar (start (table (c .before)) .pre .1) put
+    (λ j l. single-at (args .t1 .now) (args .t2 .now) (args .mode) (args .chunk .now) (args .from + j) (omega arith)
+    (λ y z. table (c .before) .before .before .if1 .left y))
 
 pub single-byte-text-spec : {M : Type 1} → statement M
 single-byte-text-spec =

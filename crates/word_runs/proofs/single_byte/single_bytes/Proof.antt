@@ -17,6 +17,10 @@ Inv-loop mode chunk t1 t2 from room₀ place n i₀ o₀ room i o = Going (lent 
 abbrev μ-loop : tie.MeasureT-loop
 μ-loop mode chunk t1 t2 from room₀ place n i₀ o₀ room i o = length chunk - i
 
+-- the function's start, from the loop's head
+abbrev start : tie.At-loop Inv-loop μ-loop → tie.Start Inv-loop μ-loop
+start c = c .before .before .before .before .before
+
 loop-holds : tie.Need-loop-holds Inv-loop μ-loop
 loop-holds c = going-start (c .before .before .before .before .pre .1)
 
@@ -49,7 +53,7 @@ loop-less c = search needs
 
 loop-again : tie.Need-loop-again Inv-loop μ-loop
 loop-again c =
-    let args = c .before .before .before .before .before .before .before .before .before .args in
+    let args = start (c .before .before .before .before) .args in
     let at-loop = c .before .before .before .before .loop in
     let at-scalar = c .before .scalar in
     single-step (args .t1 .now) (args .t2 .now) (args .mode) (args .chunk .now) (args .from) (at-loop .i) (args .place) (at-loop .o) (args .room .now) (at-loop .room) (at-loop .inv) (at-scalar .result) (at-scalar .ensures) (c .if1 .left) (omega arith)

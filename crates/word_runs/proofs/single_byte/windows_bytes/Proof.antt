@@ -20,6 +20,10 @@ Inv-loop cells chunk from room₀ place n k₀ room k = (k ≤ n) × (length roo
 abbrev μ-loop : tie.MeasureT-loop
 μ-loop cells chunk from room₀ place n k₀ room k = n - k
 
+-- the function's start, from the loop's head
+abbrev start : tie.At-loop Inv-loop μ-loop → tie.Start Inv-loop μ-loop
+start c = c .before .before .before .before
+
 sub-n : tie.Need-sub-n Inv-loop μ-loop
 sub-n c = search needs
 
@@ -55,7 +59,7 @@ loop-less c = search needs
 
 loop-again : tie.Need-loop-again Inv-loop μ-loop
 loop-again c =
-    let args = c .before .before .before .before .before .before .before .args in
+    let args = start (c .before .before .before) .args in
     let at-loop = c .before .before .before .loop in
     let f : ℕ → ℕ = λ (j : ℕ). windowsScalar (getD (args .chunk .now) (args .from + j) 0) in
     (omega arith, simp length-set (at-loop .inv .1), below-more _ _ (at-loop .inv .2) (c .windows-scalar .ensures .1), wrote-more (args .room .now) (at-loop .room) (args .place) f (at-loop .k) (at-loop .inv .3) (omega arith) (c .windows-scalar .result) (c .windows-scalar .ensures .0))

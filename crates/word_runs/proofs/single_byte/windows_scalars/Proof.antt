@@ -8,6 +8,10 @@ use borrow.Author.Needs.{needs}
 use Rattle.word_runs.proofs.single_byte.windows_scalars.Statement.{statement}
 use Rattle.word_runs.proofs.single_byte.windows_scalars.Tie as tie
 
+-- the function's start, from where the table is filled
+abbrev start : tie.After-table2 → tie.Start
+start c = c .before .before .before .before .before .before .before
+
 sub-if1 : tie.Need-sub-if1
 sub-if1 c = search needs
 
@@ -45,7 +49,7 @@ same-length-2 c = search needs
 
 returns-2 : tie.Need-returns-2
 returns-2 c =
-    let args = c .before .before .before .before .before .before .before .before .before .before .before .before .args in
+    let args = start (c .before .before .before .before .before) .args in
     let found = c .before .before .look-up in
     let filled = c .before .before .before .before .before .before .fill-windows in
     looked-up windowsScalar (filled .last .1 .0) (args .chunk .now) (args .from) (args .place) (args .room .now) (found .last .1 .1 .1 .0) (filled .ensures) (found .ensures)

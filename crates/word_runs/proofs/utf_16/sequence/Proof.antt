@@ -8,6 +8,13 @@ use borrow.Author.Needs.{needs}
 use Rattle.word_runs.proofs.utf_16.sequence.Statement.{statement}
 use Rattle.word_runs.proofs.utf_16.sequence.Tie as tie
 
+-- the function's start, from the first unit; that, from the second one
+abbrev start : tie.After-unit → tie.Start
+start c = c .before .before .before .before
+
+abbrev first : tie.After-unit2 → tie.After-unit
+first c = c .before .before .before .before .before .before .before
+
 shared-slice-read-unit : tie.Need-shared-slice-read-unit
 shared-slice-read-unit c = search needs
 
@@ -37,7 +44,7 @@ wrong-requires c κs = search needs
 
 returns-3 : tie.Need-returns-3
 returns-3 c =
-    let args = c .before .before .before .before .before .before .before .before .args in
+    let args = start (c .before .before .before .before) .args in
     let at-unit = c .before .before .before .before .unit in
     λ h. gives-same (at-trail (args .be) (args .chunk .now) (args .i) (at-unit .result) (omega arith) (at-unit .ensures) (omega arith) (omega arith)) (c .wrong .ensures h)
 
@@ -67,10 +74,11 @@ pair-requires c κs = search needs
 
 returns-5 : tie.Need-returns-5
 returns-5 c =
-    let args = c .before .before .before .before .before .before .before .before .before .before .before .before .args in
-    let at-unit = c .before .before .before .before .before .before .before .before .unit in
+    let args = start (first (c .before)) .args in
+    let at-unit = first (c .before) .unit in
     let at-unit2 = c .before .unit2 in
-    λ h. gives-same (at-lead (args .be) (args .chunk .now) (args .i) (at-unit .result) (omega arith) (at-unit .ensures) (omega arith) (omega arith) (omega arith) ∙ ap (utf16Pair (at-unit .result)) (sym (at-unit2 .ensures))) (c .pair .ensures h)
+    let lead = at-lead (args .be) (args .chunk .now) (args .i) (at-unit .result) (omega arith) (at-unit .ensures) (omega arith) (omega arith) (omega arith) in
+    λ h. gives-same (lead ∙ ap (utf16Pair (at-unit .result)) (sym (at-unit2 .ensures))) (c .pair .ensures h)
 
 pub sequence-spec : {M : Type 1} → statement M
 sequence-spec =

@@ -17,6 +17,10 @@ Inv-loop be mode chunk from room₀ place n i₀ o₀ k₀ room i o k = Going no
 abbrev μ-loop : tie.MeasureT-loop
 μ-loop be mode chunk from room₀ place n i₀ o₀ k₀ room i o k = 8 - k
 
+-- the function's start, from the loop's head
+abbrev start : tie.At-loop Inv-loop μ-loop → tie.Start Inv-loop μ-loop
+start c = c .before .before .before
+
 loop-holds : tie.Need-loop-holds Inv-loop μ-loop
 loop-holds c = going-start (c .before .before .pre)
 
@@ -46,7 +50,7 @@ slice-write-room c = search needs
 
 add-i : tie.Need-add-i Inv-loop μ-loop
 add-i c =
-    let args = c .before .before .before .before .before .before .before .before .before .args in
+    let args = start (c .before .before .before .before .before .before) .args in
     let at-loop = c .before .before .before .before .before .before .loop in
     let on = going-step (args .be) (args .mode) (args .chunk .now) (args .from) (at-loop .i) (args .place) (at-loop .o) (args .room .now) (at-loop .room) (at-loop .inv) (c .before .before .before .sequence .ensures (c .before .if2 .left)) in
     omega (arith, on .here)
@@ -62,7 +66,7 @@ loop-less c = search needs
 
 loop-again : tie.Need-loop-again Inv-loop μ-loop
 loop-again c =
-    let args = c .before .before .before .before .before .before .before .before .before .args in
+    let args = start (c .before .before .before .before .before .before) .args in
     let at-loop = c .before .before .before .before .before .before .loop in
     going-step (args .be) (args .mode) (args .chunk .now) (args .from) (at-loop .i) (args .place) (at-loop .o) (args .room .now) (at-loop .room) (at-loop .inv) (c .before .before .before .sequence .ensures (c .before .if2 .left))
 

@@ -6,6 +6,10 @@ use borrow.Author.Needs.{needs}
 use Rattle.word_runs.proofs.utf_16.utf_16_run.Statement.{statement}
 use Rattle.word_runs.proofs.utf_16.utf_16_run.Tie as tie
 
+-- the function's start, from where test 1 fails
+abbrev start : tie.Else1 → tie.Start
+start c = c .before .before .before .before
+
 ready-plain-requires : tie.Need-ready-plain-requires
 ready-plain-requires c κs = search needs
 
@@ -22,7 +26,7 @@ same-length c = search needs
 
 returns-2 : tie.Need-returns-2
 returns-2 c =
-    let args = c .before .before .before .before .before .before .before .before .args in
+    let args = start (c .before .before .before .before) .args in
     let g = guarded-plain (args .chunk .now) (args .room .now) (c .before .before .before .before .before .ready-plain .ensures) (c .before .before .before .before .if1 .left) in λ t. rw (g .0, g .1) (with-tables t (args .be) (c .before .before .units .ensures))
 
 pub utf-16-run-spec : {M : Type 1} → statement M

@@ -20,6 +20,10 @@ Inv-loop chunk at words₀ n k₀ words k = (k ≤ n) × (n ≡ length words₀)
 abbrev μ-loop : tie.MeasureT-loop
 μ-loop chunk at words₀ n k₀ words k = n - k
 
+-- the function's start, from the loop's head
+abbrev start : tie.At-loop Inv-loop μ-loop → tie.Start Inv-loop μ-loop
+start c = c .before .before .before
+
 loop-holds : tie.Need-loop-holds Inv-loop μ-loop
 unfolding values
 loop-holds c =
@@ -64,7 +68,7 @@ loop-less c = search needs
 
 loop-again : tie.Need-loop-again Inv-loop μ-loop
 loop-again c =
-    let args = c .before .before .before .before .before .before .before .args in
+    let args = start (c .before .before .before .before) .args in
     let at-loop = c .before .before .before .before .loop in
     let z : 0 + at-loop .k ≡ at-loop .k = omega arith in
     let more = wrote-more (args .words .now) (at-loop .words) 0 (unitAt false (args .chunk .now) (args .at)) (at-loop .k) (at-loop .inv .4) (omega (arith, at-loop .inv .1)) (c .word .result) (c .word .ensures .0) in
