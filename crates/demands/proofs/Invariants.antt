@@ -18,18 +18,19 @@ use Rattle.standard.proofs.Walk.{at-more, chunks, decode-more}
 use Rattle.standard.proofs.AnyTables.{Place, place, tables-meet}
 use Rattle.standard.proofs.Items.{before-length}
 use Rattle.standard.proofs.Reading.{separators-append, reading, ending-is, empty}
+use Rattle.standard.proofs.Separators.{none-held, chunk-separators}
 use Rattle.decoder.specs.Record.{shiftOf, heldOf, bit, holding}
 use Rattle.demands.specs.Histories.{Call, feed, finish, History, accepted, after, ends, anyEnds}
 use Rattle.decoder.specs.declared.Decoder.{Decoder}
 use Rattle.decoder.proofs.Records.{bit-back, shift-holding, held-holding}
 use Rattle.demands.proofs.Steps.{Stands, reads, ended, readOf, endOf, Step, refused, fed, reported, closes, closes-reported, few, stepped, still}
 
--- The bytes taken are bytes used up, and then the bytes held; no more characters were handed out than bytes used up, and the same separators.
+-- The bytes taken are bytes used up, and then the bytes held; no more characters were handed out than bytes used up, and the separators taken.
 pub record Kept (e m : ℕ) (taken handed held : List ℕ) : Type 0 where
   pub used : List ℕ
   pub split : taken ≡ used ++ held
   pub count : length handed ≤ length used
-  pub kept : m ≡ 0 → T (keeps (family e)) → separators handed ≡ separators used
+  pub kept : m ≡ 0 → T (keeps (family e)) → separators handed ≡ separators taken
 
 module _ (e m : ℕ) where
   -- a decoder that holds nothing
@@ -40,15 +41,17 @@ module _ (e m : ℕ) where
   refusing b q z = omega (arith, eqb-true m 1 (and-left (eqb m 1) b q), z)
 
   module _ (taken handed xs : List ℕ) (i : Kept e m taken handed xs) where
-    kept-fed : (s : Shift) (chunk : List ℕ) (t : Tables) → let r = readOf e t s xs chunk in Kept e m (taken ++ chunk) (handed ++ shown (r .items)) (r .rest)
-    kept-fed s chunk t =
+    kept-fed : (s : Shift) → next noTables (family e) s xs ≡ more → (chunk : List ℕ) (t : Tables) →
+        let r = readOf e t s xs chunk in Kept e m (taken ++ chunk) (handed ++ shown (r .items)) (r .rest)
+    kept-fed s w chunk t =
         let r = readOf e t s xs chunk in
         let R = reading (keeps (family e)) (next t (family e)) (next-laws t (family e)) s (xs ++ chunk) in
         record {
           used = i .used ++ R .used;
           split = ap (λ (l : List ℕ). l ++ chunk) (i .split) ∙ append-assoc (i .used) xs chunk ∙ ap (λ (l : List ℕ). i .used ++ l) (R .split) ∙ sym (append-assoc (i .used) (R .used) (r .rest));
           count = simp length-append (omega (arith, i .count, R .count));
-          kept = λ z k. separators-append handed (shown (r .items)) ∙ rw (i .kept z k, R .kept k) (sym (separators-append (i .used) (R .used)));
+          kept = λ z k. separators-append handed (shown (r .items)) ∙
+              rw (i .kept z k, chunk-separators t (family e) k s xs chunk (none-held noTables (family e) k s xs w)) (sym (separators-append taken chunk));
         }
 
     -- a report 11, in refusing mode: everything is taken, nothing is held
@@ -59,8 +62,7 @@ module _ (e m : ℕ) where
     kept-closed : (s : Shift) → next noTables (family e) s xs ≡ more → Kept e m taken (handed ++ shown (endOf e s xs)) []
     kept-closed s w = kept-none taken (handed ++ shown (endOf e s xs))
         (rw (i .split) (simp length-append (omega (arith, i .count, ending-is noTables (family e) s xs .count))))
-        (λ z k. separators-append handed (shown (endOf e s xs)) ∙ rw (i .kept z k, ending-is noTables (family e) s xs .kept k, i .split) (sym (separators-append (i .used) xs ∙
-        ap (λ (l : List ℕ). separators (i .used) ++ l) (at-more (keeps (family e)) (next noTables (family e)) (next-laws noTables (family e)) s xs w .1 k))))
+        (λ z k. separators-append handed (shown (endOf e s xs)) ∙ rw (i .kept z k, ending-is noTables (family e) s xs .kept k) (append-nil (separators taken)))
 
   pub kept-step : {taken handed : List ℕ} {d : Decoder} {c : Call} {h : History} {n : ℕ} → Step e m taken handed d c h n → Kept e m taken handed (heldOf d) → Kept e m (h .taken) (h .handed) (heldOf (h .decoder))
   kept-step (refused d c n p) i = i
@@ -68,7 +70,7 @@ module _ (e m : ℕ) where
       let r = readOf e t s xs chunk in
       let waits = reading (keeps (family e)) (next t (family e)) (next-laws t (family e)) s (xs ++ chunk) .waits in
       rw (held-holding e m (r .shift) (r .rest) (at-more (keeps (family e)) (next t (family e)) (next-laws t (family e)) (r .shift) (r .rest) waits .0))
-      (kept-fed taken handed xs (rw (held-holding e m s xs (few e m s xs w)) at i) s chunk t)
+      (kept-fed taken handed xs (rw (held-holding e m s xs (few e m s xs w)) at i) s w chunk t)
   kept-step {taken} {handed} (reported s xs chunk t room w z q) i =
       let R = reading (keeps (family e)) (next t (family e)) (next-laws t (family e)) s (xs ++ chunk) in
       kept-reported taken handed xs (rw (held-holding e m s xs (few e m s xs w)) at i) chunk (readOf e t s xs chunk .items) (omega (arith, R .count, ap length (R .split) ∙ length-append (R .used) (readOf e t s xs chunk .rest))) q

@@ -1,7 +1,7 @@
 -- The promises of specs/Statements.antt. Assumes nothing.
 use mathlib.Core.Path.{_≡_, refl, sym, ap, _∙_, subst}
 use mathlib.Core.Bool.{Bool, true, false, _&&_}
-use mathlib.Core.List.{List, [], _∷_, _++_, append-nil}
+use mathlib.Core.List.{List, [], _∷_, _++_}
 use mathlib.Core.Option.{some}
 use Prim.Native.Nat.{ℕ, _-_, _≤_}
 use native.Mathlib.Omega.{arith}
@@ -9,7 +9,7 @@ use lib.Dec.{T, eqb, lit≤}
 use lib.ListN.{length, drop, length-append}
 use lib.Seq.{drop-append-seam}
 use borrow.Author.Tests.{eqb-true}
-use Rattle.standard.specs.Base.{_then_else_, every, Bytes, separators, scalars}
+use Rattle.standard.specs.Base.{_then_else_, every, Bytes, scalars}
 use Rattle.standard.specs.Encodings.{family, traits, Tables, noTables}
 use Rattle.standard.specs.Machine.{replacement, fatal, finished, Ran}
 use Rattle.standard.specs.Machine.{error as failed}
@@ -21,7 +21,7 @@ use Rattle.standard.proofs.Every.{bytes-append, bytes-left, bytes-right}
 use Rattle.standard.proofs.FamilyLaws.{keeps, next-laws}
 use Rattle.standard.proofs.Walk.{at-more}
 use Rattle.standard.proofs.AnyTables.{Place, tables-meet}
-use Rattle.standard.proofs.Reading.{separators-append, empty}
+use Rattle.standard.proofs.Reading.{empty}
 use Rattle.standard.proofs.Whole.{standard-replacing, standard-fatal, unmarked-is}
 use Rattle.standard.proofs.Paused.{so-far}
 use Rattle.standard.proofs.OnlyScalars.{scalars-append, decode-scalars, decode-before-scalars, ending-scalars, ending-before-scalars}
@@ -154,9 +154,6 @@ last-of used held taken p =
     let z : length taken - length held ≡ length used = omega (arith, ap length p ∙ length-append used held) in
     rw (z, p) (sym (drop-append-seam used held))
 
-clear-end : (used held taken : List ℕ) → taken ≡ used ++ held → separators held ≡ [] → separators used ≡ separators taken
-clear-end used held taken p q = sym (ap separators p ∙ separators-append used held ∙ ap (λ (l : List ℕ). separators used ++ l) q ∙ append-nil (separators used))
-
 -- Every character handed out is a scalar: the bytes held are among those taken.
 module _ (e m : ℕ) (taken handed : List ℕ) (s : Shift) (xs : List ℕ) (w : next noTables (family e) s xs ≡ more) (k : Kept e m taken handed (heldOf (holding e m s xs))) where
   held-bytes : Bytes taken → Bytes xs
@@ -219,7 +216,7 @@ module _ (e m rule : ℕ) (o : openRefusal e m rule ≡ 0) (cs : List Call) wher
   accepted-demand =
       let h = after h₀ cs in
       record {
-        separators-kept = λ z k. kept .kept z k ∙ clear-end (kept .used) (heldOf (h .decoder)) (h .taken) (kept .split) (at-more (keeps (family e)) (next noTables (family e)) (next-laws noTables (family e)) _ _ (waits stands) .1 k);
+        separators-kept = kept .kept;
         counted = omega (arith, kept .count, ap length (kept .split) ∙ length-append (kept .used) (heldOf (h .decoder)));
         three = held-few;
         number = number-is stands;

@@ -8,8 +8,8 @@ use lib.Dec.{T, eqb}
 use lib.ListN.{length, drop}
 use Rattle.standard.specs.Base.{_then_else_, Bytes, separators, scalars}
 use Rattle.standard.specs.Encodings.{family, traits, Tables, fits}
-use Rattle.standard.specs.Machine.{replacement, fatal, Result, finished, continue, tokens, error, error-with, Ran}
-use Rattle.standard.specs.Standard.{standard, dropMark, SoFar, standardSoFar}
+use Rattle.standard.specs.Machine.{replacement, fatal, Ran}
+use Rattle.standard.specs.Standard.{standard, isError, dropMark, SoFar, standardSoFar}
 use Rattle.decoder.specs.Record.{heldOf, bit, closed}
 use Rattle.decoder.specs.Valid.{valid}
 use Rattle.decoder.specs.Calls.{feedRefusal, feeding, finishRefusal, finishing}
@@ -64,13 +64,6 @@ AllFeeds t (feed chunk t′ room ∷ cs) = (t′ ≡ t) × AllFeeds t cs
 AllFeeds t (finish room ∷ cs) = ⊥
 
 -- The account of a whole input by 000's `run` alone: mode 1 is "fatal"; the mark dropped by the rule; a report where `run` returned error.
-abbrev pub isError : Result → Bool
-isError finished = false
-isError continue = false
-isError (tokens ts) = false
-isError error = true
-isError (error-with c) = true
-
 abbrev pub drops : ℕ → ℕ → Bool
 drops e rule = traits (family e) .mark && eqb rule 0
 

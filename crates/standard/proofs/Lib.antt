@@ -7,6 +7,8 @@ pub mod AnyTables
 pub mod Items
 pub mod Reading
 pub mod Widths
+pub mod Separators
+pub mod LineFeeds
 pub mod Every
 pub mod Simulation
 pub mod AgreementsLeaves
@@ -15,8 +17,11 @@ pub mod AgreementsGb
 pub mod AgreementsIso
 pub mod AgreementsUtf
 pub mod Agreements
+pub mod Decided
 pub mod Fronts
 pub mod Whole
+pub mod Places
+pub mod Bounds
 pub mod Paused
 pub mod FamilyScalars
 pub mod OnlyScalars

@@ -18,7 +18,7 @@ use Rattle.standard.specs.Sequences.Utf8.{utf8}
 use Rattle.standard.specs.Sequences.Utf16.{utf16}
 use Rattle.standard.specs.Sequences.Replacement.{replacement as replacementNext}
 use Rattle.standard.specs.Next.{unmark, unmarked, next}
-use Rattle.standard.specs.Decode.{Item, span, Read, put, decode, oneError, ending, shown, broken, before, everything}
+use Rattle.standard.specs.Decode.{Item, span, Read, put, decode, oneError, ending, shown, broken, before, reach, everything}
 use Rattle.standard.proofs.Tests.{true-T}
 use Rattle.standard.proofs.FamilyLaws.{keeps, next-laws}
 use Rattle.standard.proofs.Walk.{stop, walk, decode-more, decode-item}
@@ -141,6 +141,16 @@ broken-unmark w (text (c ∷ cs)) is = go (eqb c 0xFEFF)
     go true = refl
     go false = refl
 
+reach-unmark : (w : ℕ) (o : Out) (is : List Item) → reach (span w (unmark o) ∷ is) ≡ reach (span w o ∷ is)
+unfolding reach
+reach-unmark w error is = refl
+reach-unmark w (text []) is = refl
+reach-unmark w (text (c ∷ cs)) is = go (eqb c 0xFEFF)
+  where
+    go : (t : Bool) → reach (span w (t then text cs else text (c ∷ cs)) ∷ is) ≡ w + reach is
+    go true = refl
+    go false = refl
+
 -- the end alone
 shown-end : (xs : List ℕ) → shown (oneError xs) ≡ dropMark (shown (oneError xs))
 unfolding oneError shown
@@ -157,6 +167,7 @@ pub record Unmarked (t : Tables) (f : Family) (xs : List ℕ) : Type 0 where
   pub all : shown (everything t f (shift 0 true) xs) ≡ dropMark (shown (everything t f plain xs))
   pub before-error : before (everything t f (shift 0 true) xs) ≡ dropMark (before (everything t f plain xs))
   pub error-too : broken (everything t f (shift 0 true) xs) ≡ broken (everything t f plain xs)
+  pub place-too : reach (everything t f (shift 0 true) xs) ≡ reach (everything t f plain xs)
   pub so-far : shown (decode (next t f) (shift 0 true) xs .items) ≡ dropMark (shown (decode (next t f) plain xs .items))
   pub left : decode (next t f) (shift 0 true) xs .rest ≡ decode (next t f) plain xs .rest
 
@@ -173,6 +184,7 @@ unmarked-by t f g same fin filled xs = go (g xs) refl (filled xs)
           all = rw (p, q, fin (shift 0 true) xs, fin plain xs) (shown-end xs);
           before-error = rw (p, q, fin (shift 0 true) xs, fin plain xs) (before-end xs);
           error-too = rw (p, q, fin (shift 0 true) xs, fin plain xs);
+          place-too = rw (p, q, fin (shift 0 true) xs, fin plain xs);
           so-far = rw (p, q);
           left = rw (p, q);
         }
@@ -184,6 +196,7 @@ unmarked-by t f g same fin filled xs = go (g xs) refl (filled xs)
           all = rw (p, q) (shown-unmark w o (r .items ++ ending t f (r .shift) (r .rest)) (h .holds));
           before-error = rw (p, q) (before-unmark w o (r .items ++ ending t f (r .shift) (r .rest)) (h .holds));
           error-too = rw (p, q) (broken-unmark w o (r .items ++ ending t f (r .shift) (r .rest)));
+          place-too = rw (p, q) (reach-unmark w o (r .items ++ ending t f (r .shift) (r .rest)));
           so-far = rw (p, q) (shown-unmark w o (r .items) (h .holds));
           left = rw (p, q);
         }

@@ -1,8 +1,8 @@
 -- What all definitions share: tests over numbers and lists, bytes, and scalars. Assumes nothing.
 use mathlib.Core.Bool.{Bool, true, false, _&&_, not}
 use mathlib.Core.List.{List, [], _∷_}
-use Prim.Native.Nat.{ℕ}
-use lib.Dec.{T, ltb, leb}
+use Prim.Native.Nat.{ℕ, suc}
+use lib.Dec.{T, ltb, leb, eqb}
 
 infixr 20 _then_else_
 -- if .. then .. else
@@ -31,6 +31,11 @@ Bytes xs = T (below 256 xs)
 unfoldable pub separators : List ℕ → List ℕ
 separators [] = []
 separators (x ∷ xs) = ltb x 0x30 then x ∷ separators xs else separators xs
+
+-- How many line feeds there are, among bytes or characters.
+unfoldable pub lineFeeds : List ℕ → ℕ
+lineFeeds [] = 0
+lineFeeds (x ∷ xs) = eqb x 0x0A then suc (lineFeeds xs) else lineFeeds xs
 
 -- Document 01, "What the reader covers": a scalar is a number 0 to 0x10FFFF outside 0xD800 to 0xDFFF.
 abbrev pub isScalar : ℕ → Bool

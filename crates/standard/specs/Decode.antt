@@ -6,7 +6,7 @@ use Rattle.standard.specs.Encodings.{Tables, Family, ISO-2022-JP, UTF-8,
 use Rattle.standard.specs.Sequence.{Shift, Out, error, Next, more, item}
 use Rattle.standard.specs.Next.{next}
 pub use Rattle.standard.specs.Items.{Item, span, Read, given}
-unfoldable pub use Rattle.standard.specs.Items.{shown, broken, before, widths}
+unfoldable pub use Rattle.standard.specs.Items.{shown, broken, before, widths, reach}
 
 abbrev pub put : ℕ → Out → Read → Read
 put w o r = record { items = span w o ∷ r .items; shift = r .shift; rest = r .rest }

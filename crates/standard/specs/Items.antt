@@ -36,7 +36,12 @@ before [] = []
 before (span w (text cs) ∷ is) = cs ++ before is
 before (span w error ∷ is) = []
 
--- The bytes of the items.
+-- The bytes of the items, and those before the first error.
 unfoldable pub widths : List Item → ℕ
 widths [] = 0
 widths (span w o ∷ is) = w + widths is
+
+unfoldable pub reach : List Item → ℕ
+reach [] = 0
+reach (span w (text cs) ∷ is) = w + reach is
+reach (span w error ∷ is) = 0

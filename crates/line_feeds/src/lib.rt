@@ -1,0 +1,106 @@
+// How many line feeds there are in a part of some bytes, or in the front of some scalars: many at a time, by narrow counts.
+
+ghost use mathlib.Core.Path.{_≡_};
+ghost use mathlib.Core.List.{_∷_, []};
+ghost use Prim.Native.Nat.{_+_, _-_, _≤_};
+ghost use lib.ListN.{length, take};
+ghost use Rattle.standard.specs.Base.{lineFeeds};
+ghost use Rattle.line_feeds.specs.Parts.{part};
+
+// 1 for a line feed, 0 for another byte.
+fn one(b: u8) -> u8
+    ensures { λ r. ⌜ r ≡ lineFeeds (b ∷ []) ⌝ }
+{
+    if b == 0x0A {
+        return 1;
+    }
+    0
+}
+
+// The line feeds among n bytes, at most 255, so that they fit a byte.
+fn in_few(bytes: &[u8], at: usize, n: usize) -> u8
+    requires { ⌜ (n ≤ 255) × (at + n ≤ length (now bytes)) ⌝ }
+    ensures { λ r. ⌜ r ≡ lineFeeds (part (now (bytes .entry)) at n) ⌝ }
+{
+    let mut count: u8 = 0;
+    for k in 0..n {
+        count += one(bytes[at + k]);
+    }
+    count
+}
+
+// The line feeds among n bytes, in blocks of 192 and what is left.
+fn in_many(bytes: &[u8], at: usize, n: usize) -> usize
+    requires { ⌜ at + n ≤ length (now bytes) ⌝ }
+    ensures { λ r. ⌜ r ≡ lineFeeds (part (now (bytes .entry)) at n) ⌝ }
+{
+    let mut count: usize = 0;
+    let mut k: usize = 0;
+    while n - k >= 192 {
+        count += in_few(bytes, at + k, 192) as usize;
+        k += 192;
+    }
+    count + in_few(bytes, at + k, n - k) as usize
+}
+
+// The line feeds among the bytes from a place up to another; none where there are no such bytes.
+pub fn in_bytes(bytes: &[u8], from: usize, to: usize) -> usize
+    ensures { λ r. ⌜ r ≡ lineFeeds (part (now (bytes .entry)) from (to - from)) ⌝ }
+{
+    if to <= from {
+        return 0;
+    }
+    if bytes.len() <= from {
+        return 0;
+    }
+    if bytes.len() < to {
+        return in_many(bytes, from, bytes.len() - from);
+    }
+    in_many(bytes, from, to - from)
+}
+
+// 1 for a line feed, 0 for another scalar.
+fn one_scalar(c: u32) -> u32
+    ensures { λ r. ⌜ r ≡ lineFeeds (c ∷ []) ⌝ }
+{
+    if c == 0x0A {
+        return 1;
+    }
+    0
+}
+
+// The line feeds among n scalars, at most 1,024.
+fn in_few_scalars(cells: &[u32], at: usize, n: usize) -> u32
+    requires { ⌜ (n ≤ 1024) × (at + n ≤ length (now cells)) ⌝ }
+    ensures { λ r. ⌜ r ≡ lineFeeds (part (now (cells .entry)) at n) ⌝ }
+{
+    let mut count: u32 = 0;
+    for k in 0..n {
+        count += one_scalar(cells[at + k]);
+    }
+    count
+}
+
+// The line feeds among the first n scalars, in blocks of 1,024 and what is left.
+fn in_many_scalars(cells: &[u32], n: usize) -> usize
+    requires { ⌜ n ≤ length (now cells) ⌝ }
+    ensures { λ r. ⌜ r ≡ lineFeeds (part (now (cells .entry)) 0 n) ⌝ }
+{
+    let mut count: usize = 0;
+    let mut k: usize = 0;
+    while n - k >= 1024 {
+        count += in_few_scalars(cells, k, 1024) as usize;
+        k += 1024;
+    }
+    count + in_few_scalars(cells, k, n - k) as usize
+}
+
+// The line feeds among the first n scalars, or among all where there are fewer.
+pub fn in_scalars(cells: &[u32], n: usize) -> usize
+    ensures { λ r. ⌜ r ≡ lineFeeds (take n (now (cells .entry))) ⌝ }
+{
+    if cells.len() < n {
+        return in_many_scalars(cells, cells.len());
+    }
+    in_many_scalars(cells, n)
+}
