@@ -10,7 +10,7 @@ use borrow.Author.Tests.{le-ltb, lt-ltb, ltb-true, ltb-false, ne-eqb}
 use Rattle.standard.specs.Base.{_then_else_, within}
 use Rattle.standard.specs.Sequence.{Next, more, await, scalar, bad}
 use Rattle.standard.specs.Sequences.Utf8.{utf8, utf8Low, utf8High, follows, utf8Two, utf8Three, utf8Four}
-use Rattle.standard.proofs.Tests.{split, within-low, under, above, in-range}
+use Rattle.standard.proofs.Tests.{split, within-low}
 use Rattle.sequences.specs.Code.{begun}
 use Rattle.sequences.proofs.Leaves.{one-more, no-more}
 
@@ -29,26 +29,6 @@ module _ (n b c d e : ℕ) (xs : List ℕ) where
   pub utf8-ascii : b < 0x80 → utf8 (b ∷ take (n - 1) (c ∷ d ∷ e ∷ xs)) ≡ scalar 1 b
   unfolding utf8
   utf8-ascii g = rw (lt-ltb b 0x80 g)
-
-  pub utf8-low : 0x80 ≤ b → b < 0xC2 → utf8 (b ∷ take (n - 1) (c ∷ d ∷ e ∷ xs)) ≡ bad 1
-  unfolding utf8
-  utf8-low g k = rw (le-ltb b 0x80 g, under 0xC2 b 0xDF k, under 0xE0 b 0xEF (omega arith), under 0xF0 b 0xF4 (omega arith))
-
-  pub utf8-high : 0xF5 ≤ b → utf8 (b ∷ take (n - 1) (c ∷ d ∷ e ∷ xs)) ≡ bad 1
-  unfolding utf8
-  utf8-high g = rw (le-ltb b 0x80 (omega arith), above 0xC2 b 0xDF (omega arith), above 0xE0 b 0xEF (omega arith), above 0xF0 b 0xF4 (omega arith))
-
-  pub utf8-two : 0xC2 ≤ b → b < 0xE0 → utf8 (b ∷ take (n - 1) (c ∷ d ∷ e ∷ xs)) ≡ Two n b c (d ∷ e ∷ xs)
-  unfolding utf8
-  utf8-two g k = rw (le-ltb b 0x80 (omega arith), in-range 0xC2 b 0xDF g (omega arith))
-
-  pub utf8-three : 0xE0 ≤ b → b < 0xF0 → utf8 (b ∷ take (n - 1) (c ∷ d ∷ e ∷ xs)) ≡ Three n b c d (e ∷ xs)
-  unfolding utf8
-  utf8-three g k = rw (le-ltb b 0x80 (omega arith), above 0xC2 b 0xDF (omega arith), in-range 0xE0 b 0xEF g (omega arith))
-
-  pub utf8-four : 0xF0 ≤ b → b < 0xF5 → utf8 (b ∷ take (n - 1) (c ∷ d ∷ e ∷ xs)) ≡ Four n b c d e xs
-  unfolding utf8
-  utf8-four g k = rw (le-ltb b 0x80 (omega arith), above 0xC2 b 0xDF (omega arith), above 0xE0 b 0xEF (omega arith), in-range 0xF0 b 0xF4 g (omega arith))
 
 -- the second byte of two
 module _ (n b c : ℕ) (xs : List ℕ) where

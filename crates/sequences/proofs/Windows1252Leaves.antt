@@ -2,28 +2,18 @@
 use mathlib.Core.Path.{_≡_, refl, _∙_}
 use mathlib.Core.Bool.{Bool, true, _&&_, not}
 use mathlib.Core.List.{List, _∷_}
-use Prim.Native.Nat.{ℕ, zero, suc, _+_, _-_, _≤_, _<_}
+use Prim.Native.Nat.{ℕ, _+_, _-_, _≤_, _<_}
 use native.Mathlib.Omega.{arith}
 use lib.Dec.{ltb, eqb}
 use lib.ListN.{getD}
-use borrow.Author.Tests.{le-ltb, lt-ltb, eqb-true, eqb-false, not-true}
+use borrow.Author.Tests.{le-ltb, lt-ltb, eqb-true, not-true}
 use Rattle.standard.specs.Base.{_then_else_}
 use Rattle.standard.specs.Indexes.{irregular, countFrom, windows1252}
 use Rattle.standard.specs.Sequence.{scalar, code, cell}
 use Rattle.standard.specs.Sequences.SingleByte.{singleByte}
-use Rattle.standard.proofs.Tests.{split, and-left, and-right}
+use Rattle.standard.proofs.Tests.{and-left, and-right}
+use Rattle.standard.proofs.Every.{upto, upto-at}
 use Rattle.sequences.proofs.SingleByteLeaves.{single-cell}
-
--- Does a test hold of every number below n?
-abbrev upto : (ℕ → Bool) → ℕ → Bool
-upto f zero = true
-upto f (suc n) = f n && upto f n
-
-upto-at : (f : ℕ → Bool) (n : ℕ) → upto f n ≡ true → (k : ℕ) → k < n → f k ≡ true
-upto-at f zero e k h = absurd (omega arith)
-upto-at f (suc n) e k h = split (eqb k n)
-    (λ g. rw (eqb-true k n g) (and-left (f n) (upto f n) e))
-    (λ g. upto-at f n (and-right (f n) (upto f n) e) k (omega (arith, eqb-false k n g)))
 
 -- the code point of the byte 80 + i
 wanted : ℕ → ℕ

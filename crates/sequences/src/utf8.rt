@@ -11,9 +11,24 @@ ghost use Prim.Native.Nat.{ℕ, _-_, _≤_};
 ghost use lib.Dec.{eqb};
 ghost use lib.ListN.{take};
 ghost use Rattle.standard.specs.Base.{_then_else_};
+ghost use Rattle.standard.specs.Leads.{leadLength};
 ghost use Rattle.standard.specs.Sequence.{await, more, bad};
 ghost use Rattle.standard.specs.Sequences.Utf8.{utf8, utf8Low, utf8High, utf8Two, utf8Three, utf8Four};
 ghost use Rattle.sequences.specs.Code.{nextOf, begun};
+
+// The length of the sequence that a byte leads: its number of leading one bits.
+// 0 where it leads none: ASCII, and 80 to BF, whose one leading bit is no length; C0, C1 and F5 to FF, which never occur.
+pub fn lead_length(b: u8) -> u32
+    ensures { λ r. ⌜ r ≡ leadLength b ⌝ }
+{
+    if b < 0xC2 {
+        return 0;
+    }
+    if 0xF4 < b {
+        return 0;
+    }
+    u8::leading_zeros(!b)
+}
 
 pub fn utf8(b0: u8, b1: u8, b2: u8, b3: u8, have: usize) -> Sequence
     ensures { λ r. ⌜ ((xs : List ℕ) → nextOf r ≡ utf8 (b0 ∷ take (have - 1) (b1 ∷ b2 ∷ b3 ∷ xs))) ⌝ }
@@ -21,16 +36,14 @@ pub fn utf8(b0: u8, b1: u8, b2: u8, b3: u8, have: usize) -> Sequence
     if b0 < 0x80 {
         return gives(1, b0 as u32);
     }
-    if b0 < 0xC2 {
-        return wrong(1);
-    }
-    if b0 < 0xE0 {
+    let n = lead_length(b0);
+    if n == 2 {
         return two(b0, b1, have);
     }
-    if b0 < 0xF0 {
+    if n == 3 {
         return three(b0, b1, b2, have);
     }
-    if b0 < 0xF5 {
+    if n == 4 {
         return four(b0, b1, b2, b3, have);
     }
     wrong(1)

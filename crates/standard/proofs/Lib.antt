@@ -10,6 +10,7 @@ pub mod Widths
 pub mod Separators
 pub mod LineFeeds
 pub mod Every
+pub mod Leads
 pub mod Simulation
 pub mod AgreementsLeaves
 pub mod AgreementsBytes

@@ -1,4 +1,5 @@
-//! Every byte, every pair of bytes, every four-byte sequence of gb18030 and every scalar, beside the reference.
+//! Every byte, every pair of bytes, every lead of UTF-8, every four-byte sequence of gb18030 and every scalar, beside
+//! the reference.
 
 use crate::compare;
 use crate::data::{name, Published};
@@ -272,6 +273,48 @@ pub fn texts(published: &Published) -> Result<String, String> {
     }
     differences.result(format!(
         "{compared} short texts over few bytes, whole and byte by byte"
+    ))
+}
+
+/// Bytes behind a lead of UTF-8: the edges of the ranges of its second byte, and a byte on each side that never follows.
+const BEHIND: &[u8] = b"\x7F\x80\x8F\x90\x9F\xA0\xBF\xC0";
+
+/// Four bytes in one chunk, and the first alone before the others.
+fn compare_lead(start: Record, text: [u8; 4], tables: Tables) -> Result<(), String> {
+    let whole = fed_and_finished(start, &text, tables)?;
+    let lead = fed_and_finished(start, &text[..1], tables)?;
+    let cut = fed(lead, &text[1..], tables)
+        .map_err(|error| format!("cut behind the first byte, {error}"))?;
+    if whole != cut {
+        return Err(format!(
+            "cut behind the first byte, record {cut:02X?}, not {whole:02X?}"
+        ));
+    }
+    Ok(())
+}
+
+/// Every byte as a lead of UTF-8, with three bytes behind it.
+pub fn leads(published: &Published) -> Result<String, String> {
+    let mut differences = Differences::default();
+    let mut compared = 0;
+    for setting in settings()
+        .into_iter()
+        .filter(|setting| setting.encoding == 0)
+    {
+        let start = compare::open(setting.encoding, setting.mode, setting.rule)?.record;
+        for lead in 0..=255u8 {
+            for places in 0..BEHIND.len().pow(3) {
+                let at = |place: usize| BEHIND[place % BEHIND.len()];
+                let text = [lead, at(places / 64), at(places / 8), at(places)];
+                compared += 1;
+                if let Err(error) = compare_lead(start, text, published.tables(setting.encoding)) {
+                    differences.add(text.len(), || setting.case(&text, &error));
+                }
+            }
+        }
+    }
+    differences.result(format!(
+        "{compared} texts of each byte and three more, whole and cut"
     ))
 }
 

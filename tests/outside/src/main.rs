@@ -48,6 +48,7 @@ fn compare_all(number: usize, seed: u64) -> Result<(), String> {
     show("records", exhaustive::records)?;
     show("bytes and pairs", || exhaustive::pairs(&tables))?;
     show("short texts", || exhaustive::texts(&tables))?;
+    show("leads of UTF-8", || exhaustive::leads(&tables))?;
     show("four bytes", || exhaustive::four_bytes(&tables))?;
     show("writers", || exhaustive::scalars(&tables))?;
     show("block borders", || long::borders(&tables))?;
