@@ -175,6 +175,9 @@ hamvukile_named hamvukile_name(uint8_t encoding, uint8_t *room, size_t room_leng
  *     33, 34                     HAMVUKILE_JIS0208_CELLS         0
  *     35 (EUC-KR)                HAMVUKILE_EUC_KR_CELLS          0
  *     all others, and 21         0                               0
+ *
+ * In Shift_JIS (34) the pairs F0 40 to F9 FC are 0xE000 to 0xE757, for private use, and the cells at their pointers,
+ * 8836 to 10715, are not looked at.
  */
 enum {
     HAMVUKILE_SINGLE_BYTE_CELLS = 128,

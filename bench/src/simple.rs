@@ -600,7 +600,10 @@ fn shift_jis(index: &[u32], bytes: &[u8], room: &mut [u32]) -> Done {
         if (0x40..=0xFC).contains(&trail) && trail != 0x7F {
             let pointer =
                 (usize::from(lead) - lead_offset) * 188 + usize::from(trail) - trail_offset;
-            found = cell(index, pointer);
+            found = match pointer {
+                8836..=10715 => Some(0xE000 - 8836 + pointer as u32),
+                _ => cell(index, pointer),
+            };
         }
         at += match found {
             Some(scalar) => {

@@ -126,6 +126,38 @@ static void samples(void) {
     SAMPLE("showtext's: windows-1252 80 09 41", 21, "\x80\x09\x41", 0x20AC, 0x09, 0x41);
 }
 
+/* Shift_JIS: F0 40 to F9 FC are U+E000 and up, whatever the cells there; the pairs beside them go by the table. */
+static void user_rows(void) {
+    static uint32_t cells[HAMVUKILE_JIS0208_CELLS];
+    tables both[2];
+    int i;
+    for (i = 0; i < HAMVUKILE_JIS0208_CELLS; i++) cells[i] = 0x4E00 + (uint32_t)i;
+    both[0] = both[1] = tables_of(HAMVUKILE_SHIFT_JIS);
+    both[1].first = cells;
+    for (i = 0; i < 2; i++) {
+#define USER(bytes, ...) sample("Shift_JIS, user rows", HAMVUKILE_SHIFT_JIS, HAMVUKILE_DROP_MARK, both[i], BYTES(bytes), SCALARS(__VA_ARGS__))
+        USER("\xF0\x40", 0xE000);
+        USER("\xF0\x7E", 0xE03E);
+        USER("\xF0\x7F", 0xFFFD, 0x7F);
+        USER("\xF0\x80", 0xE03F);
+        USER("\xF0\xFC", 0xE0BB);
+        USER("\xF1\x40", 0xE0BC);
+        USER("\xF9\xFC", 0xE757);
+        USER("\xF9\xFD", 0xFFFD);
+        USER("\xF0\x22", 0xFFFD, 0x22);
+        USER("\xF0\x09", 0xFFFD, 0x09);
+        USER("\xF9\x3F", 0xFFFD, 0x3F);
+        USER("\xF0", 0xFFFD);
+        USER("\x41\xF0\x40\xF0\x7F\xF9\xFC\x42", 0x41, 0xE000, 0xFFFD, 0x7F, 0xE757, 0x42);
+    }
+    i = 0;
+    USER("\xEF\xFC", 0xFFFD);
+    USER("\xFA\x40", 0xFFFD, 0x40);
+    i = 1;
+    USER("\xEF\xFC", 0x4E00 + 8835);
+    USER("\xFA\x40", 0x4E00 + 10716);
+}
+
 /* Sample 15, and what else a writer answers. */
 static void writing(void) {
     static const uint32_t han[] = { 0x4E00 }, text[] = { 0x41, 0x4E00 }, surrogate[] = { 0x4E00, 0xD800 };
@@ -312,6 +344,7 @@ static void part(const char *what, void (*run)(void)) {
 
 int main(void) {
     part("sample readings 1 to 14 in every cut", samples);
+    part("user rows of Shift_JIS in every cut", user_rows);
     part("writing, with sample 15", writing);
     part("refusals, with sample 16", refusals);
     part("labels and names", labels);

@@ -328,7 +328,8 @@ impl<'a> Tables<'a> {
         }
     }
 
-    /// For ISO-2022-JP and Shift_JIS.
+    /// For ISO-2022-JP and Shift_JIS. In Shift_JIS the pairs F0 40 to F9 FC are U+E000 to U+E757, for private use, and
+    /// the cells at their pointers, 8,836 to 10,715, are not looked at.
     pub const fn jis0208(jis0208: &'a [u32; 11_280]) -> Tables<'a> {
         Tables {
             first: jis0208,

@@ -13,7 +13,7 @@ use Rattle.standard.specs.Sequences.Gb18030.{gb18030, gb18030Range, gb18030Four
 use Rattle.standard.specs.Sequences.Big5.{big5, big5Pair}
 use Rattle.standard.specs.Sequences.EucJp.{eucJp}
 use Rattle.standard.specs.Sequences.Iso2022Jp.{iso2022Jp, escaped, byteOut}
-use Rattle.standard.specs.Sequences.ShiftJis.{shiftJis}
+use Rattle.standard.specs.Sequences.ShiftJis.{shiftJis, shiftJisCode}
 use Rattle.standard.specs.Sequences.Utf16.{utf16, unit}
 use Rattle.standard.specs.Next.{next}
 use Rattle.standard.specs.Decode.{reads, decode, oneError, isoEnd, ending, shown, broken, before, everything}
@@ -42,7 +42,7 @@ nothing-given e rule a r =
     rw (decode-more (keeps (family e)) (next t (family e)) (next-laws t (family e)) s [] (empty t (family e) s), no-bytes t (family e) s)
 
 pub samples : Samples
-unfolding family traits fits filled account cutting after reports start opening openRefusal feeding feedRefusal finishing finishRefusal valid validRest unused possible decode reads ending oneError isoEnd shown broken before next cell utf8 utf8Low utf8High gb18030 gb18030Range gb18030FourCode gb18030FourPointer big5 big5Pair eucJp iso2022Jp escaped byteOut shiftJis pointerOf pairCode utf16 unit
+unfolding family traits fits filled account cutting after reports start opening openRefusal feeding feedRefusal finishing finishRefusal valid validRest unused possible decode reads ending oneError isoEnd shown broken before next cell utf8 utf8Low utf8High gb18030 gb18030Range gb18030FourCode gb18030FourPointer big5 big5Pair eucJp iso2022Jp escaped byteOut shiftJis shiftJisCode pointerOf pairCode utf16 unit
 samples = record {
   no-bytes-1 = λ e a. (nothing-given e 0 a (lit≤ tt), nothing-given e 1 a (lit≤ tt));
   utf8-2 = (refl, refl);
@@ -61,4 +61,12 @@ samples = record {
   eucjp-11 = (refl, refl);
   big5-12 = (refl, refl);
   gb18030-fourth = (refl, refl);
+  shift-jis-first = ((refl, refl), (refl, refl));
+  shift-jis-last = ((refl, refl), (refl, refl));
+  shift-jis-below-gap = ((refl, refl), (refl, refl));
+  shift-jis-gap = ((refl, refl), (refl, refl));
+  shift-jis-above-gap = ((refl, refl), (refl, refl));
+  shift-jis-separator = ((refl, refl), (refl, refl));
+  shift-jis-before = (refl, refl);
+  shift-jis-behind = (refl, refl);
 }

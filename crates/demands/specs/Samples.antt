@@ -1,5 +1,5 @@
--- Document 01, "Sample readings": those marked with a star, by their numbers, and one more of gb18030. Each is fed, then finished,
--- in replacing mode. Assumes nothing.
+-- Document 01, "Sample readings": those marked with a star, by their numbers; one more of gb18030, and some of Shift_JIS's user rows.
+-- Each is fed, then finished, in replacing mode. Assumes nothing.
 use mathlib.Core.Path.{_≡_}
 use mathlib.Core.List.{List, [], _∷_}
 use Prim.Native.Nat.{ℕ, _+_, _≤_}
@@ -30,6 +30,10 @@ Reads e t xs cs = gives e 0 t xs cs × gives e 1 t xs cs
 abbrev pub Unmapped : ℕ → List ℕ → List ℕ → Type 0
 Unmapped e xs cs = Reads e (filled 0 (family e)) xs cs
 
+-- the same with nothing mapped and with all mapped, in Shift_JIS
+abbrev pub WhateverCells : List ℕ → List ℕ → Type 0
+WhateverCells xs cs = Unmapped 34 xs cs × Reads 34 (filled 0x3042 (family 34)) xs cs
+
 pub record Samples : Type 0 where
   pub no-bytes-1 : (e : ℕ) → e ≤ 39 → Unmapped e [] []
   pub utf8-2 : Unmapped 0 (0xF0 ∷ 0x9F ∷ 0x92 ∷ 0xA9 ∷ []) (0x1F4A9 ∷ [])
@@ -50,3 +54,11 @@ pub record Samples : Type 0 where
   pub eucjp-11 : Unmapped 32 (0x8F ∷ 0xA1 ∷ 0x09 ∷ []) (0xFFFD ∷ 0x09 ∷ [])
   pub big5-12 : Unmapped 31 (0x88 ∷ 0x62 ∷ []) (0xCA ∷ 0x304 ∷ [])
   pub gb18030-fourth : Unmapped 30 (0x81 ∷ 0x30 ∷ 0x81 ∷ 0x20 ∷ []) (0xFFFD ∷ 0x30 ∷ 0xFFFD ∷ 0x20 ∷ [])
+  pub shift-jis-first : WhateverCells (0xF0 ∷ 0x40 ∷ []) (0xE000 ∷ [])
+  pub shift-jis-last : WhateverCells (0xF9 ∷ 0xFC ∷ []) (0xE757 ∷ [])
+  pub shift-jis-below-gap : WhateverCells (0xF0 ∷ 0x7E ∷ []) (0xE03E ∷ [])
+  pub shift-jis-gap : WhateverCells (0xF0 ∷ 0x7F ∷ []) (0xFFFD ∷ 0x7F ∷ [])
+  pub shift-jis-above-gap : WhateverCells (0xF0 ∷ 0x80 ∷ []) (0xE03F ∷ [])
+  pub shift-jis-separator : WhateverCells (0xF0 ∷ 0x22 ∷ []) (0xFFFD ∷ 0x22 ∷ [])
+  pub shift-jis-before : Reads 34 (filled 0x3042 (family 34)) (0xEF ∷ 0xFC ∷ []) (0x3042 ∷ [])
+  pub shift-jis-behind : Reads 34 (filled 0x3042 (family 34)) (0xFA ∷ 0x40 ∷ []) (0x3042 ∷ [])

@@ -1,6 +1,6 @@
 -- The row of a lead in a run, and the table of rows and columns as it is filled. Assumes nothing.
 use mathlib.Core.Path.{_≡_, _∙_}
-use mathlib.Core.Bool.{true, false, _&&_}
+use mathlib.Core.Bool.{true, false}
 use mathlib.Core.List.{List}
 use Prim.Native.Nat.{ℕ, _+_, _≤_, _<_}
 use native.Mathlib.Omega.{arith}
@@ -8,25 +8,32 @@ use lib.Dec.{eqb}
 use lib.ListN.{length, getD, set, length-set}
 use lib.Seq.{getD-set-same, getD-set-other}
 use borrow.Author.Tests.{ne-eqb, eqb-true, eqb-false}
+use Rattle.standard.specs.Base.{within}
 use Rattle.standard.proofs.Tests.{split}
 use Rattle.layouts.specs.Rows.{noCell, layoutOf}
 use Rattle.layouts.specs.Rows.{row as rowIn}
 use Rattle.runs.proofs.Below.{filled-more}
-use Rattle.pair_runs.specs.Layout.{row, column, Laid}
+use Rattle.pair_runs.specs.Layout.{leftOut, row, column, Laid}
 
 -- a lead that is left out
 module _ (e b : ℕ) where
-  pub left-no : (e ≡ 31 → ⊥) → eqb e 31 && eqb b 0x88 ≡ false
-  left-no h = rw (ne-eqb e 31 h)
+  pub left-big5 : e ≡ 31 → leftOut e b ≡ eqb b 0x88
+  unfolding leftOut
+  left-big5 h = rw h
 
-  pub left-31 : e ≡ 31 → eqb e 31 && eqb b 0x88 ≡ eqb b 0x88
-  left-31 h = rw h
+  pub left-shift-jis : e ≡ 34 → leftOut e b ≡ within 0xF0 b 0xF9
+  unfolding leftOut
+  left-shift-jis h = rw h
 
-  pub row-out : eqb e 31 && eqb b 0x88 ≡ true → row e b ≡ noCell
+  pub left-no : (e ≡ 31 → ⊥) → (e ≡ 34 → ⊥) → leftOut e b ≡ false
+  unfolding leftOut
+  left-no h g = rw (ne-eqb e 31 h, ne-eqb e 34 g)
+
+  pub row-out : leftOut e b ≡ true → row e b ≡ noCell
   unfolding row
   row-out h = rw h
 
-  pub row-in : eqb e 31 && eqb b 0x88 ≡ false → row e b ≡ rowIn (layoutOf e) b
+  pub row-in : leftOut e b ≡ false → row e b ≡ rowIn (layoutOf e) b
   unfolding row
   row-in h = rw h
 

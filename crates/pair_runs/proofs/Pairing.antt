@@ -1,6 +1,6 @@
 -- Pairs by rows and columns, in the encodings of one and two bytes and in gb18030. Assumes nothing.
 use mathlib.Core.Path.{_≡_, refl, sym, subst, ap, _∙_}
-use mathlib.Core.Bool.{true, false, _&&_, and-false}
+use mathlib.Core.Bool.{true, false, and-false}
 use mathlib.Core.List.{List, [], _∷_}
 use Prim.Native.Nat.{ℕ, _+_, _-_, _*_, _≤_, _<_}
 use native.Mathlib.Omega.{arith}
@@ -19,6 +19,7 @@ use Rattle.standard.specs.Sequences.Gb18030.{gb18030}
 use Rattle.standard.specs.Sequences.ShiftJis.{shiftJis}
 use Rattle.standard.proofs.Families.{beyond, is-gb18030, is-big5, is-euc-jp, is-shift-jis, is-euc-kr}
 use Rattle.standard.proofs.Layouts.{Proper, least, ranges-under, number-below, pair-led, pair-under, gb18030-regular, big5-regular, euc-jp-regular, shift-jis-regular, euc-kr-regular}
+use Rattle.standard.proofs.UserRows.{shift-jis-other}
 use Rattle.standard.proofs.Tests.{split, under, above, out-above, within-low, within-high}
 use Rattle.index.proofs.Cells.{cell-out}
 use Rattle.layouts.specs.Rows.{noCell, place, layoutOf}
@@ -30,8 +31,8 @@ use Rattle.sequences.proofs.EucJpLeaves.{euc-jp-led}
 use Rattle.sequences.proofs.EucKrLeaves.{euc-kr-led}
 use Rattle.sequences.proofs.Gb18030Leaves.{gb18030-led}
 use Rattle.sequences.proofs.ShiftJisLeaves.{shift-jis-led}
-use Rattle.pair_runs.specs.Layout.{row, column}
-use Rattle.pair_runs.proofs.Layouts.{row-in, row-out}
+use Rattle.pair_runs.specs.Layout.{leftOut, row, column}
+use Rattle.pair_runs.proofs.Layouts.{left-big5, left-shift-jis, row-in, row-out}
 use Rattle.pair_runs.specs.Paired.{Paired}
 
 -- the code point after a lead, by its row and column
@@ -77,19 +78,19 @@ module _ (t1 t2 : List ℕ) (e : ℕ) (E : Paired e) where
       euc-kr (let m = beyond 31 e (leb-false e 30 f30) (eqb-false e 31 f31) in let n = beyond 33 e (beyond 32 e m (eqb-false e 32 f32)) (E .other) in let o = beyond 34 e n (eqb-false e 34 f34) in omega arith)))))
 
   -- a lead with a row
-  lead-row : (b : ℕ) → row e b < noCell → (eqb e 31 && eqb b 0x88 ≡ false) × (leads (layoutOf e) b ≡ true)
-  lead-row b h = split (eqb e 31 && eqb b 0x88) (λ t. absurd (omega (arith, h, row-out e b t))) (λ f. (f, led (layoutOf e) b 0 (omega (arith, h, row-in e b f))))
+  lead-row : (b : ℕ) → row e b < noCell → (leftOut e b ≡ false) × (leads (layoutOf e) b ≡ true)
+  lead-row b h = split (leftOut e b) (λ t. absurd (omega (arith, h, row-out e b t))) (λ f. (f, led (layoutOf e) b 0 (omega (arith, h, row-in e b f))))
 
   -- the sequence of two bytes, by the layout
-  laid : (b c : ℕ) (xs : List ℕ) → leads (layoutOf e) b ≡ true → eqb e 31 && eqb b 0x88 ≡ false → within 0x30 c 0x39 ≡ false →
+  laid : (b c : ℕ) (xs : List ℕ) → leads (layoutOf e) b ≡ true → leftOut e b ≡ false → within 0x30 c 0x39 ≡ false →
       next (lent t1 t2) (family e) plain (b ∷ c ∷ xs) ≡ pair c (pairCode (layoutOf e) t1 b c)
   laid b c xs h o d =
       each (next (lent t1 t2) (family e) plain (b ∷ c ∷ xs) ≡ pair c (pairCode (layoutOf e) t1 b c))
       (λ k. let y = layout-gb18030 e k in is-gb18030 t1 t2 e plain (b ∷ c ∷ xs) (omega arith) k ∙ rw y (gb18030-led (lent t1 t2) b (c ∷ xs) (rw y at h) ∙ rw d))
-      (λ k. let y = layout-big5 e k in let n : eqb b 0x88 ≡ false = rw k at o in
+      (λ k. let y = layout-big5 e k in let n = sym (left-big5 e b k) ∙ o in
       is-big5 t1 t2 e plain (b ∷ c ∷ xs) k ∙ rw y (big5-led (lent t1 []) b (c ∷ xs) (rw y at h) ∙ big5-one b c t1 (rw y at h) (eqb-false b 0x88 n)))
       (λ k. let y = layout-euc-jp e k in is-euc-jp t1 t2 e plain (b ∷ c ∷ xs) k ∙ rw y (euc-jp-led (lent t1 t2) b (c ∷ xs) (rw y at h)))
-      (λ k. let y = layout-shift-jis e k in is-shift-jis t1 t2 e plain (b ∷ c ∷ xs) k ∙ rw y (shift-jis-led (lent t1 []) b (c ∷ xs) (rw y at h)))
+      (λ k. let y = layout-shift-jis e k in is-shift-jis t1 t2 e plain (b ∷ c ∷ xs) k ∙ rw y (shift-jis-led (lent t1 []) b (c ∷ xs) (rw y at h) ∙ ap (pair c) (shift-jis-other t1 b c (sym (left-shift-jis e b k) ∙ o))))
       (λ k. let y = layout-euc-kr e (omega arith) (λ z. omega arith) (λ z. omega arith) (λ z. omega arith) (λ z. omega arith) in
       is-euc-kr t1 t2 e plain (b ∷ c ∷ xs) k ∙ rw y (euc-kr-led (lent t1 []) b (c ∷ xs) (rw y at h)))
 

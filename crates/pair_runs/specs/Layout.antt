@@ -1,17 +1,20 @@
 -- The rows and columns of the pairs that a run reads, by encoding number. Contracts of functions inside the library cite this. Assumes nothing.
 use mathlib.Core.Path.{_≡_}
-use mathlib.Core.Bool.{_&&_}
+use mathlib.Core.Bool.{Bool, false}
 use mathlib.Core.List.{List}
 use Prim.Native.Nat.{ℕ, _+_, _<_}
 use lib.Dec.{eqb}
 use lib.ListN.{length, getD}
-use Rattle.standard.specs.Base.{_then_else_}
+use Rattle.standard.specs.Base.{_then_else_, within}
 use Rattle.layouts.specs.Rows.{noCell, layoutOf}
 use Rattle.layouts.specs.Rows.{row as rowIn, column as columnIn}
 
--- In Big5 the lead 88, which has pairs of two scalars, has no row.
+-- Leads that have no row: in Big5 88, which has pairs of two scalars; in Shift_JIS those of the user rows, which are not in the index.
+unfoldable pub leftOut : ℕ → ℕ → Bool
+leftOut encoding b = eqb encoding 31 then eqb b 0x88 else eqb encoding 34 then within 0xF0 b 0xF9 else false
+
 unfoldable pub row : ℕ → ℕ → ℕ
-row encoding b = eqb encoding 31 && eqb b 0x88 then noCell else rowIn (layoutOf encoding) b
+row encoding b = leftOut encoding b then noCell else rowIn (layoutOf encoding) b
 
 unfoldable pub column : ℕ → ℕ → ℕ
 column encoding c = columnIn (layoutOf encoding) c

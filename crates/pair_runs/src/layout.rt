@@ -4,21 +4,23 @@ use layouts::column;
 use layouts::pointer;
 use layouts::row;
 use layouts::sum;
+use layouts::within;
 ghost use mathlib.Core.Path.{_≡_};
-ghost use mathlib.Core.Bool.{_&&_};
 ghost use Prim.Native.Nat.{_+_, _<_};
-ghost use lib.Dec.{eqb};
 ghost use lib.ListN.{length, getD};
-ghost use Rattle.pair_runs.specs.Layout.{row, column, Laid};
+ghost use Rattle.pair_runs.specs.Layout.{leftOut, row, column, Laid};
 
-// In Big5 the lead 88, which has pairs of two scalars, is left to `next`.
+// Left to `next`: in Big5 the lead 88, which has pairs of two scalars; in Shift_JIS the leads of the user rows.
 fn left_out(encoding: u8, lead: u8) -> bool
-    ensures { λ r. ⌜ r ≡ eqb encoding 31 && eqb lead 0x88 ⌝ }
+    ensures { λ r. ⌜ r ≡ leftOut encoding lead ⌝ }
 {
-    if encoding != 31 {
-        return false;
+    if encoding == 31 {
+        return lead == 0x88;
     }
-    lead == 0x88
+    if encoding == 34 {
+        return within(0xF0, lead, 0xF9);
+    }
+    false
 }
 
 // The row of a lead.

@@ -18,7 +18,7 @@ use Rattle.standard.specs.Sequences.Gb18030.{gb18030, gb18030Range, gb18
 use Rattle.standard.specs.Sequences.Big5.{big5, big5Pair, big5Trail}
 use Rattle.standard.specs.Sequences.EucJp.{eucJp, eucJpKana}
 use Rattle.standard.specs.Sequences.Iso2022Jp.{iso2022Jp, escaped, byteOut, codeOut, escapeNext, leadNext}
-use Rattle.standard.specs.Sequences.ShiftJis.{shiftJis}
+use Rattle.standard.specs.Sequences.ShiftJis.{shiftJis, shiftJisCode}
 use Rattle.standard.specs.Sequences.EucKr.{eucKr}
 use Rattle.standard.specs.Sequences.Replacement.{replacement}
 use Rattle.standard.specs.Sequences.Utf16.{utf16, unit, utf16Unit}
@@ -29,6 +29,7 @@ use Rattle.standard.proofs.Tests.{true-T, and-right, and-T-left, and-T-
 use Rattle.standard.proofs.Every.{both}
 use Rattle.standard.proofs.Fronts.{Front, front-test, front-item}
 use Rattle.standard.proofs.AgreementsUtf.{high-most}
+use Rattle.standard.proofs.UserRows.{shift-jis-either}
 
 -- below the surrogates, and above them
 low : (c : ℕ) → c ≤ 0xD7FF → T (isScalar c)
@@ -109,13 +110,19 @@ user-scalars xs p = byte xs p (λ b zs q _. front-test (ltb b 0x80) (λ h. ascii
 kana : (b : ℕ) → within 0xA1 b 0xDF ≡ true → T (isScalar (0xFF61 - 0xA1 + b))
 kana b h = high (0xFF61 - 0xA1 + b) (omega (arith, within-low 0xA1 b 0xDF h)) (omega (arith, within-high 0xA1 b 0xDF h))
 
+private : (p : ℕ) → within 8836 p 10715 ≡ true → T (isScalar (0xE000 - 8836 + p))
+private p h = high (0xE000 - 8836 + p) (omega (arith, within-low 8836 p 10715 h)) (omega (arith, within-high 8836 p 10715 h))
+
+shift-jis-point : (index : List ℕ) (b c : ℕ) → Point (shiftJisCode index b c)
+shift-jis-point index b c = shift-jis-either index b c Point (λ p h _. private p h) (pair-point shiftJisLayout index b c)
+
 shift-jis-scalars : (t : Tables) (xs : List ℕ) → Bytes xs → Gives (shiftJis t xs)
 unfolding shiftJis
 shift-jis-scalars t xs p = byte xs p (λ b zs _ r.
     front-test (leb b 0x80) (λ h. good b (low b (omega (arith, leb-true b 0x80 h)))) (λ _.
     front-test (within 0xA1 b 0xDF) (λ h. good (0xFF61 - 0xA1 + b) (kana b h)) (λ _.
     front-test (leads shiftJisLayout b)
-    (λ _. byte zs r (λ c us _ _. pair-gives shiftJisLayout (t .first) 1 2 b c))
+    (λ _. byte zs r (λ c us _ _. trailed-gives 1 2 c (shiftJisCode (t .first) b c) (shift-jis-point (t .first) b c)))
     (λ _. broke))))
 
 euc-kr-scalars : (t : Tables) (xs : List ℕ) → Bytes xs → Gives (eucKr t xs)

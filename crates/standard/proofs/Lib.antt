@@ -1,5 +1,6 @@
 pub mod Tests
 pub mod Layouts
+pub mod UserRows
 pub mod Laws
 pub mod FamilyLaws
 pub mod Walk

@@ -300,9 +300,6 @@ pub fn characters(published: &Published) -> Result<String, String> {
 
 const SHIFT_JIS: u8 = 34;
 
-/// The pointers that the standard reads as U+E000 and up, without the index.
-const PRIVATE_USE: std::ops::RangeInclusive<usize> = 8836..=10715;
-
 fn shift_jis_pointer(lead: u8, trail: u8) -> Option<usize> {
     let row = match lead {
         0x81..=0x9F => lead - 0x81,
@@ -317,26 +314,24 @@ fn shift_jis_pointer(lead: u8, trail: u8) -> Option<usize> {
     Some(usize::from(row) * 188 + usize::from(cell))
 }
 
-/// Whether a Shift_JIS text has such a pointer.
-fn has_private_use(text: &[u8]) -> bool {
-    let mut place = 0;
-    while place + 1 < text.len() {
-        match shift_jis_pointer(text[place], text[place + 1]) {
-            Some(pointer) if PRIVATE_USE.contains(&pointer) => return true,
-            Some(_) => place += 2,
-            None => place += 1,
-        }
+/// What a pair reads as: a private code point if its lead is F0 to F9, otherwise the cell of the index.
+fn shift_jis_pair(index: &[u32], lead: u8, trail: u8) -> Vec<u32> {
+    match shift_jis_pointer(lead, trail) {
+        Some(pointer @ 8836..=10715) => return vec![0xE000 + pointer as u32 - 8836],
+        Some(pointer) if index[pointer] != 0 => return vec![index[pointer]],
+        _ => {}
     }
-    false
+    let mut error = vec![0xFFFD];
+    error.extend((trail < 0x80).then_some(u32::from(trail)));
+    error
 }
 
-/// Shift_JIS F0 40 to F9 FC: the standard reads them as U+E000 and up, document 01 by the index as all others.
-/// Document 01 is what is expected.
+/// Shift_JIS F0 40 to F9 FC, and the rows beside them, with cells there and without: pair by pair, and in one text.
 pub fn shift_jis(published: &Published) -> Result<String, String> {
     let mut differences = Differences::default();
     let unfilled = published.tables(SHIFT_JIS);
     let mut filled = unfilled.first.to_vec();
-    for pointer in PRIVATE_USE {
+    for pointer in 8648..10904 {
         filled[pointer] = 0x3000 + pointer as u32;
     }
     let filled = Tables {
@@ -344,56 +339,34 @@ pub fn shift_jis(published: &Published) -> Result<String, String> {
         second: &[],
     };
     let mut compared = 0;
-    for lead in 0..=255u8 {
-        for trail in 0..=255u8 {
-            let Some(pointer) = shift_jis_pointer(lead, trail).filter(|p| PRIVATE_USE.contains(p))
-            else {
-                continue;
-            };
-            let mut error = vec![0xFFFD];
-            error.extend((trail < 0x80).then_some(u32::from(trail)));
-            let cases = [(unfilled, error), (filled, vec![0x3000 + pointer as u32])];
-            for (tables, expected) in cases {
-                let expected = Reading::Scalars(expected);
-                let came = Reader::open(tables, SHIFT_JIS, 0, 0).read(&[vec![lead, trail]], true);
+    for tables in [unfilled, filled] {
+        let mut cases = Vec::new();
+        for lead in 0xEF..=0xFA {
+            for trail in 0..=255 {
+                let pair = vec![lead, trail];
+                cases.push((pair, shift_jis_pair(tables.first, lead, trail)));
+            }
+        }
+        let (pairs, scalars): (Vec<_>, Vec<_>) = cases.iter().cloned().unzip();
+        cases.push((pairs.concat(), scalars.concat()));
+        for (text, expected) in cases {
+            let expected = Reading::Scalars(expected);
+            let bytes = text.iter().map(|&byte| vec![byte]).collect();
+            for chunks in [vec![text.clone()], bytes] {
+                let came = Reader::open(tables, SHIFT_JIS, 0, 0).read(&chunks, true);
                 compared += 1;
                 if came != expected {
                     differences.add(2, || {
-                        format!(
-                            "{lead:02X} {trail:02X}: expected {expected:04X?}, came {came:04X?}"
-                        )
+                        let start = &text[..2];
+                        format!("{start:02X?}: expected {expected:04X?}, came {came:04X?}")
                     });
                 }
             }
         }
     }
-    let concerned = shift_jis_cases()?;
-    if concerned != 0 {
-        return Err(format!(
-            "{concerned} published cases have a pointer from 8836 to 10715: they expect the standard's rule"
-        ));
-    }
     differences.result(format!(
-        "{compared} readings of pointers 8836 to 10715 by the index, as document 01 says, where the standard gives \
-         U+E000 and up; {concerned} published cases have such a pointer"
+        "{compared} readings of leads EF to FA, of which F0 to F9 are U+E000 and up"
     ))
-}
-
-/// How many published cases have such a pointer.
-fn shift_jis_cases() -> Result<usize, String> {
-    let mut concerned = 0;
-    let parsers: [Parser; 2] = [Decoding::of_line, Decoding::of_character];
-    for (file, parse) in ["vectors/decode.txt", "vectors/characters.txt"]
-        .into_iter()
-        .zip(parsers)
-    {
-        for line in data::lines(&data::read(file)?) {
-            let decoding = parse(line)?;
-            let text = [decoding.before, decoding.chunks].concat().concat();
-            concerned += usize::from(decoding.encoding == SHIFT_JIS && has_private_use(&text));
-        }
-    }
-    Ok(concerned)
 }
 
 pub fn encodings(published: &Published) -> Result<String, String> {

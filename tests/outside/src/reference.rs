@@ -447,7 +447,6 @@ impl Iso2022Jp {
     }
 }
 
-/// Pointers 8836 to 10715 go by the index as all others.
 fn shift_jis(lead: &mut u8, queue: &mut Queue, byte: Option<u8>, index: &[u32]) -> Outcome {
     let Some(byte) = byte else {
         return end_of_lead(lead);
@@ -461,6 +460,9 @@ fn shift_jis(lead: &mut u8, queue: &mut Queue, byte: Option<u8>, index: &[u32]) 
             0x40..=0x7E | 0x80..=0xFC => Some(row * 188 + usize::from(byte) - offset),
             _ => None,
         };
+        if let Some(pointer @ 8836..=10715) = pointer {
+            return One(0xE000 - 8836 + pointer as u32);
+        }
         return two_byte(queue, byte, pointer, index);
     }
     match byte {

@@ -1,6 +1,6 @@
 use Prim.Native.Nat.{_-_}
 use lib.ListN.{take}
-use Rattle.standard.specs.Layouts.{pairCode, shiftJisLayout}
+use Rattle.standard.specs.Sequences.ShiftJis.{shiftJisCode}
 use Rattle.sequences.proofs.Leaves.{await-pair}
 use mathlib.Core.Path.{sym, _∙_}
 use mathlib.Core.List.{[], _∷_}
@@ -51,8 +51,9 @@ returns-3 c =
     λ xs. c .wrong .ensures ∙ sym (shift-jis-bad (lent (args .table .now) []) (args .have) (args .b0) (args .b1) xs (omega arith) (sym (c .before .before .before .before .within .ensures) ∙ c .before .before .before .if2 .left)
     (fails (c .before .before .leads .ensures) (c .before .if3 .taken)))
 
-code-point-requires : tie.Need-code-point-requires
-code-point-requires c κs = search needs
+pair-code-requires : tie.Need-pair-code-requires
+unfolding layoutOf
+pair-code-requires c κs = holds (c .before .leads .ensures) (c .if3 .left)
 
 gives-pair-requires : tie.Need-gives-pair-requires
 gives-pair-requires c κs = search needs
@@ -61,9 +62,9 @@ returns-4 : tie.Need-returns-4
 unfolding layoutOf
 returns-4 c =
     let args = c .before .before .before .before .before .before .before .before .args in
-    λ xs. c .gives-pair .ensures ∙ rw (c .before .code-point .ensures)
+    λ xs. c .gives-pair .ensures ∙ rw (c .before .pair-code .ensures)
     (sym (shift-jis-led (lent (args .table .now) []) (args .b0) (take (args .have - 1) (args .b1 ∷ xs)) (holds (c .before .before .before .leads .ensures) (c .before .before .if3 .left)) ∙
-    await-pair (args .have) (args .b1) xs (λ c. pairCode shiftJisLayout (args .table .now) (args .b0) c)))
+    await-pair (args .have) (args .b1) xs (λ c. shiftJisCode (args .table .now) (args .b0) c)))
 
 pub shift-jis-spec : {M : Type 1} → statement M
 shift-jis-spec =
@@ -79,6 +80,6 @@ shift-jis-spec =
     leads-requires
     wrong-requires
     returns-3
-    code-point-requires
+    pair-code-requires
     gives-pair-requires
     returns-4)
