@@ -4,15 +4,17 @@ use mathlib.Core.Bool.{true, false}
 use mathlib.Core.List.{List, _∷_}
 use Prim.Native.Nat.{ℕ, _+_, _-_, _*_, _≤_, _<_}
 use native.Mathlib.Omega.{arith}
-use lib.Dec.{leb, eqb}
+use lib.Dec.{eqb}
 use lib.ListN.{length, drop, getD}
-use borrow.Author.Tests.{lt-ltb, le-ltb, leb-true, leb-false, eqb-true, ne-eqb}
+use borrow.Author.Tests.{lt-ltb, eqb-true, eqb-false, ne-eqb}
 use Rattle.standard.specs.Base.{within}
 use Rattle.standard.specs.Encodings.{Tables, noTables, UTF-8}
+use Rattle.standard.specs.Leads.{leadLength}
 use Rattle.standard.specs.Sequence.{Next, more, item, plain, scalar, bad}
 use Rattle.standard.specs.Next.{next, unmarked}
 use Rattle.standard.specs.Sequences.Utf8.{utf8, utf8Low, utf8High}
-use Rattle.standard.proofs.Tests.{split, under, above, within-low, within-high, in-range}
+use Rattle.standard.proofs.Tests.{split, within-low, within-high, in-range}
+use Rattle.standard.proofs.Leads.{in-two, in-three, utf8-two, utf8-three, utf8-four, utf8-none}
 use Rattle.sequences.specs.Code.{nextOf, front}
 use Rattle.sequences.specs.declared.Sequence.{Sequence}
 use Rattle.runs.specs.Run.{Gives}
@@ -20,67 +22,68 @@ use Rattle.runs.proofs.Running.{gives-scalar}
 use Rattle.runs.proofs.Scalars.{gives-bad}
 use Rattle.runs.proofs.Fronts.{front-four}
 
-module _ (b c : ℕ) (xs : List ℕ) where
-  pub good-two : 0xC2 ≤ b → b ≤ 0xDF → within 0x80 c 0xBF ≡ true → utf8 (b ∷ c ∷ xs) ≡ scalar 2 ((b - 0xC0) * 64 + (c - 0x80))
-  unfolding utf8
-  good-two h k i = rw (le-ltb b 0x80 (omega arith), in-range 0xC2 b 0xDF h k, i)
+-- the number that three bytes have
+abbrev threeBits : ℕ → ℕ → ℕ → ℕ
+threeBits b c d = (b - 0xE0) * 4096 + (c - 0x80) * 64 + (d - 0x80)
 
-  pub good-three : (d : ℕ) → 0xE0 ≤ b → b ≤ 0xEF → within (utf8Low b) c (utf8High b) ≡ true → within 0x80 d 0xBF ≡ true → utf8 (b ∷ c ∷ d ∷ xs) ≡ scalar 3 ((b - 0xE0) * 4096 + (c - 0x80) * 64 + (d - 0x80))
-  unfolding utf8
-  good-three d h k i j = rw (le-ltb b 0x80 (omega arith), above 0xC2 b 0xDF (omega arith), in-range 0xE0 b 0xEF h k, i, j)
+-- whole sequences by the length of their lead, and errors of one byte
+module _ (b : ℕ) (h : b < 256) (c : ℕ) (xs : List ℕ) where
+  pub good-two : leadLength b ≡ 2 → within 0x80 c 0xBF ≡ true → utf8 (b ∷ c ∷ xs) ≡ scalar 2 ((b - 0xC0) * 64 + (c - 0x80))
+  good-two e i = utf8-two b h (c ∷ xs) e ∙ rw i
 
-  pub good-four : (d e : ℕ) → 0xF0 ≤ b → b ≤ 0xF4 → within (utf8Low b) c (utf8High b) ≡ true → within 0x80 d 0xBF ≡ true → within 0x80 e 0xBF ≡ true →
-      utf8 (b ∷ c ∷ d ∷ e ∷ xs) ≡ scalar 4 ((b - 0xF0) * 262144 + (c - 0x80) * 4096 + (d - 0x80) * 64 + (e - 0x80))
-  unfolding utf8
-  good-four d e h k i j l = rw (le-ltb b 0x80 (omega arith), above 0xC2 b 0xDF (omega arith), above 0xE0 b 0xEF (omega arith), in-range 0xF0 b 0xF4 h k, i, j, l)
+  good-three : (d : ℕ) → leadLength b ≡ 3 → within (utf8Low b) c (utf8High b) ≡ true → within 0x80 d 0xBF ≡ true →
+      utf8 (b ∷ c ∷ d ∷ xs) ≡ scalar 3 (threeBits b c d)
+  good-three d e i j = utf8-three b h (c ∷ d ∷ xs) e ∙ rw (i, j)
+
+  pub good-four : (d f : ℕ) → leadLength b ≡ 4 →
+      within (utf8Low b) c (utf8High b) ≡ true → within 0x80 d 0xBF ≡ true → within 0x80 f 0xBF ≡ true →
+      utf8 (b ∷ c ∷ d ∷ f ∷ xs) ≡ scalar 4 ((b - 0xF0) * 262144 + (c - 0x80) * 4096 + (d - 0x80) * 64 + (f - 0x80))
+  good-four d f e i j l = utf8-four b h (c ∷ d ∷ f ∷ xs) e ∙ rw (i, j, l)
 
   -- three bytes by their number: a second byte that is not allowed makes it too small, or a surrogate
-  module _ (d : ℕ) (h : 0xE0 ≤ b) (k : b ≤ 0xEF) (i : within 0x80 c 0xBF ≡ true) (j : within 0x80 d 0xBF ≡ true) (low : 0x800 ≤ (b - 0xE0) * 4096 + (c - 0x80) * 64 + (d - 0x80)) where
+  module _ (d : ℕ) (e : leadLength b ≡ 3) (i : within 0x80 c 0xBF ≡ true) (j : within 0x80 d 0xBF ≡ true)
+      (low : 0x800 ≤ threeBits b c d) where
     allowed : (b ≡ 0xED → c ≤ 0x9F) → within (utf8Low b) c (utf8High b) ≡ true
     unfolding utf8Low utf8High
     allowed q =
+        let b0 = within-low 0xE0 b 0xEF (in-three b h e) in
+        let b1 = within-high 0xE0 b 0xEF (in-three b h e) in
         let c0 = within-low 0x80 c 0xBF i in
         let c1 = within-high 0x80 c 0xBF i in
         let d1 = within-high 0x80 d 0xBF j in
         split (eqb b 0xE0)
-        (λ t. let e = eqb-true b 0xE0 t in rw (t, ne-eqb b 0xED (λ z. omega arith), ne-eqb b 0xF4 (λ z. omega arith)) (in-range 0xA0 c 0xBF (omega arith) c1))
+        (λ t.
+        let z = eqb-true b 0xE0 t in
+        rw (t, ne-eqb b 0xED (λ y. omega arith), ne-eqb b 0xF4 (λ y. omega arith)) (in-range 0xA0 c 0xBF (omega arith) c1))
         (λ t. split (eqb b 0xED)
-        (λ s. let e = eqb-true b 0xED s in rw (t, ne-eqb b 0xF0 (λ z. omega arith), s) (in-range 0x80 c 0x9F c0 (q e)))
-        (λ s. rw (t, ne-eqb b 0xF0 (λ z. omega arith), s, ne-eqb b 0xF4 (λ z. omega arith)) (in-range 0x80 c 0xBF c0 c1)))
+        (λ s. let z = eqb-true b 0xED s in rw (t, ne-eqb b 0xF0 (λ y. omega arith), s) (in-range 0x80 c 0x9F c0 (q z)))
+        (λ s. rw (t, ne-eqb b 0xF0 (λ y. omega arith), s, ne-eqb b 0xF4 (λ y. omega arith)) (in-range 0x80 c 0xBF c0 c1)))
 
-    pub three-below : (b - 0xE0) * 4096 + (c - 0x80) * 64 + (d - 0x80) < 0xD800 → utf8 (b ∷ c ∷ d ∷ xs) ≡ scalar 3 ((b - 0xE0) * 4096 + (c - 0x80) * 64 + (d - 0x80))
-    three-below g = good-three d h k (allowed (λ e. omega (arith, within-low 0x80 c 0xBF i))) j
+    pub three-below : threeBits b c d < 0xD800 → utf8 (b ∷ c ∷ d ∷ xs) ≡ scalar 3 (threeBits b c d)
+    three-below g = good-three d e (allowed (λ z. omega (arith, within-low 0x80 c 0xBF i))) j
 
-    pub three-above : 0xDFFF < (b - 0xE0) * 4096 + (c - 0x80) * 64 + (d - 0x80) → utf8 (b ∷ c ∷ d ∷ xs) ≡ scalar 3 ((b - 0xE0) * 4096 + (c - 0x80) * 64 + (d - 0x80))
-    three-above g = good-three d h k (allowed (λ e. absurd (omega (arith, within-high 0x80 c 0xBF i, within-high 0x80 d 0xBF j)))) j
+    pub three-above : 0xDFFF < threeBits b c d → utf8 (b ∷ c ∷ d ∷ xs) ≡ scalar 3 (threeBits b c d)
+    three-above g = good-three d e (allowed (λ z. absurd (omega (arith, within-high 0x80 c 0xBF i, within-high 0x80 d 0xBF j)))) j
 
-  -- a first byte that begins nothing, and a second one that does not follow
-  pub bad-low : 0x80 ≤ b → b < 0xC2 → utf8 (b ∷ c ∷ xs) ≡ bad 1
-  unfolding utf8
-  bad-low h k = rw (le-ltb b 0x80 h, under 0xC2 b 0xDF k, under 0xE0 b 0xEF (omega arith), under 0xF0 b 0xF4 (omega arith))
+  -- a first byte that leads nothing
+  pub bad-first : 0x80 ≤ b → leadLength b ≡ 0 → utf8 (b ∷ c ∷ xs) ≡ bad 1
+  bad-first l e = utf8-none b h (c ∷ xs) l (λ z. omega arith) (λ z. omega arith) (λ z. omega arith)
 
-  pub bad-high : 0xF4 < b → utf8 (b ∷ c ∷ xs) ≡ bad 1
-  unfolding utf8
-  bad-high h = rw (le-ltb b 0x80 (omega arith), above 0xC2 b 0xDF (omega arith), above 0xE0 b 0xEF (omega arith), above 0xF0 b 0xF4 h)
+  bad-two : leadLength b ≡ 2 → within (utf8Low b) c (utf8High b) ≡ false → utf8 (b ∷ c ∷ xs) ≡ bad 1
+  unfolding utf8Low utf8High
+  bad-two e i =
+      let b1 = within-high 0xC2 b 0xDF (in-two b h e) in
+      let low = rw (ne-eqb b 0xE0 (λ z. omega arith), ne-eqb b 0xF0 (λ z. omega arith)) at i in
+      let j = rw (ne-eqb b 0xED (λ z. omega arith), ne-eqb b 0xF4 (λ z. omega arith)) at low in
+      utf8-two b h (c ∷ xs) e ∙ rw j
 
-  bad-two : 0xC2 ≤ b → b ≤ 0xDF → within (utf8Low b) c (utf8High b) ≡ false → utf8 (b ∷ c ∷ xs) ≡ bad 1
-  unfolding utf8 utf8Low utf8High
-  bad-two h k i =
-      let j = rw (ne-eqb b 0xE0 (λ z. omega arith), ne-eqb b 0xF0 (λ z. omega arith), ne-eqb b 0xED (λ z. omega arith), ne-eqb b 0xF4 (λ z. omega arith)) at i in
-      rw (le-ltb b 0x80 (omega arith), in-range 0xC2 b 0xDF h k, j)
-
-  bad-three : 0xE0 ≤ b → b ≤ 0xEF → within (utf8Low b) c (utf8High b) ≡ false → utf8 (b ∷ c ∷ xs) ≡ bad 1
-  unfolding utf8
-  bad-three h k i = rw (le-ltb b 0x80 (omega arith), above 0xC2 b 0xDF (omega arith), in-range 0xE0 b 0xEF h k, i)
-
-  bad-four : 0xF0 ≤ b → b ≤ 0xF4 → within (utf8Low b) c (utf8High b) ≡ false → utf8 (b ∷ c ∷ xs) ≡ bad 1
-  unfolding utf8
-  bad-four h k i = rw (le-ltb b 0x80 (omega arith), above 0xC2 b 0xDF (omega arith), above 0xE0 b 0xEF (omega arith), in-range 0xF0 b 0xF4 h k, i)
-
-  pub bad-second : 0xC2 ≤ b → b ≤ 0xF4 → within (utf8Low b) c (utf8High b) ≡ false → utf8 (b ∷ c ∷ xs) ≡ bad 1
-  bad-second h k i =
-      split (leb b 0xDF) (λ t. bad-two h (leb-true b 0xDF t) i)
-      (λ t. split (leb b 0xEF) (λ u. bad-three (leb-false b 0xDF t) (leb-true b 0xEF u) i) (λ u. bad-four (leb-false b 0xEF u) k i))
+  -- a second byte that does not follow, whatever the length
+  pub bad-second : 0x80 ≤ b → within (utf8Low b) c (utf8High b) ≡ false → utf8 (b ∷ c ∷ xs) ≡ bad 1
+  bad-second l i =
+      split (eqb (leadLength b) 2) (λ t. bad-two (eqb-true _ 2 t) i) (λ t.
+      split (eqb (leadLength b) 3) (λ u. utf8-three b h (c ∷ xs) (eqb-true _ 3 u) ∙ rw i) (λ u.
+      split (eqb (leadLength b) 4) (λ v. utf8-four b h (c ∷ xs) (eqb-true _ 4 v) ∙ rw i)
+      (λ v. utf8-none b h (c ∷ xs) l (eqb-false _ 2 t) (eqb-false _ 3 u) (eqb-false _ 4 v))))
 
 -- no mark is to be dropped
 pub plain-utf8 : (t : Tables) (xs : List ℕ) → next t UTF-8 plain xs ≡ utf8 xs

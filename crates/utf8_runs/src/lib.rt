@@ -6,6 +6,7 @@ use runs::ascii::copy_ascii;
 use runs::plain_scalar_of;
 use runs::ready_plain;
 use sequences::utf8::high;
+use sequences::utf8::lead_length;
 use sequences::utf8::low;
 use sequences::utf8::utf8;
 ghost use mathlib.Core.Path.{_≡_};
@@ -19,13 +20,14 @@ ghost use Rattle.standard.specs.Sequences.Utf8.{utf8};
 ghost use Rattle.runs.specs.Run.{Run, Ready, placed};
 
 // The scalar of two bytes, 0 if they are no sequence.
+// Here and below the length of a lead is compared by `<` on both sides: the compiler makes one range test of the byte of the two.
 fn two(b0: u8, b1: u8) -> u32
     ensures { λ r. ⌜ ((r ≡ 0 → ⊥) → (xs : List ℕ) → utf8 (b0 ∷ b1 ∷ xs) ≡ scalar 2 r) ⌝ }
 {
-    if b0 < 0xC2 {
+    if lead_length(b0) < 2 {
         return 0;
     }
-    if 0xDF < b0 {
+    if 2 < lead_length(b0) {
         return 0;
     }
     if within(0x80, b1, 0xBF) {
@@ -38,10 +40,10 @@ fn two(b0: u8, b1: u8) -> u32
 fn three(b0: u8, b1: u8, b2: u8) -> u32
     ensures { λ r. ⌜ ((r ≡ 0 → ⊥) → (xs : List ℕ) → utf8 (b0 ∷ b1 ∷ b2 ∷ xs) ≡ scalar 3 r) ⌝ }
 {
-    if b0 < 0xE0 {
+    if lead_length(b0) < 3 {
         return 0;
     }
-    if 0xEF < b0 {
+    if 3 < lead_length(b0) {
         return 0;
     }
     if !within(0x80, b1, 0xBF) {
@@ -75,10 +77,10 @@ fn three_bits(b0: u8, b1: u8, b2: u8) -> u32
 fn four(b0: u8, b1: u8, b2: u8, b3: u8) -> u32
     ensures { λ r. ⌜ ((r ≡ 0 → ⊥) → (xs : List ℕ) → utf8 (b0 ∷ b1 ∷ b2 ∷ b3 ∷ xs) ≡ scalar 4 r) ⌝ }
 {
-    if b0 < 0xF0 {
+    if lead_length(b0) < 4 {
         return 0;
     }
-    if 0xF4 < b0 {
+    if 4 < lead_length(b0) {
         return 0;
     }
     if within(low(b0), b1, high(b0)) {
@@ -111,10 +113,7 @@ fn is_bad(mode: u8, b: u8, c: u8) -> bool
     if mode == 1 {
         return false;
     }
-    if b < 0xC2 {
-        return true;
-    }
-    if 0xF4 < b {
+    if lead_length(b) == 0 {
         return true;
     }
     !within(low(b), c, high(b))
