@@ -12,7 +12,7 @@ use borrow.Author.Tests.{leb-true, eqb-true, eqb-false, lt-ltb, le-ltb, eq-eqb, 
 use Rattle.standard.specs.Base.{_then_else_, within, isScalar, mapped}
 use Rattle.standard.specs.Indexes.{pointerFrom, irregular, windows1252}
 use Rattle.standard.specs.Machine.{Result}
-use Rattle.standard.specs.Encoders.{utf8-encode, single-encode, user-encode}
+use Rattle.standard.specs.Encoders.{utf8Encode, singleByteEncode, userDefinedEncode}
 use Rattle.standard.proofs.Tests.{split, and-left, and-right}
 use Rattle.encoder_spec.specs.Writer.{bytesOf}
 use Rattle.encoder.specs.WriterCode.{given, encoderOf, Slots, entered}
@@ -97,14 +97,14 @@ filled-on table slots after p few h f e =
     subst (Filled table (p - 1)) (sym e) (one-more table (p - 1) (omega (arith, f .inside)) (omega (arith, f .inside)) slots (subst (λ (n : ℕ). Filled table n slots) q f))
 
 -- a full slot says the byte
-slot-right : (table : List ℕ) (k s : ℕ) → Slot table 0 k s → bytesOf (single-encode table (s / 256)) ≡ some (s % 256 ∷ [])
-unfolding single-encode
+slot-right : (table : List ℕ) (k s : ℕ) → Slot table 0 k s → bytesOf (singleByteEncode table (s / 256)) ≡ some (s % 256 ∷ [])
+unfolding singleByteEncode
 slot-right table k s empty = refl
 slot-right table k s (entry c q r l b e) =
     let d : (c * 256 + (q + 0x80)) / 256 ≡ c = omega arith in let m : (c * 256 + (q + 0x80)) % 256 ≡ q + 0x80 = omega arith in
     rw (d, m, le-ltb c 0x80 l, e)
 
-pub filled-end : (table slots : List ℕ) (p : ℕ) → p ≤ 0 → Filled table p slots → Slots (single-encode table) slots
+pub filled-end : (table slots : List ℕ) (p : ℕ) → p ≤ 0 → Filled table p slots → Slots (singleByteEncode table) slots
 filled-end table slots p h f =
     let q : p ≡ 0 = omega arith in
     let g : Filled table 0 slots = subst (λ (n : ℕ). Filled table n slots) q f in
@@ -115,7 +115,7 @@ pub slots-as : {f g : ℕ → Result} (slots : List ℕ) → ((c : ℕ) → f c 
 slots-as slots e s = record { right = λ k. ap bytesOf (sym (e (getD slots k 0 / 256))) ∙ s .right k }
 
 -- windows-1252
-pub windows-slots : (slots : List ℕ) → Slots (single-encode irregular) slots → Slots (single-encode windows1252) slots
+pub windows-slots : (slots : List ℕ) → Slots (singleByteEncode irregular) slots → Slots (singleByteEncode windows1252) slots
 windows-slots slots s = record { right = λ k. windows-more (getD slots k 0 / 256) (getD slots k 0 % 256 ∷ []) (s .right k) }
 
 slots-set : (encode : ℕ → Result) (slots : List ℕ) (i v : ℕ) → i < length slots → Slots encode slots →
@@ -126,15 +126,15 @@ slots-set encode slots i v h s e = record {
       (λ z. rw (getD-set-other slots i k v 0 (eqb-false k i z)) (s .right k));
 }
 
-pub regular-on : (slots : List ℕ) (c : ℕ) → length slots ≡ 2048 → 0xA0 ≤ c → c < 0x100 → Slots (single-encode windows1252) slots →
-    Slots (single-encode windows1252) (set slots c (c * 256 + c))
-regular-on slots c l h g s = slots-set (single-encode windows1252) slots c (c * 256 + c) (omega arith) s
+pub regular-on : (slots : List ℕ) (c : ℕ) → length slots ≡ 2048 → 0xA0 ≤ c → c < 0x100 → Slots (singleByteEncode windows1252) slots →
+    Slots (singleByteEncode windows1252) (set slots c (c * 256 + c))
+regular-on slots c l h g s = slots-set (singleByteEncode windows1252) slots c (c * 256 + c) (omega arith) s
     (let d : (c * 256 + c) / 256 ≡ c = omega arith in let m : (c * 256 + c) % 256 ≡ c = omega arith in rw (d, m) (ap bytesOf (sym (windows-self c h (omega arith)))))
 
 -- by the encoding's number
 module _ (e : ℕ) (table : List ℕ) where
   pub below-80 : (c : ℕ) → c < 0x80 → given c ≡ bytesOf (encoderOf e table c)
-  unfolding encoderOf utf8-encode single-encode user-encode
+  unfolding encoderOf utf8Encode singleByteEncode userDefinedEncode
   below-80 c h = rw (lt-ltb c 256 (omega arith)) (
       split (eqb e 0) (λ z. rw (z, lt-ltb c 0x80 h)) (λ z.
       split (eqb e 21) (λ y. rw (z, y, lt-ltb c 0x80 h)) (λ y.

@@ -12,7 +12,7 @@ use borrow.Author.Tests.{ltb-true, ltb-false, leb-true, leb-false, eqb-true, eqb
 use Rattle.standard.specs.Base.{_then_else_, within, every, isScalar, scalars}
 use Rattle.standard.specs.Indexes.{indexPointer, windows1252}
 use Rattle.standard.specs.Machine.{Result, tokens, error-with, reference}
-use Rattle.standard.specs.Encoders.{utf8-encode, orErrorWith, single-encode, user-encode}
+use Rattle.standard.specs.Encoders.{utf8Encode, orErrorWith, singleByteEncode, userDefinedEncode}
 use Rattle.standard.proofs.Tests.{split, and-left, and-right}
 use Rattle.encoder_spec.proofs.Encoders.{choose}
 use Rattle.encoder_spec.specs.Writer.{bytesOf, Writing, onward, writing}
@@ -23,19 +23,19 @@ use Rattle.encoder.proofs.Counting.{stopped, first-bytes, first-referen
 use Rattle.encoder.proofs.Scalars.{utf8-some, utf8-one-length, utf8-two-length, utf8-three-length, utf8-four-length}
 
 -- UTF-8 has bytes for every scalar, so both modes write the same
-pub utf8-modes : (m : ℕ) (cs : List ℕ) → writing utf8-encode 0 cs ≡ writing utf8-encode m cs
+pub utf8-modes : (m : ℕ) (cs : List ℕ) → writing utf8Encode 0 cs ≡ writing utf8Encode m cs
 unfolding writing
 utf8-modes m [] = refl
 utf8-modes m (c ∷ cs) =
-    first-bytes utf8-encode 0 c cs (utf8-some c) ∙ ap (onward (utf8Of c)) (utf8-modes m cs) ∙
-    sym (first-bytes utf8-encode m c cs (utf8-some c))
+    first-bytes utf8Encode 0 c cs (utf8-some c) ∙ ap (onward (utf8Of c)) (utf8-modes m cs) ∙
+    sym (first-bytes utf8Encode m c cs (utf8-some c))
 
-pub utf8-writing : (e m : ℕ) (table cs : List ℕ) → e ≡ 0 → writing utf8-encode 0 cs ≡ writingOf e m table cs
+pub utf8-writing : (e m : ℕ) (table cs : List ℕ) → e ≡ 0 → writing utf8Encode 0 cs ≡ writingOf e m table cs
 unfolding encoderOf
 utf8-writing e m table cs h = utf8-modes m cs ∙ rw (eq-eqb e 0 h)
 
 pub utf8-wrote : (e m : ℕ) (table cs : List ℕ) → e ≡ 0 → (room : List ℕ) {a : Written} {after : List ℕ} →
-    Wrote (writing utf8-encode 0 cs) room a after → Wrote (writingOf e m table cs) room a after
+    Wrote (writing utf8Encode 0 cs) room a after → Wrote (writingOf e m table cs) room a after
 utf8-wrote e m table cs h room {a} {after} w = subst (λ (x : Writing). Wrote x room a after) (utf8-writing e m table cs h) w
 
 -- at most k bytes of each scalar
@@ -72,13 +72,13 @@ utf8-few c =
     split (leb c 0xFFFF) (λ k. omega (arith, utf8-three-length c (leb-false c 0x7FF g) (leb-true c 0xFFFF k))) (λ k.
     omega (arith, utf8-four-length c (leb-false c 0xFFFF k)))))
 
-utf8-most : (m : ℕ) (cs : List ℕ) → scalars cs ≡ true → length (writing utf8-encode m cs .bytes) ≤ length cs * 4
-utf8-most m = writing-most utf8-encode m 4 few never
+utf8-most : (m : ℕ) (cs : List ℕ) → scalars cs ≡ true → length (writing utf8Encode m cs .bytes) ≤ length cs * 4
+utf8-most m = writing-most utf8Encode m 4 few never
   where
-    few : (c : ℕ) (bs : List ℕ) → bytesOf (utf8-encode c) ≡ some bs → length bs ≤ 4
+    few : (c : ℕ) (bs : List ℕ) → bytesOf (utf8Encode c) ≡ some bs → length bs ≤ 4
     few c bs e = let q : utf8Of c ≡ bs = cc (utf8-some c) in omega (arith, utf8-few c, ap length q)
 
-    never : (c : ℕ) → bytesOf (utf8-encode c) ≡ none → (m ≡ 1 → ⊥) → 10 ≤ 4
+    never : (c : ℕ) → bytesOf (utf8Encode c) ≡ none → (m ≡ 1 → ⊥) → 10 ≤ 4
     never c e n = let z : _≡_ {A = ℕ} 0 1 = cc (utf8-some c) in absurd (omega arith)
 
 -- the others: one byte, or a reference in html mode
@@ -97,12 +97,12 @@ short-pointer : (c : ℕ) (o : Option ℕ) → Short (orErrorWith o c)
 short-pointer c (some p) = short-byte (p + 0x80)
 short-pointer c none = short-none c
 
-single-short : (table : List ℕ) (c : ℕ) → Short (single-encode table c)
-unfolding single-encode
+single-short : (table : List ℕ) (c : ℕ) → Short (singleByteEncode table c)
+unfolding singleByteEncode
 single-short table c = choose Short (ltb c 0x80) (λ _. short-byte c) (λ _. short-pointer c (indexPointer table c))
 
-user-short : (c : ℕ) → Short (user-encode c)
-unfolding user-encode
+user-short : (c : ℕ) → Short (userDefinedEncode c)
+unfolding userDefinedEncode
 user-short c = choose Short (ltb c 0x80) (λ _. short-byte c) (λ _. choose Short (within 0xF780 c 0xF7FF) (λ _. short-byte (c - 0xF780 + 0x80)) (λ _. short-none c))
 
 short-most : (encode : ℕ → Result) → ((c : ℕ) → Short (encode c)) → (m : ℕ) (cs : List ℕ) → scalars cs ≡ true →
@@ -115,9 +115,9 @@ short-most encode short m cs h = split (eqb m 1)
 at-most : (e m : ℕ) (table cs : List ℕ) → scalars cs ≡ true → length (writingOf e m table cs .bytes) ≤ length cs * mostOf e m
 unfolding encoderOf
 at-most e m table cs h = split (eqb e 0) (λ z. rw z (utf8-most m cs h)) (λ z.
-    split (eqb e 21) (λ y. rw (z, y) (short-most (single-encode windows1252) (single-short windows1252) m cs h)) (λ y.
-    split (leb e 28) (λ x. rw (z, y, x) (short-most (single-encode table) (single-short table) m cs h)) (λ x.
-    rw (z, y, x) (short-most user-encode user-short m cs h))))
+    split (eqb e 21) (λ y. rw (z, y) (short-most (singleByteEncode windows1252) (single-short windows1252) m cs h)) (λ y.
+    split (leb e 28) (λ x. rw (z, y, x) (short-most (singleByteEncode table) (single-short table) m cs h)) (λ x.
+    rw (z, y, x) (short-most userDefinedEncode user-short m cs h))))
 
 -- A room for the most bytes of each scalar has space for all.
 pub room-for-most : (e m : ℕ) (table cs : List ℕ) (n : ℕ) → scalars cs ≡ true → (k : ℕ) → k ≡ mostOf e m → length cs * k ≤ n →

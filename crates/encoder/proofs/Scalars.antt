@@ -11,7 +11,7 @@ use borrow.Author.Tests.{ltb-true, ltb-false, lt-ltb, le-ltb, le-leb, lt-leb, eq
 use Rattle.standard.specs.Base.{_then_else_, within, every, mapped}
 use Rattle.standard.specs.Indexes.{indexPointer, pointerFrom, irregular, countFrom, windows1252}
 use Rattle.standard.specs.Machine.{Result, tokens, error-with}
-use Rattle.standard.specs.Encoders.{utf8-following, utf8-bytes, utf8-encode, orErrorWith, single-encode, user-encode}
+use Rattle.standard.specs.Encoders.{utf8-following, utf8-bytes, utf8Encode, orErrorWith, singleByteEncode, userDefinedEncode}
 use Rattle.standard.proofs.Tests.{split, and-left, and-right, under, above}
 use Rattle.encoder_spec.specs.Writer.{bytesOf}
 use Rattle.encoder.specs.WriterCode.{given, utf8Of, encoderOf}
@@ -33,8 +33,8 @@ byte-none b h e = sym e ∙ rw (le-ltb b 256 h)
 
 -- UTF-8
 module _ (c : ℕ) where
-  pub utf8-some : bytesOf (utf8-encode c) ≡ some (utf8Of c)
-  unfolding utf8-encode
+  pub utf8-some : bytesOf (utf8Encode c) ≡ some (utf8Of c)
+  unfolding utf8Encode
   utf8-some = go (ltb c 0x80) (leb c 0x7FF) (leb c 0xFFFF)
     where
       go : (s t u : Bool) →
@@ -97,12 +97,12 @@ module _ (c : ℕ) where
 
 -- single-byte
 module _ (table : List ℕ) (c : ℕ) where
-  pub single-one : c < 0x80 → tokens (c ∷ []) ≡ single-encode table c
-  unfolding single-encode
+  pub single-one : c < 0x80 → tokens (c ∷ []) ≡ singleByteEncode table c
+  unfolding singleByteEncode
   single-one h = rw (lt-ltb c 0x80 h)
 
-  pub single-by : 0x80 ≤ c → {o : Option ℕ} → o ≡ indexPointer table c → orErrorWith o c ≡ single-encode table c
-  unfolding single-encode
+  pub single-by : 0x80 ≤ c → {o : Option ℕ} → o ≡ indexPointer table c → orErrorWith o c ≡ singleByteEncode table c
+  unfolding singleByteEncode
   single-by h e = rw (le-ltb c 0x80 h, e)
 
   -- a pointer is below the table's length
@@ -162,22 +162,22 @@ module _ (c : ℕ) where
   or-none none = refl
   or-none (some p) = refl
 
-  windows-searched : regular c ≡ false → single-encode irregular c ≡ single-encode windows1252 c
-  unfolding single-encode
+  windows-searched : regular c ≡ false → singleByteEncode irregular c ≡ singleByteEncode windows1252 c
+  unfolding singleByteEncode
   windows-searched h =
       let e : indexPointer windows1252 c ≡ indexPointer irregular c = windows-pointer ∙ ap (or (indexPointer irregular c)) (regular-none h) ∙ or-none (indexPointer irregular c) in
       rw e
 
-  pub windows-low : c < 0xA0 → single-encode irregular c ≡ single-encode windows1252 c
+  pub windows-low : c < 0xA0 → singleByteEncode irregular c ≡ singleByteEncode windows1252 c
   unfolding regular
   windows-low h = windows-searched (under 0xA0 c 0xFF h)
 
-  pub windows-high : 0xFF < c → single-encode irregular c ≡ single-encode windows1252 c
+  pub windows-high : 0xFF < c → singleByteEncode irregular c ≡ singleByteEncode windows1252 c
   unfolding regular
   windows-high h = windows-searched (above 0xA0 c 0xFF h)
 
-  pub windows-self : 0xA0 ≤ c → c ≤ 0xFF → tokens (c ∷ []) ≡ single-encode windows1252 c
-  unfolding single-encode or regular
+  pub windows-self : 0xA0 ≤ c → c ≤ 0xFF → tokens (c ∷ []) ≡ singleByteEncode windows1252 c
+  unfolding singleByteEncode or regular
   windows-self h g =
       let m : mapped c ≡ true = rw (le-leb 0x80 c (omega arith), le-leb c 0x10FFFF (omega arith), under 0xD800 c 0xDFFF (omega arith)) in
       let r : regular c ≡ true = rw (le-leb 0xA0 c h, le-leb c 0xFF g) in
@@ -186,8 +186,8 @@ module _ (c : ℕ) where
       rw (le-ltb c 0x80 (omega arith), e, z)
 
   -- what is found among the irregular ones
-  pub windows-more : (bs : List ℕ) → bytesOf (single-encode irregular c) ≡ some bs → bytesOf (single-encode windows1252 c) ≡ some bs
-  unfolding single-encode or
+  pub windows-more : (bs : List ℕ) → bytesOf (singleByteEncode irregular c) ≡ some bs → bytesOf (singleByteEncode windows1252 c) ≡ some bs
+  unfolding singleByteEncode or
   windows-more bs e = split (ltb c 0x80)
       (λ h. rw h (rw h at e))
       (λ h. rw (h, windows-pointer) (go (indexPointer irregular c) (pointerFrom 32 (countFrom 0xA0 96) c) (rw h at e)))
@@ -197,36 +197,36 @@ module _ (c : ℕ) where
       go none x e = let z : _≡_ {A = ℕ} 0 1 = cc in absurd (omega arith)
 
   -- x-user-defined
-  pub user-one : c < 0x80 → tokens (c ∷ []) ≡ user-encode c
-  unfolding user-encode
+  pub user-one : c < 0x80 → tokens (c ∷ []) ≡ userDefinedEncode c
+  unfolding userDefinedEncode
   user-one h = rw (lt-ltb c 0x80 h)
 
-  pub user-low : 0x80 ≤ c → c < 0xF780 → error-with c ≡ user-encode c
-  unfolding user-encode
+  pub user-low : 0x80 ≤ c → c < 0xF780 → error-with c ≡ userDefinedEncode c
+  unfolding userDefinedEncode
   user-low h g = rw (le-ltb c 0x80 h, under 0xF780 c 0xF7FF g)
 
-  pub user-byte : 0xF780 ≤ c → c ≤ 0xF7FF → tokens ((c - 0xF780 + 0x80) ∷ []) ≡ user-encode c
-  unfolding user-encode
+  pub user-byte : 0xF780 ≤ c → c ≤ 0xF7FF → tokens ((c - 0xF780 + 0x80) ∷ []) ≡ userDefinedEncode c
+  unfolding userDefinedEncode
   user-byte h g = rw (le-ltb c 0x80 (omega arith), le-leb 0xF780 c h, le-leb c 0xF7FF g)
 
-  pub user-high : 0xF7FF < c → error-with c ≡ user-encode c
-  unfolding user-encode
+  pub user-high : 0xF7FF < c → error-with c ≡ userDefinedEncode c
+  unfolding userDefinedEncode
   user-high g = rw (le-ltb c 0x80 (omega arith), above 0xF780 c 0xF7FF g)
 
 -- by the encoding's number
 module _ (e : ℕ) (table : List ℕ) (c : ℕ) where
-  pub of-utf8 : e ≡ 0 → utf8-encode c ≡ encoderOf e table c
+  pub of-utf8 : e ≡ 0 → utf8Encode c ≡ encoderOf e table c
   unfolding encoderOf
   of-utf8 h = rw (eq-eqb e 0 h)
 
-  pub of-windows-1252 : e ≡ 21 → single-encode windows1252 c ≡ encoderOf e table c
+  pub of-windows-1252 : e ≡ 21 → singleByteEncode windows1252 c ≡ encoderOf e table c
   unfolding encoderOf
   of-windows-1252 h = rw h
 
-  pub of-single-byte : (e ≡ 0 → ⊥) → (e ≡ 21 → ⊥) → e ≤ 28 → single-encode table c ≡ encoderOf e table c
+  pub of-single-byte : (e ≡ 0 → ⊥) → (e ≡ 21 → ⊥) → e ≤ 28 → singleByteEncode table c ≡ encoderOf e table c
   unfolding encoderOf
   of-single-byte h g k = rw (ne-eqb e 0 h, ne-eqb e 21 g, le-leb e 28 k)
 
-  pub of-user-defined : 28 < e → user-encode c ≡ encoderOf e table c
+  pub of-user-defined : 28 < e → userDefinedEncode c ≡ encoderOf e table c
   unfolding encoderOf
   of-user-defined h = rw (ne-eqb e 0 (omega arith), ne-eqb e 21 (omega arith), lt-leb e 28 h)

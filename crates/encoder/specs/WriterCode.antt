@@ -10,7 +10,7 @@ use Rattle.standard.specs.Base.{_then_else_, isScalar, scalars, mapped}
 use Rattle.standard.specs.Encodings.{family, Tables, fits}
 use Rattle.standard.specs.Indexes.{windows1252}
 use Rattle.standard.specs.Machine.{Result}
-use Rattle.standard.specs.Encoders.{utf8-bytes, utf8-encode, single-encode, user-encode}
+use Rattle.standard.specs.Encoders.{utf8-bytes, utf8Encode, singleByteEncode, userDefinedEncode}
 use Rattle.encoder_spec.specs.Writer.{bytesOf, Writing, writing, write}
 use Rattle.encoder_spec.specs.declared.Written.{Written}
 
@@ -37,10 +37,10 @@ writes e = leb e 28 || eqb e 39
 -- The encoder of such an encoding, with its first table.
 unfoldable pub encoderOf : ℕ → List ℕ → ℕ → Result
 encoderOf e table =
-    eqb e 0 then utf8-encode else
-    eqb e 21 then single-encode windows1252 else
-    leb e 28 then single-encode table else
-    user-encode
+    eqb e 0 then utf8Encode else
+    eqb e 21 then singleByteEncode windows1252 else
+    leb e 28 then singleByteEncode table else
+    userDefinedEncode
 
 -- Every slot holds a scalar, times 256, and its byte.
 pub record Slots (encode : ℕ → Result) (slots : List ℕ) : Type 0 where

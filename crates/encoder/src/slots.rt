@@ -4,7 +4,7 @@ ghost use mathlib.Core.Path.{_≡_};
 ghost use Prim.Native.Nat.{_≤_, _<_};
 ghost use lib.ListN.{length, replicate};
 ghost use Rattle.standard.specs.Indexes.{windows1252};
-ghost use Rattle.standard.specs.Encoders.{single-encode};
+ghost use Rattle.standard.specs.Encoders.{singleByteEncode};
 ghost use Rattle.encoder_spec.specs.Writer.{bytesOf};
 ghost use Rattle.encoder.specs.WriterCode.{given, encoderOf, Slots, OneByte, entered};
 
@@ -22,7 +22,7 @@ fn enter(slots: &mut [u32], c: u32, p: usize)
 // The cells of a table, from the last on, so that the first of equal cells stays.
 fn fill_table(table: &[u32], slots: &mut [u32])
     requires { ⌜ (length (now table) ≤ 128) × (now slots ≡ replicate 2048 0) ⌝ }
-    ensures { λ r. ⌜ Slots (single-encode (now (table .entry))) (now (slots .exit)) ⌝ }
+    ensures { λ r. ⌜ Slots (singleByteEncode (now (table .entry))) (now (slots .exit)) ⌝ }
 {
     let mut p = table.len();
     while 0 < p {
@@ -33,8 +33,8 @@ fn fill_table(table: &[u32], slots: &mut [u32])
 
 // A0 to FF of windows-1252, which stand for themselves.
 fn fill_regular(slots: &mut [u32])
-    requires { ⌜ (length (now slots) ≡ 2048) × Slots (single-encode windows1252) (now slots) ⌝ }
-    ensures { λ r. ⌜ Slots (single-encode windows1252) (now (slots .exit)) ⌝ }
+    requires { ⌜ (length (now slots) ≡ 2048) × Slots (singleByteEncode windows1252) (now slots) ⌝ }
+    ensures { λ r. ⌜ Slots (singleByteEncode windows1252) (now (slots .exit)) ⌝ }
 {
     let mut c: u32 = 0xA0;
     while c < 0x100 {

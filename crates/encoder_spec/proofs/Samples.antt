@@ -4,12 +4,12 @@ use Rattle.standard.specs.Base.{every}
 use Rattle.standard.specs.Encodings.{family, traits, fits}
 use Rattle.standard.specs.Indexes.{pointerFrom, irregular, countFrom, windows1252}
 use Rattle.standard.specs.Machine.{digits, reference}
-use Rattle.standard.specs.Encoders.{utf8-following, utf8-bytes, utf8-encode, single-encode}
+use Rattle.standard.specs.Encoders.{utf8-following, utf8-bytes, utf8Encode, singleByteEncode}
 use Rattle.encoder_spec.specs.Writer.{writing, writerCall}
 use Rattle.encoder_spec.specs.Samples.{Samples}
 
 pub samples : Samples
-unfolding every family traits fits pointerFrom irregular countFrom windows1252 digits reference utf8-following utf8-bytes utf8-encode single-encode writing writerCall
+unfolding every family traits fits pointerFrom irregular countFrom windows1252 digits reference utf8-following utf8-bytes utf8Encode singleByteEncode writing writerCall
 samples = record {
   sample-15-html = refl;
   sample-15-refusing = refl;

@@ -13,7 +13,7 @@ use Rattle.standard.specs.Base.{_then_else_, within, isScalar, mapped}
 use Rattle.standard.specs.Encodings.{Tables, Family}
 use Rattle.standard.specs.Indexes.{indexCodePoint, indexPointer, windows1252}
 use Rattle.standard.specs.Machine.{Result, tokens, error-with}
-use Rattle.standard.specs.Encoders.{utf8-following, utf8-bytes, utf8-encode, orErrorWith, single-encode, user-encode}
+use Rattle.standard.specs.Encoders.{utf8-following, utf8-bytes, utf8Encode, orErrorWith, singleByteEncode, userDefinedEncode}
 use Rattle.standard.specs.Sequence.{Next, item, text, plain, scalar, cell}
 use Rattle.standard.specs.Sequences.Utf8.{utf8, utf8Low, utf8High}
 use Rattle.standard.specs.Sequences.SingleByte.{singleByte}
@@ -121,8 +121,8 @@ module _ (c : ℕ) where
       (high _ _ (omega arith) (λ e. omega (arith, eighteen c)) (λ e. omega (arith, eighteen c)))
       (omega arith) (omega arith) (omega arith) (omega arith) (omega (arith, twelve c, eighteen c)))
 
-  utf8-front : c ≤ 0x10FFFF → within 0xD800 c 0xDFFF ≡ false → Front utf8 c (utf8-encode c)
-  unfolding utf8-encode
+  utf8-front : c ≤ 0x10FFFF → within 0xD800 c 0xDFFF ≡ false → Front utf8 c (utf8Encode c)
+  unfolding utf8Encode
   utf8-front top gap =
       choose (Front utf8 c) (ltb c 0x80) (λ h. leaf (c ∷ []) (λ ys. one-byte ys c h)) (λ h.
       choose (Front utf8 c) (leb c 0x7FF) (λ g. two-front (ltb-false c 0x80 h) (leb-true c 0x7FF g)) (λ g.
@@ -136,8 +136,8 @@ cell-of x c h = go (mapped x) h
     go true e = cc
     go false e = let z : _≡_ {A = ℕ} 0 1 = cc in absurd (omega arith)
 
-single-front : (index : List ℕ) (c : ℕ) → Front (singleByte index) c (single-encode index c)
-unfolding single-encode singleByte cell indexCodePoint
+single-front : (index : List ℕ) (c : ℕ) → Front (singleByte index) c (singleByteEncode index c)
+unfolding singleByteEncode singleByte cell indexCodePoint
 single-front index c = choose (Front (singleByte index) c) (ltb c 0x80) (λ h. leaf (c ∷ []) (λ ys. rw h)) (λ h. go (indexPointer index c) refl (ltb-false c 0x80 h))
   where
     go : (o : Option ℕ) → indexPointer index c ≡ o → 0x80 ≤ c → Front (singleByte index) c (orErrorWith o c)
@@ -146,8 +146,8 @@ single-front index c = choose (Front (singleByte index) c) (ltb c 0x80) (λ h. l
         leaf ((p + 0x80) ∷ []) (λ ys. rw (le-ltb (p + 0x80) 0x80 (omega arith), back, cell-of (getD index p 0) c (table-rule index c .found p e .1), ne-eqb c 0 (λ z. omega arith)))
 
 -- x-user-defined
-user-front : (c : ℕ) → Front userDefined c (user-encode c)
-unfolding user-encode userDefined
+user-front : (c : ℕ) → Front userDefined c (userDefinedEncode c)
+unfolding userDefinedEncode userDefined
 user-front c =
     choose (Front userDefined c) (ltb c 0x80) (λ h. leaf (c ∷ []) (λ ys. rw h)) (λ h.
     choose (Front userDefined c) (within 0xF780 c 0xF7FF) (λ g. let least : 0xF780 ≤ c = within-low 0xF780 c 0xF7FF g in

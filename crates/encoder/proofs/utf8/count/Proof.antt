@@ -3,7 +3,7 @@
 use Rattle.encoder.proofs.Counting.{Counted, counted-start, counted-end, counted-on, here-bytes}
 use Rattle.encoder.proofs.Scalars.{utf8-some}
 use Rattle.encoder.specs.WriterCode.{utf8Of}
-use Rattle.standard.specs.Encoders.{utf8-encode}
+use Rattle.standard.specs.Encoders.{utf8Encode}
 use lib.ListN.{length, getD}
 use Prim.Native.Nat.{_-_, _*_, _≤_}
 use native.Mathlib.Omega.{arith}
@@ -12,7 +12,7 @@ use Rattle.encoder.proofs.utf8.count.Statement.{statement}
 use Rattle.encoder.proofs.utf8.count.Tie as tie
 
 abbrev Inv-loop : tie.InvT-loop
-Inv-loop scalars n₀ i₀ n i = (n ≤ i * 4) × (i ≤ length scalars) × Counted utf8-encode 0 scalars n i
+Inv-loop scalars n₀ i₀ n i = (n ≤ i * 4) × (i ≤ length scalars) × Counted utf8Encode 0 scalars n i
 
 abbrev μ-loop : tie.MeasureT-loop
 μ-loop scalars n₀ i₀ n i = length scalars - i

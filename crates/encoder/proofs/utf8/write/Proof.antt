@@ -4,7 +4,7 @@ use mathlib.Core.List.{List}
 use Rattle.encoder.proofs.Counting.{Here, Running, running-start, running-end, running-room, running-on, here-bytes, scalar-at}
 use Rattle.encoder.proofs.Scalars.{utf8-some}
 use Rattle.encoder.specs.WriterCode.{utf8Of}
-use Rattle.standard.specs.Encoders.{utf8-encode}
+use Rattle.standard.specs.Encoders.{utf8Encode}
 use lib.ListN.{length, getD}
 use Prim.Native.Nat.{ℕ, _-_}
 use borrow.Author.Needs.{needs}
@@ -12,7 +12,7 @@ use Rattle.encoder.proofs.utf8.write.Statement.{statement}
 use Rattle.encoder.proofs.utf8.write.Tie as tie
 
 abbrev Inv-loop : tie.InvT-loop
-Inv-loop scalars room₀ o₀ i₀ room o i = Running utf8-encode 0 scalars room₀ room i o
+Inv-loop scalars room₀ o₀ i₀ room o i = Running utf8Encode 0 scalars room₀ room i o
 
 abbrev μ-loop : tie.MeasureT-loop
 μ-loop scalars room₀ o₀ i₀ room o i = length scalars - i
@@ -24,7 +24,7 @@ start c = c .before .before .before .before
 abbrev bytes : tie.In-loop Inv-loop μ-loop → List ℕ
 bytes c = utf8Of (getD (start c .args .scalars .now) (c .before .loop .i) 0)
 
-bytes-here : (c : tie.In-loop Inv-loop μ-loop) → Here utf8-encode 0 (start c .args .scalars .now) (c .before .loop .i) (bytes c)
+bytes-here : (c : tie.In-loop Inv-loop μ-loop) → Here utf8Encode 0 (start c .args .scalars .now) (c .before .loop .i) (bytes c)
 bytes-here c = here-bytes _ _ _ _ (c .loop-test .taken) (utf8-some _)
 
 loop-holds : tie.Need-loop-holds Inv-loop μ-loop
