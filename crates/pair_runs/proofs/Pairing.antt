@@ -30,9 +30,9 @@ use Rattle.sequences.proofs.Big5Leaves.{big5-led}
 use Rattle.sequences.proofs.EucJpLeaves.{euc-jp-led}
 use Rattle.sequences.proofs.EucKrLeaves.{euc-kr-led}
 use Rattle.sequences.proofs.Gb18030Leaves.{gb18030-led}
-use Rattle.sequences.proofs.ShiftJisLeaves.{shift-jis-led}
+use Rattle.sequences.proofs.ShiftJisLeaves.{shift-jis-led, code-private}
 use Rattle.pair_runs.specs.Layout.{leftOut, row, column}
-use Rattle.pair_runs.proofs.Layouts.{left-big5, left-shift-jis, row-in, row-out}
+use Rattle.pair_runs.proofs.Layouts.{left-big5, left-shift-jis, row-in, row-out, is-last}
 use Rattle.pair_runs.specs.Paired.{Paired}
 
 -- the code point after a lead, by its row and column
@@ -75,7 +75,7 @@ module _ (t1 t2 : List ℕ) (e : ℕ) (E : Paired e) where
       split (eqb e 31) (λ t. big5 (eqb-true e 31 t)) (λ f31.
       split (eqb e 32) (λ t. euc-jp (eqb-true e 32 t)) (λ f32.
       split (eqb e 34) (λ t. shift-jis (eqb-true e 34 t)) (λ f34.
-      euc-kr (let m = beyond 31 e (leb-false e 30 f30) (eqb-false e 31 f31) in let n = beyond 33 e (beyond 32 e m (eqb-false e 32 f32)) (E .other) in let o = beyond 34 e n (eqb-false e 34 f34) in omega arith)))))
+      euc-kr (is-last e E (leb-false e 30 f30) (eqb-false e 31 f31) (eqb-false e 32 f32) (eqb-false e 34 f34))))))
 
   -- a lead with a row
   lead-row : (b : ℕ) → row e b < noCell → (leftOut e b ≡ false) × (leads (layoutOf e) b ≡ true)
@@ -164,7 +164,7 @@ module _ (t1 t2 : List ℕ) (e : ℕ) (E : Paired e) where
 pub is-80 : (b : ℕ) → within 0x81 b 0xFE ≡ false → 0x80 ≤ b → b < 256 → (b ≡ 0xFF → ⊥) → b ≡ 0x80
 is-80 b f l m n = split (ltb b 0x81) (λ t. let k = ltb-true b 0x81 t in omega arith) (λ g. absurd (n (let k = out-above 0x81 b 0xFE f (ltb-false b 0x81 g) in omega arith)))
 
--- single bytes of Shift_JIS and EUC-JP, and katakana after 8E
+-- single bytes of Shift_JIS and EUC-JP, katakana after 8E, and pairs of the user rows
 module _ (t1 t2 : List ℕ) (b : ℕ) (xs : List ℕ) where
   pub kana-single : within 0xA1 b 0xDF ≡ true → next (lent t1 t2) (family 34) plain (b ∷ xs) ≡ scalar 1 (0xFF61 - 0xA1 + b)
   unfolding shiftJis
@@ -189,3 +189,10 @@ module _ (t1 t2 : List ℕ) (b : ℕ) (xs : List ℕ) where
   pub kana-pair : (c : ℕ) → b ≡ 0x8E → within 0xA1 c 0xDF ≡ true → next (lent t1 t2) (family 32) plain (b ∷ c ∷ xs) ≡ scalar 2 (0xFF61 - 0xA1 + c)
   unfolding eucJp
   kana-pair c h k = is-euc-jp t1 t2 32 plain (b ∷ c ∷ xs) refl ∙ rw (h, k) (trailed-some 1 2 c (0xFF61 - 0xA1 + c) (λ z. omega arith))
+
+  pub user-pair : (c p : ℕ) → p ≡ rowIn shiftJisLayout b + columnIn shiftJisLayout c → 8836 ≤ p → p ≤ 10715 →
+      next (lent t1 t2) (family 34) plain (b ∷ c ∷ xs) ≡ scalar 2 (0xE000 - 8836 + p)
+  user-pair c p e h k =
+      is-shift-jis t1 t2 34 plain (b ∷ c ∷ xs) refl ∙
+      shift-jis-led (lent t1 []) b (c ∷ xs) (led shiftJisLayout b (columnIn shiftJisLayout c) (omega (arith, e, k))) ∙
+      ap (pair c) (sym (code-private t1 b c p e h k)) ∙ trailed-some 1 2 c (0xE000 - 8836 + p) (λ z. omega arith)

@@ -1,9 +1,9 @@
 -- The rows and columns of the pairs that a run reads, by encoding number. Contracts of functions inside the library cite this. Assumes nothing.
 use mathlib.Core.Path.{_≡_}
-use mathlib.Core.Bool.{Bool, false}
+use mathlib.Core.Bool.{Bool, false, _&&_}
 use mathlib.Core.List.{List}
-use Prim.Native.Nat.{ℕ, _+_, _<_}
-use lib.Dec.{eqb}
+use Prim.Native.Nat.{ℕ, _+_, _-_, _*_, _<_}
+use lib.Dec.{ltb, leb, eqb}
 use lib.ListN.{length, getD}
 use Rattle.standard.specs.Base.{_then_else_, within}
 use Rattle.layouts.specs.Rows.{noCell, layoutOf}
@@ -18,6 +18,15 @@ row encoding b = leftOut encoding b then noCell else rowIn (layoutOf encoding) b
 
 unfoldable pub column : ℕ → ℕ → ℕ
 column encoding c = columnIn (layoutOf encoding) c
+
+-- n cells from a place on hold steps from a number on, and the others what they held
+unfoldable pub stepped : ℕ → ℕ → ℕ → ℕ → (ℕ → ℕ) → ℕ → ℕ
+stepped at n first step f j = leb at j && ltb j (at + n) then (first + (j - at)) * step else f j
+
+-- a table of 512 cells, by a function
+pub record Holds (table : List ℕ) (f : ℕ → ℕ) : Type 0 where
+  pub size : length table ≡ 512
+  pub cells : (j : ℕ) → j < 512 → getD table j 0 ≡ f j
 
 -- a table of all rows, and after them all columns
 pub record Laid (encoding : ℕ) (layout : List ℕ) : Type 0 where

@@ -8,12 +8,14 @@ use crate::layout::pair_row;
 use crate::layout::pointer_laid;
 use crate::layout::row_laid;
 use index::cell;
+use layouts::pointer;
 use layouts::within;
 use runs::Place;
 use runs::ascii::copy_ascii;
 use runs::next_at;
 use runs::plain_scalar_of;
 use runs::ready_plain;
+use runs::wide;
 ghost use mathlib.Core.Path.{_≡_};
 ghost use mathlib.Core.Bool.{true, false};
 ghost use mathlib.Core.List.{List, _∷_};
@@ -40,6 +42,20 @@ fn cell_of(encoding: u8, layout: &[u16], t1: &[u32], lead: u8, trail: u8) -> u32
     cell(t1, pair_pointer(encoding, lead, trail))
 }
 
+// The scalar of a pair of the user rows of Shift_JIS, 0 for none.
+fn user_pair(lead: u8, trail: u8) -> u32
+    ensures { λ r. ⌜ ((r ≡ 0 → ⊥) → (t1 t2 xs : List ℕ) → next (lent t1 t2) (family 34) plain (lead ∷ trail ∷ xs) ≡ scalar 2 r) ⌝ }
+{
+    let p = pointer(34, lead, trail);
+    if p < 8836 {
+        return 0;
+    }
+    if 10715 < p {
+        return 0;
+    }
+    0xE000 - 8836 + (p as u32)
+}
+
 // The scalar of a pair, 0 for none. EUC-JP has half-width katakana after 8E.
 fn pair(encoding: u8, layout: &[u16], t1: &[u32], lead: u8, trail: u8) -> u32
     requires { ⌜ (Paired encoding) × (length (now t1) ≤ 32768) × (length (now layout) ≡ 512 → Laid encoding (now layout)) ⌝ }
@@ -49,6 +65,9 @@ fn pair(encoding: u8, layout: &[u16], t1: &[u32], lead: u8, trail: u8) -> u32
     let c = cell_of(encoding, layout, t1, lead, trail);
     if c != 0 {
         return c;
+    }
+    if encoding == 34 {
+        return user_pair(lead, trail);
     }
     if lead != 0x8E {
         return 0;
@@ -173,7 +192,7 @@ fn searched(encoding: u8, t2: &[u32]) -> bool
     in_order(t2)
 }
 
-// ASCII, pairs, and anything else that gives one scalar. Tables are made in long stretches only.
+// ASCII, pairs, and anything else that gives one scalar. The rows and columns are laid out, and the ranges searched, only where it pays.
 fn text(
     encoding: u8,
     mode: u8,
@@ -187,7 +206,7 @@ fn text(
     requires { ⌜ (Paired encoding) × (length (now t1) ≤ 32768) × (Ready (now chunk) from (now room) place) ⌝ }
     ensures { λ r. ⌜ Run (lent (now (t1 .entry)) (now (t2 .entry))) (family encoding) mode (now (chunk .entry)) (placed from place 0 0) r (now (room .entry)) (now (room .exit)) ⌝ }
 {
-    if chunk.len() - from < 4096 {
+    if chunk.len() - from < 32 {
         let layout = [0u16; 1];
         let mut last = [0u16; 1];
         return items(
@@ -204,8 +223,24 @@ fn text(
             place,
         );
     }
-    let mut layout = [0u16; 512];
+    let mut layout = [32768u16; 512];
     lay_out(encoding, &mut layout);
+    if chunk.len() - from < 4096 {
+        let mut last = [0u16; 1];
+        return items(
+            encoding,
+            mode,
+            chunk,
+            t1,
+            t2,
+            &layout,
+            false,
+            &mut last,
+            from,
+            room,
+            place,
+        );
+    }
     let mut last = [0u16; 512];
     items(
         encoding,
@@ -234,6 +269,9 @@ pub fn pairs_run(
 ) -> Place
     ensures { λ r. ⌜ Run (lent (now (t1 .entry)) (now (t2 .entry))) (family encoding) mode (now (chunk .entry)) p r (now (room .entry)) (now (room .exit)) ⌝ }
 {
+    if chunk.len() < 2 {
+        return p;
+    }
     if !paired(encoding) {
         return p;
     }
@@ -280,14 +318,21 @@ fn items(
     let mut i = from;
     let mut o = place;
     while 2 <= chunk.len() - i {
-        let b = chunk[i];
-        if b < 0x80 {
+        let lead = chunk[i];
+        let trail = chunk[i + 1];
+        if lead < 0x80 {
+            if 0x80 <= trail {
+                room[o] = wide(lead);
+                i += 1;
+                o += 1;
+                continue;
+            }
             let k = copy_ascii(chunk, i, room, o);
             i += k;
             o += k;
             continue;
         }
-        let c = pair(encoding, layout, t1, b, chunk[i + 1]);
+        let c = pair(encoding, layout, t1, lead, trail);
         if c != 0 {
             room[o] = c;
             i += 2;
@@ -301,14 +346,14 @@ fn items(
             o += 1;
             continue;
         }
-        let s = single(encoding, mode, b);
+        let s = single(encoding, mode, lead);
         if s != 0 {
             room[o] = s;
             i += 1;
             o += 1;
             continue;
         }
-        let w = bad_width(encoding, mode, layout, b, chunk[i + 1]);
+        let w = bad_width(encoding, mode, layout, lead, trail);
         if w == 1 {
             room[o] = 0xFFFD;
             i += 1;
