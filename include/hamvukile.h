@@ -18,6 +18,7 @@
  *     int main(void) {
  *         const uint8_t text[] = { 0x80, 0x09, 0x41 };
  *         uint32_t room[3];
+ *         if (hamvukile_version() != HAMVUKILE_VERSION_NUMBER) return 1;
  *         hamvukile_found found = hamvukile_label((const uint8_t *)" Latin1", 7);
  *         if (found.refusal != 0) return 1;
  *         hamvukile_answer answer = hamvukile_open(found.encoding, HAMVUKILE_REPLACING, HAMVUKILE_DROP_MARK);
@@ -42,10 +43,17 @@ extern "C" {
 
 /* ---- Version --------------------------------------------------------------------------------------------------- */
 
-#define HAMVUKILE_VERSION "0.1.0"
+#define HAMVUKILE_VERSION "0.2.0"
 #define HAMVUKILE_VERSION_MAJOR 0
-#define HAMVUKILE_VERSION_MINOR 1
+#define HAMVUKILE_VERSION_MINOR 2
 #define HAMVUKILE_VERSION_PATCH 0
+
+/* The version as one number: 10,000 times major, 100 times minor, and patch. Records and calls of another version may
+ * differ, so a program that finds another number than this in the library has been linked with the wrong one. */
+#define HAMVUKILE_VERSION_NUMBER 200
+
+/* The version of the library. */
+uint32_t hamvukile_version(void);
 
 /* ---- Refusals -------------------------------------------------------------------------------------------------- */
 
@@ -65,7 +73,8 @@ enum {
     HAMVUKILE_MALFORMED = 11,         /* refusing mode met an error. The call was accepted up to there: what stands before
                                          the error is written, and a decoder has ended */
     HAMVUKILE_BAD_LINE = 12,          /* the line is no line of an index file */
-    HAMVUKILE_TAKEN_CELL = 13         /* the line's pointer is not below the table's length, or its cell is not 0 */
+    HAMVUKILE_TAKEN_CELL = 13,        /* the line's pointer is not below the table's length, or its cell is not 0 */
+    HAMVUKILE_TOO_MUCH = 14           /* with this chunk the decoder would have taken more than HAMVUKILE_MAX_TAKEN bytes */
 };
 
 /* Modes. */
@@ -90,6 +99,7 @@ enum {
     HAMVUKILE_MAX_HELD = 3,   /* bytes that a decoder holds */
     HAMVUKILE_MAX_NAME = 14   /* bytes of an encoding's name */
 };
+#define HAMVUKILE_MAX_TAKEN UINT32_C(4294967295) /* bytes that a decoder takes in all */
 
 /* ---- Encodings ------------------------------------------------------------------------------------------------- */
 
@@ -206,6 +216,8 @@ hamvukile_line hamvukile_index_line(const uint8_t *line, size_t length, uint32_t
 
 /* A decoder between calls: a value to keep and to hand back as it is. */
 typedef struct {
+    uint32_t taken; /* the bytes taken since the opening, a dropped mark and the bytes held among them */
+    uint32_t lines; /* the line feeds (U+000A) handed out since the opening */
     uint8_t encoding;
     uint8_t mode;
     uint8_t state;
@@ -220,6 +232,10 @@ typedef struct {
 /* What opening, feed and finish answer. */
 typedef struct {
     size_t written;            /* scalars at the front of the room */
+    uint32_t place;            /* with HAMVUKILE_MALFORMED the bytes taken since the opening before the first byte of the
+                                  sequence at fault; else 0 */
+    uint32_t line;             /* with HAMVUKILE_MALFORMED the line that it is in: one plus the line feeds handed out
+                                  before it; else 0 */
     uint8_t refusal;           /* 0 or a refusal */
     hamvukile_decoder decoder; /* the decoder from here on */
 } hamvukile_answer;
@@ -232,7 +248,8 @@ hamvukile_answer hamvukile_open(uint8_t encoding, uint8_t mode, uint8_t rule);
  * The room needs as many cells as the chunk has bytes and the decoder holds: chunk_length + decoder.held.
  * Text may be cut into chunks anywhere: the scalars are the same. The tables may be other ones in each call; they are
  * checked, and read, in this one. Refusals: HAMVUKILE_FORGED_DECODER, HAMVUKILE_ENDED_DECODER, HAMVUKILE_WRONG_TABLE,
- * HAMVUKILE_TOO_LONG, HAMVUKILE_SMALL_ROOM, in this order; then, in refusing mode, HAMVUKILE_MALFORMED. */
+ * HAMVUKILE_TOO_LONG, HAMVUKILE_TOO_MUCH, HAMVUKILE_SMALL_ROOM, in this order; then, in refusing mode,
+ * HAMVUKILE_MALFORMED. Place and line of an error are the same however the text is cut. */
 hamvukile_answer hamvukile_feed(hamvukile_decoder decoder, const uint8_t *chunk, size_t chunk_length,
                                 const uint32_t *first, size_t first_length, const uint32_t *second,
                                 size_t second_length, uint32_t *room, size_t room_length);

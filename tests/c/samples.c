@@ -17,6 +17,12 @@ static void check(const char *what, int same) {
     }
 }
 
+/* Are two decoders the same, field by field? */
+static int same_decoder(hamvukile_decoder a, hamvukile_decoder b) {
+    return a.taken == b.taken && a.lines == b.lines && a.encoding == b.encoding && a.mode == b.mode && a.state == b.state && a.flag == b.flag
+        && a.held == b.held && a.first == b.first && a.second == b.second && a.third == b.third && a.ended == b.ended;
+}
+
 /* Tables of unmapped cells, of the lengths that an encoding asks for. */
 static const uint32_t unmapped[HAMVUKILE_GB18030_CELLS];
 
@@ -158,6 +164,52 @@ static void user_rows(void) {
     USER("\xFA\x40", 0x4E00 + 10716);
 }
 
+/* Reads a text, cut by `cuts`, in refusing mode: the report 11 has this place and line, and came after so many bytes. */
+static void report_at(const char *what, uint8_t encoding, const char *bytes, size_t n, uint32_t at, uint32_t line) {
+    unsigned cuts;
+    for (cuts = 0; cuts < 1u << (n - 1); cuts++) {
+        size_t from = 0, end;
+        uint32_t room[64], lines = 0;
+        hamvukile_answer a = hamvukile_open(encoding, HAMVUKILE_REFUSING, HAMVUKILE_DROP_MARK);
+        int zeros = a.place == 0 && a.line == 0;
+        while (a.refusal == 0) {
+            uint32_t before = a.decoder.taken;
+            size_t i;
+            if (from == n) {
+                a = hamvukile_finish(a.decoder, room, a.decoder.held);
+                end = from;
+            } else {
+                for (end = from + 1; end < n && !(cuts >> (end - 1) & 1); end++) {}
+                a = feed(a.decoder, (const uint8_t *)bytes + from, end - from, tables_of(encoding), room, end - from + a.decoder.held);
+            }
+            for (i = 0; i < a.written; i++) lines += room[i] == 0x0A;
+            zeros = zeros && (a.refusal != 0 || (a.place == 0 && a.line == 0));
+            check("the bytes taken", a.decoder.taken == before + (end - from) && a.decoder.taken == end);
+            check("the line feeds handed out", a.decoder.lines == lines);
+            from = end;
+            if (a.decoder.ended) break;
+        }
+        check(what, a.refusal == HAMVUKILE_MALFORMED && a.place == at && a.line == line && zeros);
+    }
+}
+
+#define PLACE(what, encoding, bytes, at, line) report_at(what, encoding, BYTES(bytes), at, line)
+
+/* Places and lines of errors, in every cut. */
+static void places(void) {
+    PLACE("UTF-8: a lone byte in the third line", 0, "a\nb\n\xFF\n", 4, 3);
+    PLACE("UTF-8: a dropped mark counts", 0, "\xEF\xBB\xBF\n\xE2\x82x", 4, 2);
+    PLACE("UTF-8: an unfinished sequence at the end", 0, "ab\n\xF0\x9F\x92", 3, 2);
+    PLACE("Shift_JIS: a bad trail is put back", 34, "A\n\x82\n", 2, 2);
+    PLACE("gb18030: three bytes held", 30, "\n\x81\x30\x81 ", 1, 2);
+    PLACE("UTF-16LE: a unit 0A0A is no line", 38, "\x0A\x0A\x0A\x00\x00\xDC", 4, 2);
+    PLACE("UTF-16BE: one byte at the end", 37, "\x00\x0A\x00", 2, 2);
+    PLACE("ISO-2022-JP: the second of two escapes", 33, "\n\x1B(B\x1B(B", 4, 2);
+    PLACE("ISO-2022-JP: a lead before an escape", 33, "\x1B$B!\x1B(B", 3, 1);
+    PLACE("ISO-2022-JP: a line feed that is a trail is no line", 33, "\x1B$B!\x0A", 3, 1);
+    PLACE("replacement: the first byte", 36, "\nA", 0, 1);
+}
+
 /* Sample 15, and what else a writer answers. */
 static void writing(void) {
     static const uint32_t han[] = { 0x4E00 }, text[] = { 0x41, 0x4E00 }, surrogate[] = { 0x4E00, 0xD800 };
@@ -194,7 +246,7 @@ static void refusals(void) {
     check("16: E2 is held", a.refusal == 0 && a.written == 0 && a.decoder.held == 1);
     room[0] = UNTOUCHED;
     b = feed(a.decoder, (const uint8_t *)"\x82", 1, none, room, 1);
-    check("16: room 1", b.refusal == HAMVUKILE_SMALL_ROOM && b.written == 0 && memcmp(&a.decoder, &b.decoder, sizeof a.decoder) == 0 && room[0] == UNTOUCHED);
+    check("16: room 1", b.refusal == HAMVUKILE_SMALL_ROOM && b.written == 0 && same_decoder(a.decoder, b.decoder) && room[0] == UNTOUCHED);
     b = feed(a.decoder, (const uint8_t *)"\x82", 1, none, room, 2);
     check("16: room 2", b.refusal == 0 && b.written == 0 && b.decoder.held == 2);
     a = hamvukile_open(0, HAMVUKILE_REPLACING, HAMVUKILE_DROP_MARK);
@@ -212,11 +264,26 @@ static void refusals(void) {
     forged = hamvukile_open(0, 0, 0).decoder;
     forged.first = 1;
     b = hamvukile_finish(forged, room, 3);
-    check("5: a stale byte", b.refusal == HAMVUKILE_FORGED_DECODER && memcmp(&forged, &b.decoder, sizeof forged) == 0);
+    check("5: a stale byte", b.refusal == HAMVUKILE_FORGED_DECODER && same_decoder(forged, b.decoder));
+    forged = hamvukile_open(0, 0, HAMVUKILE_KEEP_MARK).decoder;
+    forged.taken = HAMVUKILE_MAX_TAKEN - 1;
+    forged.lines = HAMVUKILE_MAX_TAKEN - 1;
+    b = feed(forged, (const uint8_t *)"\n", 1, none, room, 1);
+    check("4,294,967,295 bytes in all", b.refusal == 0 && b.decoder.taken == HAMVUKILE_MAX_TAKEN && b.decoder.lines == HAMVUKILE_MAX_TAKEN);
+    check("14: a byte more", feed(b.decoder, chunk, 1, none, room, 0).refusal == HAMVUKILE_TOO_MUCH);
+    check("14: same decoder", same_decoder(feed(b.decoder, chunk, 1, none, room, 1).decoder, b.decoder));
+    check("8 before 14", feed(b.decoder, chunk, 65537, none, room, 65537).refusal == HAMVUKILE_TOO_LONG);
+    check("an empty chunk behind them", feed(b.decoder, chunk, 0, none, room, 0).refusal == 0);
+    check("a finish behind them", hamvukile_finish(b.decoder, room, 0).refusal == 0);
+    forged.lines = HAMVUKILE_MAX_TAKEN;
+    check("5: more line feeds than bytes", feed(forged, chunk, 1, none, room, 1).refusal == HAMVUKILE_FORGED_DECODER);
+    forged = hamvukile_open(HAMVUKILE_UTF_16LE, 0, HAMVUKILE_KEEP_MARK).decoder;
+    forged.taken = 3;
+    check("5: an odd number of bytes, none held, in UTF-16", hamvukile_finish(forged, room, 3).refusal == HAMVUKILE_FORGED_DECODER);
     a = hamvukile_open(0, HAMVUKILE_REFUSING, HAMVUKILE_DROP_MARK);
     room[1] = UNTOUCHED;
     a = feed(a.decoder, (const uint8_t *)"A\xFF" "B", 3, none, room, 3);
-    check("11: A FF B", a.refusal == HAMVUKILE_MALFORMED && a.written == 1 && room[0] == 0x41 && room[1] == UNTOUCHED && a.decoder.ended == 1);
+    check("11: A FF B", a.refusal == HAMVUKILE_MALFORMED && a.written == 1 && a.place == 1 && a.line == 1 && room[0] == 0x41 && room[1] == UNTOUCHED && a.decoder.ended == 1 && a.decoder.taken == 3);
     check("6: after report 11", feed(a.decoder, chunk, 1, none, room, 1).refusal == HAMVUKILE_ENDED_DECODER);
 }
 
@@ -305,6 +372,9 @@ static void constants(void) {
     }
     sprintf(version, "%d.%d.%d", HAMVUKILE_VERSION_MAJOR, HAMVUKILE_VERSION_MINOR, HAMVUKILE_VERSION_PATCH);
     check("the version", strcmp(version, HAMVUKILE_VERSION) == 0);
+    check("the version's number", HAMVUKILE_VERSION_NUMBER == 10000 * HAMVUKILE_VERSION_MAJOR + 100 * HAMVUKILE_VERSION_MINOR + HAMVUKILE_VERSION_PATCH);
+    check("the library's version", hamvukile_version() == HAMVUKILE_VERSION_NUMBER);
+    check("the sizes of the records", sizeof(hamvukile_decoder) == 20 && sizeof(hamvukile_answer) == 40);
 }
 
 /* A line, and what the call answers. */
@@ -345,6 +415,7 @@ static void part(const char *what, void (*run)(void)) {
 int main(void) {
     part("sample readings 1 to 14 in every cut", samples);
     part("user rows of Shift_JIS in every cut", user_rows);
+    part("places and lines of errors in every cut", places);
     part("writing, with sample 15", writing);
     part("refusals, with sample 16", refusals);
     part("labels and names", labels);

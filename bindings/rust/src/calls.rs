@@ -3,6 +3,12 @@
 use crate::ffi::{self, Answer, Decoder, Found, Line, Named, Written};
 
 #[inline]
+pub fn version() -> u32 {
+    // SAFETY: the call reads nothing.
+    unsafe { ffi::hamvukile_version() }
+}
+
+#[inline]
 pub fn label(bytes: &[u8]) -> Found {
     // SAFETY: the slice is valid for its length.
     unsafe { ffi::hamvukile_label(bytes.as_ptr(), bytes.len()) }

@@ -24,6 +24,8 @@ pub struct Line {
 #[repr(C)]
 #[derive(Clone, Copy, Debug, Default, PartialEq, Eq)]
 pub struct Decoder {
+    pub taken: u32,
+    pub lines: u32,
     pub encoding: u8,
     pub mode: u8,
     pub state: u8,
@@ -38,6 +40,8 @@ pub struct Decoder {
 #[repr(C)]
 pub struct Answer {
     pub written: usize,
+    pub place: u32,
+    pub line: u32,
     pub refusal: u8,
     pub decoder: Decoder,
 }
@@ -50,6 +54,7 @@ pub struct Written {
 }
 
 extern "C" {
+    pub fn hamvukile_version() -> u32;
     pub fn hamvukile_label(bytes: *const u8, length: usize) -> Found;
     pub fn hamvukile_name(encoding: u8, room: *mut u8, room_length: usize) -> Named;
     pub fn hamvukile_index_line(

@@ -32,12 +32,24 @@ pub const MAX_SCALARS: usize = 16_384;
 pub const MAX_LINE: usize = 1_024;
 /// The most bytes that a decoder holds.
 pub const MAX_HELD: usize = 3;
+/// The most bytes that a decoder takes in all.
+pub const MAX_TAKEN: u32 = u32::MAX;
 /// The most bytes that [`encode`] writes for a scalar.
 pub const MAX_BYTES_OF_A_SCALAR: usize = 10;
 const MAX_NAME: usize = 14;
 
+/// The version of the library that is linked: 10,000 times major, 100 times minor, and patch.
+///
+/// ```
+/// assert_eq!(hamvukile::version(), 200); // 0.2.0
+/// ```
+pub fn version() -> u32 {
+    calls::version()
+}
+
 /// Why a call was refused, by the library's numbers.
 #[derive(Clone, Copy, Debug, PartialEq, Eq, Hash)]
+#[non_exhaustive]
 #[repr(u8)]
 pub enum Refusal {
     /// The standard's table has no such label.
@@ -66,6 +78,8 @@ pub enum Refusal {
     BadLine = 12,
     /// The line's pointer is not below the table's length, or its cell is not 0.
     TakenCell = 13,
+    /// With this chunk the decoder would have taken more than [`MAX_TAKEN`] bytes.
+    TooMuch = 14,
 }
 
 impl Refusal {
@@ -89,6 +103,7 @@ impl Refusal {
             11 => Refusal::Malformed,
             12 => Refusal::BadLine,
             13 => Refusal::TakenCell,
+            14 => Refusal::TooMuch,
             _ => unreachable!("the library has no refusal {number}"),
         }
     }
@@ -110,12 +125,14 @@ impl fmt::Display for Refusal {
             Refusal::Malformed => "malformed text, or a scalar that cannot be written",
             Refusal::BadLine => "not a line of an index file",
             Refusal::TakenCell => "no free cell at the line's pointer",
+            Refusal::TooMuch => "a decoder takes at most 4,294,967,295 bytes",
         })
     }
 }
 
 /// What a call answers that was refused, or that met an error where errors are refused.
 #[derive(Clone, Copy, Debug, PartialEq, Eq)]
+#[non_exhaustive]
 pub struct Error {
     /// Why.
     pub refusal: Refusal,
@@ -123,23 +140,47 @@ pub struct Error {
     pub written: usize,
     /// With [`Refusal::Malformed`] of [`encode`] the index of the scalar that cannot be written; else 0.
     pub index: usize,
+    /// With [`Refusal::Malformed`] of a decoder the bytes taken since it was made before the first byte of the sequence at
+    /// fault; else 0.
+    pub place: u32,
+    /// With [`Refusal::Malformed`] of a decoder the line that the sequence is in: one plus the line feeds before it; else 0.
+    pub line: u32,
 }
 
 impl fmt::Display for Error {
     fn fmt(&self, f: &mut fmt::Formatter<'_>) -> fmt::Result {
-        self.refusal.fmt(f)
+        match (self.refusal, self.line) {
+            (Refusal::Malformed, 0) => write!(f, "scalar {} cannot be written", self.index),
+            (Refusal::Malformed, line) => {
+                write!(f, "malformed text in line {line}, at byte {}", self.place)
+            }
+            (refusal, _) => refusal.fmt(f),
+        }
     }
 }
 
 impl std::error::Error for Error {}
 
-fn result(refusal: u8, written: usize, index: usize) -> Result<usize, Error> {
-    match refusal {
-        0 => Ok(written),
+/// A refused call that wrote nothing.
+fn refused(refusal: u8) -> Error {
+    Error {
+        refusal: Refusal::of(refusal),
+        written: 0,
+        index: 0,
+        place: 0,
+        line: 0,
+    }
+}
+
+/// What a decoder's call comes to.
+fn decoded(answer: &ffi::Answer) -> Result<usize, Error> {
+    match answer.refusal {
+        0 => Ok(answer.written),
         n => Err(Error {
-            refusal: Refusal::of(n),
-            written,
-            index,
+            written: answer.written,
+            place: answer.place,
+            line: answer.line,
+            ..refused(n)
         }),
     }
 }
@@ -353,6 +394,7 @@ impl<'a> Tables<'a> {
 
 /// What a decoder does with malformed text.
 #[derive(Clone, Copy, Debug, PartialEq, Eq)]
+#[non_exhaustive]
 pub enum OnError {
     /// It writes U+FFFD and goes on.
     Replace = 0,
@@ -362,6 +404,7 @@ pub enum OnError {
 
 /// What a decoder does with a U+FEFF at the very front of UTF-8 or UTF-16.
 #[derive(Clone, Copy, Debug, PartialEq, Eq)]
+#[non_exhaustive]
 pub enum Mark {
     /// It drops it.
     Drop = 0,
@@ -385,14 +428,18 @@ pub enum Mark {
 /// assert_eq!(room[0], 0x20AC);
 /// ```
 ///
-/// Where errors are refused, what stands before the error is written, and the decoder has ended:
+/// Where errors are refused, what stands before the error is written, the error has a place and a line, and the decoder
+/// has ended:
 ///
 /// ```
 /// # use hamvukile::{Decoder, Encoding, Mark, OnError, Refusal, Tables};
 /// let mut decoder = Decoder::new(Encoding::UTF_8, OnError::Refuse, Mark::Drop);
 /// let mut room = [0; 3];
+/// assert_eq!(decoder.feed(b"x\n", &Tables::none(), &mut room), Ok(2));
 /// let report = decoder.feed(b"A\xFFB", &Tables::none(), &mut room).unwrap_err();
 /// assert_eq!((report.refusal, report.written), (Refusal::Malformed, 1));
+/// assert_eq!((report.place, report.line), (3, 2));
+/// assert_eq!(report.to_string(), "malformed text in line 2, at byte 3");
 /// assert!(decoder.is_ended());
 /// let after = decoder.feed(b"B", &Tables::none(), &mut room).unwrap_err();
 /// assert_eq!(after.refusal, Refusal::EndedDecoder);
@@ -422,6 +469,16 @@ impl Decoder {
         chunk + self.held()
     }
 
+    /// The bytes taken since it was made, a dropped mark and the bytes held among them.
+    pub fn taken(&self) -> u32 {
+        self.state.taken
+    }
+
+    /// The line feeds handed out since it was made.
+    pub fn lines(&self) -> u32 {
+        self.state.lines
+    }
+
     /// Has it ended?
     pub fn is_ended(&self) -> bool {
         self.state.ended != 0
@@ -437,13 +494,12 @@ impl Decoder {
     ) -> Result<usize, Error> {
         let answer = calls::feed(self.state, chunk, tables.first, tables.second, room);
         self.state = answer.decoder;
-        result(answer.refusal, answer.written, 0)
+        decoded(&answer)
     }
 
     /// The end of the text: writes what the bytes held give, and returns how many scalars.
     pub fn finish(self, room: &mut [u32; MAX_HELD]) -> Result<usize, Error> {
-        let answer = calls::finish(self.state, room);
-        result(answer.refusal, answer.written, 0)
+        decoded(&calls::finish(self.state, room))
     }
 }
 
@@ -487,6 +543,7 @@ fn scalar(c: &u32) -> char {
 
 /// What an encoder does with a scalar that cannot be written.
 #[derive(Clone, Copy, Debug, PartialEq, Eq)]
+#[non_exhaustive]
 pub enum OnUnwritable {
     /// It writes a reference, as `&#19968;`.
     Html = 0,
@@ -523,7 +580,14 @@ pub fn encode(
         tables.second,
         room,
     );
-    result(answer.refusal, answer.written, answer.index)
+    match answer.refusal {
+        0 => Ok(answer.written),
+        n => Err(Error {
+            written: answer.written,
+            index: answer.index,
+            ..refused(n)
+        }),
+    }
 }
 
 /// Enters a line of a published index file, without its line feed, into a table that starts as zeros. Returns the
@@ -541,7 +605,10 @@ pub fn encode(
 /// ```
 pub fn index_line(line: &[u8], table: &mut [u32]) -> Result<Option<u32>, Error> {
     let answer = calls::index_line(line, table);
-    result(answer.refusal, 0, 0).map(|_| (answer.entry == 1).then_some(answer.pointer))
+    match answer.refusal {
+        0 => Ok((answer.entry == 1).then_some(answer.pointer)),
+        n => Err(refused(n)),
+    }
 }
 
 #[cfg(test)]
@@ -571,7 +638,7 @@ mod tests {
 
     #[test]
     fn each_refusal_has_its_number() {
-        for number in 1..14 {
+        for number in 1..15 {
             assert_eq!(Refusal::of(number).number(), number);
         }
     }
@@ -608,7 +675,33 @@ mod tests {
     }
 
     #[test]
-    fn a_decoder_is_nine_bytes() {
-        assert_eq!(std::mem::size_of::<Decoder>(), 9);
+    fn a_decoder_is_twenty_bytes() {
+        assert_eq!(std::mem::size_of::<Decoder>(), 20);
+    }
+
+    #[test]
+    fn an_error_has_one_place_however_it_is_cut() {
+        let text = b"\xEF\xBB\xBFa\nb\n\xE2\x82x\n";
+        for cut in 0..=text.len() {
+            let mut decoder = Decoder::new(Encoding::UTF_8, OnError::Refuse, Mark::Drop);
+            let mut room = [0; 16];
+            let [one, other] = [&text[..cut], &text[cut..]];
+            let report = decoder
+                .feed(one, &Tables::none(), &mut room)
+                .and_then(|_| decoder.feed(other, &Tables::none(), &mut room))
+                .unwrap_err();
+            assert_eq!(
+                (report.refusal, report.place, report.line),
+                (Refusal::Malformed, 7, 3)
+            );
+            assert_eq!(decoder.lines(), 2);
+        }
+    }
+
+    #[test]
+    fn the_library_has_this_version() {
+        let header = include_str!("../../../include/hamvukile.h");
+        let line = format!("#define HAMVUKILE_VERSION_NUMBER {}", version());
+        assert!(header.contains(&line));
     }
 }

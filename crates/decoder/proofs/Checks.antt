@@ -2,16 +2,17 @@
 use mathlib.Core.Path.{_≡_, refl, sym, ap, _∙_}
 use mathlib.Core.Bool.{Bool, true, false, _&&_, _||_, not}
 use mathlib.Core.List.{List, [], _∷_}
-use Prim.Native.Nat.{ℕ, zero, suc, _+_, _≤_, _<_}
+use Prim.Native.Nat.{ℕ, zero, suc, _+_, _-_, _≤_, _<_}
 use native.Mathlib.Omega.{arith}
-use lib.Dec.{ltb, eqb}
+use lib.Dec.{ltb, leb, eqb}
 use lib.ListN.{length, take}
-use borrow.Author.Tests.{le-leb, lt-leb, le-ltb, lt-ltb, ne-eqb, eq-eqb}
-use Rattle.standard.specs.Base.{_then_else_}
-use Rattle.standard.specs.Encodings.{Family, family, traits, secondFits, Tables, noTables, fits}
+use borrow.Author.Tests.{ltb-true, ltb-false, eqb-false, le-leb, lt-leb, le-ltb, lt-ltb, ne-eqb, eq-eqb}
+use Rattle.standard.specs.Base.{_then_else_, lineFeeds}
+use Rattle.standard.specs.Encodings.{Family, family, Tables, noTables, fits}
 use Rattle.standard.specs.Sequence.{Shift, Next, more, item, shift, plain}
 use Rattle.standard.specs.Next.{next}
-use Rattle.standard.specs.Decode.{Item, Read, shown, broken, before}
+use Rattle.standard.specs.Items.{Read, shown, broken, before, reach}
+use Rattle.standard.proofs.Tests.{split}
 use Rattle.standard.proofs.AnyTables.{more-any}
 use Rattle.standard.proofs.Reading.{empty}
 use Rattle.sequences.specs.Code.{nextOf, outOf, front}
@@ -19,10 +20,11 @@ use Rattle.sequences.specs.declared.Sequence.{Sequence}
 use Rattle.reading.specs.Reading.{Result, refused, wrote, readChunk}
 use Rattle.reading.specs.Reading.{readEnd as readingEnd}
 use Rattle.reading.specs.declared.Left.{Left}
-use Rattle.decoder.specs.Record.{shiftOf, heldOf, holding, new, closed}
-use Rattle.decoder.specs.Valid.{possible, isMore, unused, validRest, valid}
-use Rattle.decoder.specs.Calls.{openRefusal, opening, Outcome, refuse, write, readOn, feedRefusal, feeding, readEnd, finishRefusal, finishing}
-use Rattle.decoder.specs.Code.{closing, refusing, heldIn, recordRefusal, Answers}
+use Rattle.decoder.specs.Record.{shiftOf, heldOf, new, closed}
+use Rattle.decoder.specs.Valid.{possible, endedTotals, isMore, unused, validRest, valid}
+use Rattle.decoder.specs.Calls.{openRefusal, opening, Outcome, refuse, write, report}
+use Rattle.decoder.specs.Calls.{readOn, feedRefusal, feeding, readEnd, finishRefusal, finishing}
+use Rattle.decoder.specs.Code.{accepting, refusing, heldIn, stillToTake, recordRefusal, Answers, fed, finished}
 use Rattle.decoder.specs.declared.Decoder.{Decoder}
 use Rattle.decoder.specs.declared.Answer.{Answer}
 use Rattle.decoder.proofs.Parts.{parts}
@@ -53,15 +55,23 @@ front-held (suc (suc (suc (suc n)))) a b c h = absurd (omega arith)
 
 -- no byte held
 pub none-started : (d : Decoder) → d .held ≡ 0 → true ≡ isMore (next noTables (family (d .encoding)) (shiftOf d) (heldOf d))
-none-started d h = sym (ap (λ (n : ℕ). isMore (next noTables (family (d .encoding)) (shiftOf d) (take n (d .first ∷ d .second ∷ d .third ∷ [])))) h ∙ ap isMore (empty noTables (family (d .encoding)) (shiftOf d)))
+none-started d h =
+    let f = family (d .encoding) in
+    sym (ap (λ (n : ℕ). isMore (next noTables f (shiftOf d) (take n (d .first ∷ d .second ∷ d .third ∷ [])))) h ∙
+    ap isMore (empty noTables f (shiftOf d)))
 
-pub started-is : (d : Decoder) (t : Tables) (q : Sequence) → d .held ≤ 3 → nextOf q ≡ next t (family (d .encoding)) (shift (d .state) (eqb (d .flag) 1)) (front (d .held) (d .first) (d .second) (d .third) 0) →
+pub started-is : (d : Decoder) (t : Tables) (q : Sequence) → d .held ≤ 3 →
+    nextOf q ≡ next t (family (d .encoding)) (shift (d .state) (eqb (d .flag) 1)) (front (d .held) (d .first) (d .second) (d .third) 0) →
     eqb (q .width) 0 ≡ isMore (next noTables (family (d .encoding)) (shiftOf d) (heldOf d))
-started-is d t q h e = sym (more-of q) ∙ ap isMore (e ∙ ap (next t (family (d .encoding)) (shiftOf d)) (front-held (d .held) (d .first) (d .second) (d .third) h)) ∙ more-same t noTables (family (d .encoding)) (shiftOf d) (heldOf d)
+started-is d t q h e =
+    let f = family (d .encoding) in
+    sym (more-of q) ∙ ap isMore (e ∙ ap (next t f (shiftOf d)) (front-held (d .held) (d .first) (d .second) (d .third) h)) ∙
+    more-same t noTables f (shiftOf d) (heldOf d)
 
 -- the bytes that are not in use
 module _ (d : Decoder) where
-  pub unused-yes : (ltb 2 (d .held) || eqb (d .third) 0) ≡ true → (ltb 1 (d .held) || eqb (d .second) 0) ≡ true → unused d ≡ (ltb 0 (d .held) || eqb (d .first) 0)
+  pub unused-yes : (ltb 2 (d .held) || eqb (d .third) 0) ≡ true → (ltb 1 (d .held) || eqb (d .second) 0) ≡ true →
+      unused d ≡ (ltb 0 (d .held) || eqb (d .first) 0)
   unfolding unused
   unused-yes p q = rw (p, q)
 
@@ -74,11 +84,14 @@ module _ (d : Decoder) where
   unused-third p = rw p
 
   -- the test of a record that has ended, and of one that has not
-  pub rest-open : (d .ended ≡ 1 → ⊥) → validRest d ≡ possible (family (d .encoding)) (d .mode) (shiftOf d) && isMore (next noTables (family (d .encoding)) (shiftOf d) (heldOf d))
+  pub rest-open : (d .ended ≡ 1 → ⊥) → validRest d ≡ leb (d .held) (d .taken) &&
+      possible (family (d .encoding)) (d .mode) (shiftOf d) (d .taken - d .held) (d .lines) &&
+      isMore (next noTables (family (d .encoding)) (shiftOf d) (heldOf d))
   unfolding validRest
   rest-open n = rw (ne-eqb (d .ended) 1 n)
 
-  pub rest-ended : d .ended ≡ 1 → validRest d ≡ eqb (d .held) 0 && eqb (d .state) 0 && eqb (d .flag) 0
+  pub rest-ended : d .ended ≡ 1 → validRest d ≡ eqb (d .held) 0 && eqb (d .state) 0 && eqb (d .flag) 0 &&
+      endedTotals (family (d .encoding)) (d .mode) (d .taken) (d .lines)
   unfolding validRest
   rest-ended n = rw (eq-eqb (d .ended) 1 n)
 
@@ -100,15 +113,18 @@ module _ (d : Decoder) where
 
   pub no-ended : d .encoding ≤ 39 → d .mode ≤ 1 → d .flag ≤ 1 → d .held ≤ 3 → 1 < d .ended → valid d ≡ false
   unfolding valid
-  no-ended a b c h n = rw (le-leb (d .encoding) 39 a, le-leb (d .mode) 1 b, le-leb (d .flag) 1 c, le-leb (d .held) 3 h, lt-leb (d .ended) 1 n)
+  no-ended a b c h n =
+      rw (le-leb (d .encoding) 39 a, le-leb (d .mode) 1 b, le-leb (d .flag) 1 c, le-leb (d .held) 3 h, lt-leb (d .ended) 1 n)
 
   pub no-unused : d .encoding ≤ 39 → d .mode ≤ 1 → d .flag ≤ 1 → d .held ≤ 3 → d .ended ≤ 1 → unused d ≡ false → valid d ≡ false
   unfolding valid
-  no-unused a b c h n u = rw (le-leb (d .encoding) 39 a, le-leb (d .mode) 1 b, le-leb (d .flag) 1 c, le-leb (d .held) 3 h, le-leb (d .ended) 1 n, u)
+  no-unused a b c h n u =
+      rw (le-leb (d .encoding) 39 a, le-leb (d .mode) 1 b, le-leb (d .flag) 1 c, le-leb (d .held) 3 h, le-leb (d .ended) 1 n, u)
 
   pub valid-rest : d .encoding ≤ 39 → d .mode ≤ 1 → d .flag ≤ 1 → d .held ≤ 3 → d .ended ≤ 1 → unused d ≡ true → valid d ≡ validRest d
   unfolding valid
-  valid-rest a b c h n u = rw (le-leb (d .encoding) 39 a, le-leb (d .mode) 1 b, le-leb (d .flag) 1 c, le-leb (d .held) 3 h, le-leb (d .ended) 1 n, u)
+  valid-rest a b c h n u =
+      rw (le-leb (d .encoding) 39 a, le-leb (d .mode) 1 b, le-leb (d .flag) 1 c, le-leb (d .held) 3 h, le-leb (d .ended) 1 n, u)
 
 -- the refusal that a record alone gives
 module _ (d : Decoder) where
@@ -125,7 +141,7 @@ module _ (d : Decoder) where
   record-0 v n = rw (v, ne-eqb (d .ended) 1 n)
 
   -- what no such refusal says
-  record-good : recordRefusal d ≡ 0 → (valid d ≡ true) × (eqb (d .ended) 1 ≡ false)
+  pub record-good : recordRefusal d ≡ 0 → (valid d ≡ true) × (eqb (d .ended) 1 ≡ false)
   unfolding recordRefusal
   record-good = go (valid d) (eqb (d .ended) 1)
     where
@@ -136,134 +152,155 @@ module _ (d : Decoder) where
 
 -- refused for the record, whatever number n the tests behind it give
 record-refused : (d : Decoder) (room : List ℕ) (o : Outcome) (n : ℕ) → (recordRefusal d ≡ 0 → ⊥) →
-    let m = not (valid d) then 5 else eqb (d .ended) 1 then 6 else n in (eqb m 0 then o else refuse m d room) ≡ refuse (recordRefusal d) d room
+    let m = not (valid d) then 5 else eqb (d .ended) 1 then 6 else n in
+    (eqb m 0 then o else refuse m d room) ≡ refuse (recordRefusal d) d room
 unfolding recordRefusal
 record-refused d room o n = go (valid d) (eqb (d .ended) 1)
   where
     go : (v e : Bool) → (_≡_ {A = ℕ} (not v then 5 else e then 6 else 0) 0 → ⊥) →
-        (eqb (not v then 5 else e then 6 else n) 0 then o else refuse (not v then 5 else e then 6 else n) d room) ≡ refuse (not v then 5 else e then 6 else 0) d room
+        (eqb (not v then 5 else e then 6 else n) 0 then o else refuse (not v then 5 else e then 6 else n) d room) ≡
+        refuse (not v then 5 else e then 6 else 0) d room
     go false e z = refl
     go true true z = refl
     go true false z = absurd (z refl)
+
+-- what reading leaves, by the test for a report
+unfoldable pub handed-by : Read → List ℕ → Bool → Result
+handed-by x room b =
+    b then wrote 11 (reach (x .items)) (before (x .items)) plain [] room else wrote 0 0 (shown (x .items)) (x .shift) (x .rest) room
+
+-- The answer of a call after which n bytes are taken: what it hands out, and its refusals.
+module _ (d : Decoder) (n : ℕ) (after : ℕ → Shift → List ℕ → Decoder) where
+  out-by : Read → List ℕ → Bool → Outcome
+  out-by x room b =
+      let k = d .lines + lineFeeds (before (x .items)) in
+      b then report (d .taken - d .held + reach (x .items)) (1 + k) (before (x .items)) (closed (d .encoding) (d .mode) n k) room else
+      write (shown (x .items)) (after (d .lines + lineFeeds (shown (x .items))) (x .shift) (x .rest)) room
+
+  handed-agree : (x : Read) (room : List ℕ) {l : Left} {a : Answer} {room′ : List ℕ} → Answers d n after l a → (b : Bool) →
+      l ≡ handed-by x room b .left → room′ ≡ handed-by x room b .room → (a ≡ out-by x room b .answer) × (room′ ≡ out-by x room b .room)
+  unfolding handed-by out-by
+  handed-agree x room A true p q = (A .reported (length (before (x .items))) (reach (x .items)) (lineFeeds (before (x .items))) p, q)
+  handed-agree x room A false p q = (A .read (length (shown (x .items))) (lineFeeds (shown (x .items))) (x .shift) (x .rest) p, q)
+
+  refuses : (k : ℕ) {l : Left} {a : Answer} → Answers d n after l a → eqb k 0 ≡ false → eqb k 11 ≡ false → l .refusal ≡ k → a ≡ refusing k d
+  refuses k A y z e =
+      A .refused (λ q. eqb-false k 0 y (sym e ∙ q)) (λ q. eqb-false k 11 z (sym e ∙ q)) ∙ ap (λ (i : ℕ). refusing i d) e
+
+-- the bytes that may still be taken
+still : (n k : ℕ) → n ≤ 4294967295 → ltb (4294967295 - n) k ≡ ltb 4294967295 (n + k)
+still n k h = split (ltb 4294967295 (n + k))
+    (λ e. lt-ltb (4294967295 - n) k (omega (arith, ltb-true 4294967295 (n + k) e)) ∙ sym e)
+    (λ e. le-ltb (4294967295 - n) k (omega (arith, ltb-false 4294967295 (n + k) e)) ∙ sym e)
 
 -- A feed: refused for the record, refused for the tables, and read.
 module _ (d : Decoder) (t : Tables) (chunk room : List ℕ) where
   pub feed-record : (recordRefusal d ≡ 0 → ⊥) → feeding d t chunk room ≡ refuse (recordRefusal d) d room
   unfolding feeding feedRefusal
-  feed-record n = record-refused d room _ _ n
+  feed-record z = record-refused d room _ _ z
+
+  -- the bytes taken after it, and what follows
+  abbrev pub fed-bytes : ℕ
+  fed-bytes = d .taken + length chunk
+
+  abbrev pub fed-after : ℕ → Shift → List ℕ → Decoder
+  fed-after = fed d fed-bytes
+
+  -- what reading leaves, and the call, by the tests behind those of the record and the tables
+  unfoldable pub left-by : (c f r b : Bool) → Result
+  left-by c f r b =
+      c then refused 8 (d .state) (d .flag) (heldIn d) room else
+      f then refused 14 (d .state) (d .flag) (heldIn d) room else
+      r then refused 7 (d .state) (d .flag) (heldIn d) room else handed-by (readOn d t chunk) room b
+
+  call-by : (c f r b : Bool) → Outcome
+  call-by c f r b =
+      let k : ℕ = c then 8 else f then 14 else r then 7 else 0 in
+      eqb k 0 then out-by d fed-bytes fed-after (readOn d t chunk) room b else refuse k d room
+
+  agree : {l : Left} {a : Answer} {room′ : List ℕ} → Answers d fed-bytes fed-after l a → (c f r b : Bool) →
+      l ≡ left-by c f r b .left → room′ ≡ left-by c f r b .room → (a ≡ call-by c f r b .answer) × (room′ ≡ call-by c f r b .room)
+  unfolding left-by call-by
+  agree A true f r b p q = (refuses d fed-bytes fed-after 8 A refl refl (ap (λ (l : Left). l .refusal) p), q)
+  agree A false true r b p q = (refuses d fed-bytes fed-after 14 A refl refl (ap (λ (l : Left). l .refusal) p), q)
+  agree A false false true b p q = (refuses d fed-bytes fed-after 7 A refl refl (ap (λ (l : Left). l .refusal) p), q)
+  agree A false false false b p q = handed-agree d fed-bytes fed-after (readOn d t chunk) room A b p q
 
   module _ (good : recordRefusal d ≡ 0) where
     pub feed-tables : fits (family (d .encoding)) t ≡ false → feeding d t chunk room ≡ refuse 4 d room
     unfolding feeding feedRefusal
     feed-tables f = let g = record-good d good in rw (g .0, g .1, f)
 
-    -- what reading leaves, and the call, by the tests behind those of the record and the tables
-    abbrev x : Read
-    x = readOn d t chunk
+    abbrev pub chunk-read : Result
+    chunk-read = readChunk (d .encoding) (d .mode) (d .state) (d .flag) (heldIn d) (stillToTake d) t chunk room
 
-    left-by : (c r b : Bool) → Result
-    left-by c r b =
-        c then refused 8 (d .state) (d .flag) (heldIn d) room else
-        r then refused 7 (d .state) (d .flag) (heldIn d) room else
-        b then wrote 11 (before (x .items)) plain [] room else wrote 0 (shown (x .items)) (x .shift) (x .rest) room
-
-    call-by : (c r b : Bool) → Outcome
-    call-by c r b =
-        let n : ℕ = c then 8 else r then 7 else 0 in
-        eqb n 0 then (b then write 11 (before (x .items)) (closed (d .encoding) (d .mode)) room else write 0 (shown (x .items)) (holding (d .encoding) (d .mode) (x .shift) (x .rest)) room) else
-        refuse n d room
-
-    refuses : (n : ℕ) {l : Left} {a : Answer} → Answers d l a → (n ≡ 0 → ⊥) → (n ≡ 11 → ⊥) → l .refusal ≡ n → a ≡ refusing n d
-    refuses n A z y e = A .refused (λ q. z (sym e ∙ q)) (λ q. y (sym e ∙ q)) ∙ ap (λ (k : ℕ). refusing k d) e
-
-    agree : {l : Left} {a : Answer} {room′ : List ℕ} → Answers d l a → (c r b : Bool) → l ≡ left-by c r b .left → room′ ≡ left-by c r b .room →
-        (a ≡ call-by c r b .answer) × (room′ ≡ call-by c r b .room)
-    unfolding left-by call-by
-    agree A true r b p q = (refuses 8 A (λ z. omega arith) (λ z. omega arith) (ap (λ (l : Left). l .refusal) p), q)
-    agree A false true b p q = (refuses 7 A (λ z. omega arith) (λ z. omega arith) (ap (λ (l : Left). l .refusal) p), q)
-    agree A false false true p q = (A .reported (length (before (x .items))) p, q)
-    agree A false false false p q = (A .read (length (shown (x .items))) (x .shift) (x .rest) p, q)
+    -- what reading leaves, by those tests
+    pub chunk-by : d .taken ≤ 4294967295 → chunk-read ≡ left-by (ltb 65536 (length chunk)) (ltb 4294967295 fed-bytes)
+        (ltb (length room) (length chunk + d .held)) (eqb (d .mode) 1 && broken (readOn d t chunk .items))
+    unfolding readChunk left-by handed-by
+    chunk-by h = rw (le-ltb 3 (d .held) (parts d (record-good d good .0) .held), still (d .taken) (length chunk) h)
 
     -- the answer that reading leads to is the call's
-    abbrev pub chunk-read : Result
-    chunk-read = readChunk (d .encoding) (d .mode) (d .state) (d .flag) (heldIn d) t chunk room
-
-    pub feed-read : fits (family (d .encoding)) t ≡ true → {l : Left} {a : Answer} {room′ : List ℕ} → Answers d l a → l ≡ chunk-read .left → room′ ≡ chunk-read .room →
+    pub feed-read : d .taken ≤ 4294967295 → fits (family (d .encoding)) t ≡ true →
+        {l : Left} {a : Answer} {room′ : List ℕ} → Answers d fed-bytes fed-after l a → l ≡ chunk-read .left → room′ ≡ chunk-read .room →
         (a ≡ feeding d t chunk room .answer) × (room′ ≡ feeding d t chunk room .room)
-    unfolding readChunk feeding feedRefusal left-by call-by
-    feed-read f A p q =
+    unfolding feeding feedRefusal call-by out-by
+    feed-read h f A p q =
         let g = record-good d good in
-        let z = le-ltb 3 (d .held) (parts d (g .0) .held) in
-        rw (g .0, g .1, f) (agree A (ltb 65536 (length chunk)) (ltb (length room) (length chunk + d .held)) (eqb (d .mode) 1 && broken (x .items)) (rw z at p) (rw z at q))
+        let e = chunk-by h in
+        rw (g .0, g .1, f) (agree A (ltb 65536 (length chunk)) (ltb 4294967295 fed-bytes) (ltb (length room) (length chunk + d .held))
+        (eqb (d .mode) 1 && broken (readOn d t chunk .items)) (p ∙ ap (λ (y : Result). y .left) e) (q ∙ ap (λ (y : Result). y .room) e))
 
 -- A finish: refused for the record, refused for the room, and ended.
 module _ (d : Decoder) (room : List ℕ) where
   pub finish-record : (recordRefusal d ≡ 0 → ⊥) → finishing d room ≡ refuse (recordRefusal d) d room
   unfolding finishing finishRefusal
-  finish-record n = record-refused d room _ _ n
+  finish-record z = record-refused d room _ _ z
 
-  abbrev is : List Item
-  is = readEnd d
+  abbrev pub end : Read
+  end = record { items = readEnd d; shift = plain; rest = [] }
 
-  end-by : (r b : Bool) → Result
+  unfoldable pub end-by : (r b : Bool) → Result
   end-by r b =
-      r then refused 7 (d .state) (d .flag) (heldIn d) room else
-      b then wrote 11 (before is) plain [] room else wrote 0 (shown is) plain [] room
+      r then refused 7 (d .state) (d .flag) (heldIn d) room else handed-by end room b
 
   finish-by : (r b : Bool) → Outcome
   finish-by r b =
-      let n : ℕ = r then 7 else 0 in
-      eqb n 0 then (b then write 11 (before is) (closed (d .encoding) (d .mode)) room else write 0 (shown is) (closed (d .encoding) (d .mode)) room) else
-      refuse n d room
+      let k : ℕ = r then 7 else 0 in
+      eqb k 0 then out-by d (d .taken) (finished d) end room b else refuse k d room
 
-  -- 7 is the room's refusal; else the decoder ends with what the end of input gave
-  answer-by : Left → Answer
-  answer-by l = eqb (l .refusal) 7 then refusing 7 d else closing (d .encoding) (d .mode) (l .refusal) (l .written)
+  ends-agree : {l : Left} {a : Answer} {room′ : List ℕ} → Answers d (d .taken) (finished d) l a → (r b : Bool) →
+      l ≡ end-by r b .left → room′ ≡ end-by r b .room → (a ≡ finish-by r b .answer) × (room′ ≡ finish-by r b .room)
+  unfolding end-by finish-by
+  ends-agree A true b p q = (refuses d (d .taken) (finished d) 7 A refl refl (ap (λ (l : Left). l .refusal) p), q)
+  ends-agree A false b p q = handed-agree d (d .taken) (finished d) end room A b p q
 
-  ends-by : {l : Left} {room′ : List ℕ} (r b : Bool) → l ≡ end-by r b .left → room′ ≡ end-by r b .room → (answer-by l ≡ finish-by r b .answer) × (room′ ≡ finish-by r b .room)
-  unfolding end-by finish-by answer-by
-  ends-by true b p q = (ap answer-by p, q)
-  ends-by false true p q = (ap answer-by p, q)
-  ends-by false false p q = (ap answer-by p, q)
+  module _ (good : recordRefusal d ≡ 0) where
+    abbrev pub end-read : Result
+    end-read = readingEnd (d .encoding) (d .mode) (d .state) (d .flag) (heldIn d) room
 
-  abbrev pub end-read : Result
-  end-read = readingEnd (d .encoding) (d .mode) (d .state) (d .flag) (heldIn d) room
+    pub end-is : end-read ≡ end-by (ltb (length room) (d .held)) (eqb (d .mode) 1 && broken (readEnd d))
+    unfolding readingEnd end-by handed-by
+    end-is = rw (le-ltb 3 (d .held) (parts d (record-good d good .0) .held))
 
-  finish-read : recordRefusal d ≡ 0 → {l : Left} {room′ : List ℕ} → l ≡ end-read .left → room′ ≡ end-read .room →
-      (answer-by l ≡ finishing d room .answer) × (room′ ≡ finishing d room .room)
-  unfolding readingEnd finishing finishRefusal end-by finish-by
-  finish-read good p q =
-      let g = record-good d good in
-      let z = le-ltb 3 (d .held) (parts d (g .0) .held) in
-      rw (g .0, g .1) (ends-by (ltb (length room) (d .held)) (eqb (d .mode) 1 && broken is) (rw z at p) (rw z at q))
-
-  pub finish-seven : recordRefusal d ≡ 0 → {l : Left} {room′ : List ℕ} → l .refusal ≡ 7 → l ≡ end-read .left → room′ ≡ end-read .room →
-      (refusing 7 d ≡ finishing d room .answer) × (room′ ≡ finishing d room .room)
-  unfolding answer-by
-  finish-seven good {l} h p q = rw (eq-eqb (l .refusal) 7 h) at (finish-read good p q)
-
-  pub finish-ends : recordRefusal d ≡ 0 → {l : Left} {room′ : List ℕ} → (l .refusal ≡ 7 → ⊥) → l ≡ end-read .left → room′ ≡ end-read .room →
-      (closing (d .encoding) (d .mode) (l .refusal) (l .written) ≡ finishing d room .answer) × (room′ ≡ finishing d room .room)
-  unfolding answer-by
-  finish-ends good {l} h p q = rw (ne-eqb (l .refusal) 7 h) at (finish-read good p q)
+    pub finish-read : {l : Left} {a : Answer} {room′ : List ℕ} → Answers d (d .taken) (finished d) l a →
+        l ≡ end-read .left → room′ ≡ end-read .room → (a ≡ finishing d room .answer) × (room′ ≡ finishing d room .room)
+    unfolding finishing finishRefusal finish-by out-by
+    finish-read A p q =
+        let g = record-good d good in
+        rw (g .0, g .1) (ends-agree A (ltb (length room) (d .held)) (eqb (d .mode) 1 && broken (readEnd d))
+        (p ∙ ap (λ (y : Result). y .left) end-is) (q ∙ ap (λ (y : Result). y .room) end-is))
 
 -- opening
 module _ (e m rule : ℕ) where
-  pub open-2 : 39 < e → opening e m rule ≡ closing 0 0 2 0
+  pub open-2 : 39 < e → opening e m rule ≡ refusing 2 (closed 0 0 0 0)
   unfolding opening openRefusal
   open-2 h = rw (lt-ltb 39 e h)
 
-  pub open-3 : e ≤ 39 → ltb 1 m || ltb 1 rule ≡ true → opening e m rule ≡ closing 0 0 3 0
+  pub open-3 : e ≤ 39 → ltb 1 m || ltb 1 rule ≡ true → opening e m rule ≡ refusing 3 (closed 0 0 0 0)
   unfolding opening openRefusal
   open-3 h k = rw (le-ltb 39 e h, k)
 
-  pub open-0 : e ≤ 39 → m ≤ 1 → rule ≤ 1 → opening e m rule ≡ record { written = 0; refusal = 0; decoder = new e m rule }
+  pub open-0 : e ≤ 39 → m ≤ 1 → rule ≤ 1 → opening e m rule ≡ accepting 0 (new e m rule)
   unfolding opening openRefusal
   open-0 h l r = rw (le-ltb 39 e h, le-ltb 1 m l, le-ltb 1 rule r)
-
--- a conjunction, by its first half
-pub all-first : {a b : Bool} → a ≡ true → a && b ≡ b
-all-first h = rw h
-
-pub all-no : {a : Bool} (b : Bool) → a ≡ false → a && b ≡ false
-all-no b h = rw h

@@ -1,15 +1,17 @@
 -- What the code tells from an encoding number, by its tests. Assumes nothing.
-use mathlib.Core.Path.{_≡_, refl}
-use mathlib.Core.Bool.{Bool, true, false, _&&_, _||_, not}
-use Prim.Native.Nat.{ℕ, _%_, _≤_, _<_}
+use mathlib.Core.Path.{_≡_, refl, sym, _∙_}
+use mathlib.Core.Bool.{Bool, true, false, _&&_, _||_}
+use Prim.Native.Nat.{ℕ, _*_, _/_, _%_, _≤_, _<_}
+use native.Mathlib.Nat.{div-add-mod', mod-lt}
 use native.Mathlib.Omega.{arith}
-use lib.Dec.{leb, eqb}
-use borrow.Author.Tests.{eqb-false, le-leb, lt-leb, ne-eqb}
+use lib.Dec.{leb, eqb, lit≤}
+use borrow.Author.Tests.{leb-true, leb-false, eqb-true, eqb-false, le-leb, lt-leb, eq-eqb, ne-eqb}
 use Rattle.standard.specs.Base.{_then_else_}
-use Rattle.standard.specs.Encodings.{Family, UTF-8, single-byte, windows-1252, GB18030, Big5, EUC-JP, ISO-2022-JP, Shift-JIS, EUC-KR, Replacement, UTF-16BE, UTF-16LE, x-user-defined, family, traits, secondFits}
+use Rattle.standard.specs.Encodings.{family, traits}
 use Rattle.standard.specs.Sequence.{Shift}
+use Rattle.standard.proofs.Tests.{split}
 use Rattle.standard.proofs.Families.{by-family}
-use Rattle.decoder.specs.Valid.{possible}
+use Rattle.decoder.specs.Valid.{unshifted, marking, paired, replaced, escaping, possible, endedTotals}
 
 -- whether rule "drop" applies
 pub marked-is : (e : ℕ) → traits (family e) .mark ≡ (eqb e 0 then true else eqb e 37 then true else eqb e 38)
@@ -30,39 +32,108 @@ marked-is e = by-family (λ f. traits f .mark ≡ (eqb e 0 then true else eqb e 
   c39 = λ l. rw (ne-eqb e 0 (λ z. omega arith), ne-eqb e 37 (λ z. omega arith), ne-eqb e 38 (λ z. omega arith));
 })
 
+-- a number with the test of most encodings
+record Plain (e : ℕ) : Type 0 where
+  n0 : eqb e 0 ≡ false
+  n33 : eqb e 33 ≡ false
+  n36 : eqb e 36 ≡ false
+  n37 : eqb e 37 ≡ false
+  n38 : eqb e 38 ≡ false
+
+plain-low : (e : ℕ) → 1 ≤ e → e ≤ 30 → Plain e
+plain-low e l u = record {
+  n0 = ne-eqb e 0 (λ z. omega arith);
+  n33 = ne-eqb e 33 (λ z. omega arith);
+  n36 = ne-eqb e 36 (λ z. omega arith);
+  n37 = ne-eqb e 37 (λ z. omega arith);
+  n38 = ne-eqb e 38 (λ z. omega arith);
+}
+
+plain-high : (e : ℕ) → 39 ≤ e → Plain e
+plain-high e l = record {
+  n0 = ne-eqb e 0 (λ z. omega arith);
+  n33 = ne-eqb e 33 (λ z. omega arith);
+  n36 = ne-eqb e 36 (λ z. omega arith);
+  n37 = ne-eqb e 37 (λ z. omega arith);
+  n38 = ne-eqb e 38 (λ z. omega arith);
+}
+
 -- the shifts that are possible
-abbrev poss : ℕ → ℕ → Shift → Bool → Bool
-poss e m s mark = eqb e 33 then leb (s .state) 3 else not (eqb (s .state) 0) then false else not (s .flag) then true else mark then true else eqb e 36 then eqb m 0 else false
+abbrev poss : ℕ → ℕ → Shift → ℕ → ℕ → Bool
+poss e m s c l =
+    eqb e 0 then marking s c l else
+    eqb e 33 then escaping m s c l else
+    eqb e 36 then replaced m s c l else
+    eqb e 37 then paired s c l else
+    eqb e 38 then paired s c l else unshifted s c l
 
-clear : (a b : Bool) → a && not b ≡ (not a then false else not b then true else false)
-clear true true = refl
-clear true false = refl
-clear false b = refl
+poss-plain : (e m : ℕ) (s : Shift) (c l : ℕ) → Plain e → unshifted s c l ≡ poss e m s c l
+poss-plain e m s c l p = rw (p .n0, p .n33, p .n36, p .n37, p .n38)
 
-marked-any : (a b : Bool) → a ≡ (not a then false else not b then true else true)
-marked-any true true = refl
-marked-any true false = refl
-marked-any false b = refl
-
-given-error : (a b c : Bool) → a && (not b || c) ≡ (not a then false else not b then true else c)
-given-error true true c = refl
-given-error true false c = refl
-given-error false b c = refl
-
-pub possible-is : (e m : ℕ) (s : Shift) → possible (family e) m s ≡ poss e m s (traits (family e) .mark)
-unfolding possible traits
-possible-is e m s = by-family (λ f. possible f m s ≡ poss e m s (traits f .mark)) e (record {
-  c0 = λ h. rw h (marked-any (eqb (s .state) 0) (s .flag));
-  c21 = λ h. rw h (clear (eqb (s .state) 0) (s .flag));
-  c1-28 = λ l u n. rw (ne-eqb e 33 (λ z. omega arith), ne-eqb e 36 (λ z. omega arith)) (clear (eqb (s .state) 0) (s .flag));
-  c29-30 = λ l u. rw (ne-eqb e 33 (λ z. omega arith), ne-eqb e 36 (λ z. omega arith)) (clear (eqb (s .state) 0) (s .flag));
-  c31 = λ h. rw h (clear (eqb (s .state) 0) (s .flag));
-  c32 = λ h. rw h (clear (eqb (s .state) 0) (s .flag));
+pub possible-is : (e m : ℕ) (s : Shift) (c l : ℕ) → possible (family e) m s c l ≡ poss e m s c l
+unfolding possible
+possible-is e m s c l = by-family (λ f. possible f m s c l ≡ poss e m s c l) e (record {
+  c0 = λ h. rw h;
+  c21 = λ h. rw h;
+  c1-28 = λ a b n. poss-plain e m s c l (plain-low e a (omega arith));
+  c29-30 = λ a b. poss-plain e m s c l (plain-low e (omega arith) b);
+  c31 = λ h. rw h;
+  c32 = λ h. rw h;
   c33 = λ h. rw h;
-  c34 = λ h. rw h (clear (eqb (s .state) 0) (s .flag));
-  c35 = λ h. rw h (clear (eqb (s .state) 0) (s .flag));
-  c36 = λ h. rw h (given-error (eqb (s .state) 0) (s .flag) (eqb m 0));
-  c37 = λ h. rw h (marked-any (eqb (s .state) 0) (s .flag));
-  c38 = λ h. rw h (marked-any (eqb (s .state) 0) (s .flag));
-  c39 = λ l. rw (ne-eqb e 33 (λ z. omega arith), ne-eqb e 36 (λ z. omega arith)) (clear (eqb (s .state) 0) (s .flag));
+  c34 = λ h. rw h;
+  c35 = λ h. rw h;
+  c36 = λ h. rw h;
+  c37 = λ h. rw h;
+  c38 = λ h. rw h;
+  c39 = λ a. poss-plain e m s c l (plain-high e a);
 })
+
+-- the totals of a decoder that has ended
+abbrev totals : ℕ → ℕ → ℕ → ℕ → Bool
+totals e m n l =
+    eqb e 36 then eqb l 0 && (eqb m 0 || leb n 65536) else
+    eqb e 37 then leb (2 * l) n else
+    eqb e 38 then leb (2 * l) n else leb l n
+
+totals-plain : (e m n l : ℕ) → Plain e → leb l n ≡ totals e m n l
+totals-plain e m n l p = rw (p .n36, p .n37, p .n38)
+
+pub totals-is : (e m n l : ℕ) → endedTotals (family e) m n l ≡ totals e m n l
+unfolding endedTotals
+totals-is e m n l = by-family (λ f. endedTotals f m n l ≡ totals e m n l) e (record {
+  c0 = λ h. rw h;
+  c21 = λ h. rw h;
+  c1-28 = λ a b x. totals-plain e m n l (plain-low e a (omega arith));
+  c29-30 = λ a b. totals-plain e m n l (plain-low e (omega arith) b);
+  c31 = λ h. rw h;
+  c32 = λ h. rw h;
+  c33 = λ h. rw h;
+  c34 = λ h. rw h;
+  c35 = λ h. rw h;
+  c36 = λ h. rw h;
+  c37 = λ h. rw h;
+  c38 = λ h. rw h;
+  c39 = λ a. totals-plain e m n l (plain-high e a);
+})
+
+two : 0 < 2
+two = lit≤ tt
+
+-- Two bytes for a line feed: by half of the bytes.
+pub half : (n l : ℕ) → leb l (n / 2) ≡ leb (2 * l) n
+half n l = split (leb l (n / 2))
+    (λ h. h ∙ sym (le-leb (2 * l) n (omega (arith, leb-true l (n / 2) h, div-add-mod' n 2))))
+    (λ h. h ∙ sym (lt-leb (2 * l) n (omega (arith, leb-false l (n / 2) h, div-add-mod' n 2, mod-lt n two))))
+
+half-none : (n : ℕ) → n % 2 ≡ 0 → eqb (n / 2) 0 ≡ eqb n 0
+half-none n e = split (eqb n 0)
+    (λ h. eq-eqb (n / 2) 0 (omega (arith, eqb-true n 0 h, div-add-mod' n 2)) ∙ sym h)
+    (λ h. ne-eqb (n / 2) 0 (λ z. eqb-false n 0 h (omega (arith, div-add-mod' n 2))) ∙ sym h)
+
+-- UTF-16 is tested as UTF-8, by pairs of bytes.
+pub by-pairs : (s : Shift) (c l : ℕ) → c % 2 ≡ 0 → marking s (c / 2) l ≡ paired s c l
+by-pairs s c l e = rw (eq-eqb (c % 2) 0 e, half c l, half-none c e) (go (eqb (s .state) 0) _)
+  where
+    go : (t x : Bool) → t && x ≡ (t && true) && x
+    go true x = refl
+    go false x = refl

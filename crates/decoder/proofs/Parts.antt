@@ -1,7 +1,7 @@
 -- The test of a record, part by part. Assumes nothing.
 use mathlib.Core.Path.{_≡_}
 use mathlib.Core.Bool.{true, _&&_}
-use Prim.Native.Nat.{ℕ, _≤_}
+use Prim.Native.Nat.{_≤_}
 use lib.Dec.{leb}
 use borrow.Author.Tests.{le-leb, leb-true}
 use Rattle.standard.proofs.Tests.{and-left, and-right}
@@ -20,7 +20,14 @@ pub record Parts (d : Decoder) : Type 0 where
 
 pub to-valid : (d : Decoder) → Parts d → valid d ≡ true
 unfolding valid
-to-valid d p = rw (le-leb (d .encoding) 39 (p .encoding), le-leb (d .mode) 1 (p .mode), le-leb (d .flag) 1 (p .flag), le-leb (d .held) 3 (p .held), le-leb (d .ended) 1 (p .ended), p .unused) (p .rest)
+to-valid d p = rw (
+  le-leb (d .encoding) 39 (p .encoding),
+  le-leb (d .mode) 1 (p .mode),
+  le-leb (d .flag) 1 (p .flag),
+  le-leb (d .held) 3 (p .held),
+  le-leb (d .ended) 1 (p .ended),
+  p .unused,
+) (p .rest)
 
 pub parts : (d : Decoder) → valid d ≡ true → Parts d
 unfolding valid

@@ -2,14 +2,15 @@
 use mathlib.Core.Path.{_≡_, refl, ap, _∙_}
 use mathlib.Core.Bool.{Bool, true, false}
 use mathlib.Core.List.{List, [], _∷_}
-use Prim.Native.Nat.{ℕ, _≤_}
+use Prim.Native.Nat.{ℕ, _+_, _-_, _≤_}
 use native.Mathlib.Omega.{arith}
 use lib.Dec.{eqb}
 use lib.ListN.{length}
 use Rattle.standard.specs.Sequence.{Shift}
+use Rattle.reading.specs.Reading.{leaves}
 use Rattle.reading.specs.declared.Left.{Left}
 use Rattle.decoder.specs.Record.{bit, shiftOf, heldOf, holding}
-use Rattle.decoder.specs.Code.{Holds, closing, refusing, Answers}
+use Rattle.decoder.specs.Code.{accepting, reporting, refusing, Answers}
 use Rattle.decoder.specs.declared.Decoder.{Decoder}
 use Rattle.decoder.specs.declared.Answer.{Answer}
 
@@ -17,19 +18,21 @@ pub bit-back : (b : Bool) → eqb (bit b) 1 ≡ b
 bit-back true = refl
 bit-back false = refl
 
-pub shift-holding : (e m : ℕ) (s : Shift) (xs : List ℕ) → shiftOf (holding e m s xs) ≡ s
-shift-holding e m s xs = λ i. record { state = s .state; flag = bit-back (s .flag) i }
+pub shift-holding : (e m n l : ℕ) (s : Shift) (xs : List ℕ) → shiftOf (holding e m n l s xs) ≡ s
+shift-holding e m n l s xs = λ i. record { state = s .state; flag = bit-back (s .flag) i }
 
-pub held-holding : (e m : ℕ) (s : Shift) (xs : List ℕ) → length xs ≤ 3 → heldOf (holding e m s xs) ≡ xs
-held-holding e m s [] h = refl
-held-holding e m s (a ∷ []) h = refl
-held-holding e m s (a ∷ b ∷ []) h = refl
-held-holding e m s (a ∷ b ∷ c ∷ []) h = refl
-held-holding e m s (a ∷ b ∷ c ∷ d ∷ xs) h = absurd (omega arith)
+pub held-holding : (e m n l : ℕ) (s : Shift) (xs : List ℕ) → length xs ≤ 3 → heldOf (holding e m n l s xs) ≡ xs
+held-holding e m n l s [] h = refl
+held-holding e m n l s (a ∷ []) h = refl
+held-holding e m n l s (a ∷ b ∷ []) h = refl
+held-holding e m n l s (a ∷ b ∷ c ∷ []) h = refl
+held-holding e m n l s (a ∷ b ∷ c ∷ d ∷ xs) h = absurd (omega arith)
 
 -- what the code makes of what reading leaves
-abbrev pub record-of : ℕ → ℕ → Left → Decoder
-record-of e m l = record {
+abbrev pub record-of : ℕ → ℕ → ℕ → ℕ → Left → Decoder
+record-of e m n k l = record {
+  taken = n;
+  lines = k;
   encoding = e;
   mode = m;
   state = l .state;
@@ -41,25 +44,28 @@ record-of e m l = record {
   ended = 0;
 }
 
--- The answer of a feed by what reading leaves, in each case.
-module _ (d : Decoder) (l : Left) where
-  pub answers-read : l .refusal ≡ 0 → {d′ : Decoder} → Holds (d .encoding) (d .mode) l d′ → Answers d l (record { written = l .written; refusal = 0; decoder = d′ })
-  answers-read z h = record {
-    read = λ w s xs p i. record { written = p i .written; refusal = 0; decoder = h 0 w s xs p i };
-    reported = λ w p. let e : l .refusal ≡ 11 = ap (λ (l : Left). l .refusal) p in absurd (omega (arith, e, z));
-    refused = λ n k. absurd (n z);
+-- The answer of a call by what reading leaves, in each case.
+module _ (d : Decoder) (n : ℕ) (after : ℕ → Shift → List ℕ → Decoder) (l : Left) where
+  pub answers-read : l .refusal ≡ 0 → {a : Answer} {d′ : Decoder} → a ≡ accepting (l .written) d′ →
+      ((w k : ℕ) (s : Shift) (xs : List ℕ) → l ≡ leaves 0 w 0 k s xs → d′ ≡ after (d .lines + k) s xs) → Answers d n after l a
+  answers-read z h g = record {
+    read = λ w k s xs p. h ∙ (λ i. accepting (p i .written) (g w k s xs p i));
+    reported = λ w at k p. let e : l .refusal ≡ 11 = ap (λ (l : Left). l .refusal) p in absurd (omega (arith, e, z));
+    refused = λ x y. absurd (x z);
   }
 
-  pub answers-reported : l .refusal ≡ 11 → {a : Answer} → a ≡ closing (d .encoding) (d .mode) 11 (l .written) → Answers d l a
+  pub answers-reported : l .refusal ≡ 11 → {a : Answer} →
+      a ≡ reporting (d .encoding) (d .mode) n (d .lines + l .lines) (l .written) (d .taken - d .held + l .place) → Answers d n after l a
   answers-reported z h = record {
-    read = λ w s xs p. let e : l .refusal ≡ 0 = ap (λ (l : Left). l .refusal) p in absurd (omega (arith, e, z));
-    reported = λ w p. h ∙ ap (λ (l : Left). closing (d .encoding) (d .mode) 11 (l .written)) p;
-    refused = λ n k. absurd (k z);
+    read = λ w k s xs p. let e : l .refusal ≡ 0 = ap (λ (l : Left). l .refusal) p in absurd (omega (arith, e, z));
+    reported = λ w at k p. h ∙ ap (λ (l : Left).
+        reporting (d .encoding) (d .mode) n (d .lines + l .lines) (l .written) (d .taken - d .held + l .place)) p;
+    refused = λ x y. absurd (y z);
   }
 
-  pub answers-refused : (l .refusal ≡ 0 → ⊥) → (l .refusal ≡ 11 → ⊥) → {a : Answer} → a ≡ refusing (l .refusal) d → Answers d l a
+  pub answers-refused : (l .refusal ≡ 0 → ⊥) → (l .refusal ≡ 11 → ⊥) → {a : Answer} → a ≡ refusing (l .refusal) d → Answers d n after l a
   answers-refused y z h = record {
-    read = λ w s xs p. absurd (y (ap (λ (l : Left). l .refusal) p));
-    reported = λ w p. absurd (z (ap (λ (l : Left). l .refusal) p));
-    refused = λ n k. h;
+    read = λ w k s xs p. absurd (y (ap (λ (l : Left). l .refusal) p));
+    reported = λ w at k p. absurd (z (ap (λ (l : Left). l .refusal) p));
+    refused = λ a b. h;
   }

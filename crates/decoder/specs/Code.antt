@@ -2,7 +2,7 @@
 use mathlib.Core.Path.{_≡_}
 use mathlib.Core.Bool.{not}
 use mathlib.Core.List.{List, []}
-use Prim.Native.Nat.{ℕ}
+use Prim.Native.Nat.{ℕ, _+_, _-_, _≤_}
 use lib.Dec.{eqb}
 use Rattle.standard.specs.Base.{_then_else_}
 use Rattle.standard.specs.Sequence.{Shift, plain}
@@ -14,23 +14,27 @@ use Rattle.decoder.specs.Record.{closed, holding}
 use Rattle.decoder.specs.declared.Decoder.{Decoder}
 use Rattle.decoder.specs.declared.Answer.{Answer}
 
--- The record d of encoding e and mode m stands at the shift that reading leaves, with the bytes that it leaves.
-abbrev pub Holds : ℕ → ℕ → Left → Decoder → Type 0
-Holds e m l d = (n w : ℕ) (s : Shift) (xs : List ℕ) → l ≡ leaves n w s xs → d ≡ holding e m s xs
+-- The record d of encoding e and mode m, after n bytes and k line feeds, stands at the shift that reading leaves, with its bytes.
+abbrev pub Holds : ℕ → ℕ → ℕ → ℕ → Left → Decoder → Type 0
+Holds e m n k l d = (r w a b : ℕ) (s : Shift) (xs : List ℕ) → l ≡ leaves r w a b s xs → d ≡ holding e m n k s xs
 
--- the answer of a decoder that has ended, of one that holds bytes, and of a refused call
-abbrev pub closing : ℕ → ℕ → ℕ → ℕ → Answer
-closing e m n w = record { written = w; refusal = n; decoder = closed e m }
+-- the answers: of a call that wrote w scalars, of a report, and of a refused call
+abbrev pub accepting : ℕ → Decoder → Answer
+accepting w d = record { written = w; place = 0; line = 0; refusal = 0; decoder = d }
 
-abbrev pub leaving : ℕ → ℕ → Shift → List ℕ → ℕ → Answer
-leaving e m s xs w = record { written = w; refusal = 0; decoder = holding e m s xs }
+abbrev pub reporting : ℕ → ℕ → ℕ → ℕ → ℕ → ℕ → Answer
+reporting e m n k w place = record { written = w; place = place; line = 1 + k; refusal = 11; decoder = closed e m n k }
 
 abbrev pub refusing : ℕ → Decoder → Answer
-refusing n d = record { written = 0; refusal = n; decoder = d }
+refusing n d = record { written = 0; place = 0; line = 0; refusal = n; decoder = d }
 
 -- the bytes held, as reading takes them
 abbrev pub heldIn : Decoder → Held
 heldIn d = record { count = d .held; first = d .first; second = d .second; third = d .third }
+
+-- the bytes that a decoder may still take
+abbrev pub stillToTake : Decoder → ℕ
+stillToTake d = 4294967295 - d .taken
 
 -- the refusal that a record alone gives
 unfoldable pub recordRefusal : Decoder → ℕ
@@ -38,8 +42,32 @@ recordRefusal d =
     not (valid d) then 5 else
     eqb (d .ended) 1 then 6 else 0
 
--- The answer a of a feed by what reading leaves: the bytes read, a report, or a refusal.
-pub record Answers (d : Decoder) (l : Left) (a : Answer) : Type 0 where
-  pub read : (w : ℕ) (s : Shift) (xs : List ℕ) → l ≡ leaves 0 w s xs → a ≡ leaving (d .encoding) (d .mode) s xs w
-  pub reported : (w : ℕ) → l ≡ leaves 11 w plain [] → a ≡ closing (d .encoding) (d .mode) 11 w
+-- The answer a of a call by what reading leaves: what was read, a report, or a refusal.
+-- n: the bytes taken after the call. after: the decoder after so many line feeds, at a shift, with some bytes left.
+pub record Answers (d : Decoder) (n : ℕ) (after : ℕ → Shift → List ℕ → Decoder) (l : Left) (a : Answer) : Type 0 where
+  pub read : (w k : ℕ) (s : Shift) (xs : List ℕ) → l ≡ leaves 0 w 0 k s xs → a ≡ accepting w (after (d .lines + k) s xs)
+  pub reported : (w at k : ℕ) → l ≡ leaves 11 w at k plain [] →
+      a ≡ reporting (d .encoding) (d .mode) n (d .lines + k) w (d .taken - d .held + at)
   pub refused : (l .refusal ≡ 0 → ⊥) → (l .refusal ≡ 11 → ⊥) → a ≡ refusing (l .refusal) d
+
+-- what follows a feed and a finish
+abbrev pub fed : Decoder → ℕ → ℕ → Shift → List ℕ → Decoder
+fed d n k s xs = holding (d .encoding) (d .mode) n k s xs
+
+abbrev pub finished : Decoder → ℕ → Shift → List ℕ → Decoder
+finished d k s xs = closed (d .encoding) (d .mode) (d .taken) k
+
+-- With n bytes taken after the call: place and line of a report are no more, nor are the line feeds handed out.
+pub record Fits (d : Decoder) (n : ℕ) (l : Left) : Type 0 where
+  pub held : d .held ≤ d .taken
+  pub place : d .taken - d .held + l .place ≤ n
+  pub line : 1 + d .lines + l .lines ≤ n
+
+pub record Small (d : Decoder) (n : ℕ) (l : Left) : Type 0 where
+  pub read : l .refusal ≡ 0 → d .lines + l .lines ≤ n
+  pub reported : l .refusal ≡ 11 → Fits d n l
+
+-- n, the bytes taken after a feed, fits 32 bits.
+pub record Takes (n : ℕ) (l : Left) : Type 0 where
+  pub read : l .refusal ≡ 0 → n ≤ 4294967295
+  pub reported : l .refusal ≡ 11 → n ≤ 4294967295

@@ -20,9 +20,11 @@ shiftOf d = shift (d .state) (eqb (d .flag) 1)
 abbrev pub heldOf : Decoder → List ℕ
 heldOf d = take (d .held) (d .first ∷ d .second ∷ d .third ∷ [])
 
--- The record of encoding e and mode m that stands at a shift and holds some bytes, at most three.
-abbrev pub holding : ℕ → ℕ → Shift → List ℕ → Decoder
-holding e m s xs = record {
+-- The record of encoding e and mode m, after n bytes and l line feeds, that stands at a shift and holds some bytes, at most three.
+abbrev pub holding : ℕ → ℕ → ℕ → ℕ → Shift → List ℕ → Decoder
+holding e m n l s xs = record {
+  taken = n;
+  lines = l;
   encoding = e;
   mode = m;
   state = s .state;
@@ -34,13 +36,25 @@ holding e m s xs = record {
   ended = 0;
 }
 
--- A new record holds nothing. Its shift says whether a mark at the front is to be dropped: rule 0 drop, 1 keep.
+-- A new record has taken nothing and holds nothing. Its shift says whether a mark at the front is to be dropped: rule 0 drop, 1 keep.
 abbrev pub newShift : ℕ → ℕ → Shift
 newShift e rule = shift 0 (traits (family e) .mark && eqb rule 0)
 
 abbrev pub new : ℕ → ℕ → ℕ → Decoder
-new e m rule = holding e m (newShift e rule) []
+new e m rule = holding e m 0 0 (newShift e rule) []
 
--- The record that has ended.
-abbrev pub closed : ℕ → ℕ → Decoder
-closed e m = record { encoding = e; mode = m; state = 0; flag = 0; held = 0; first = 0; second = 0; third = 0; ended = 1 }
+-- The record that has ended: its totals stay.
+abbrev pub closed : ℕ → ℕ → ℕ → ℕ → Decoder
+closed e m n l = record {
+  taken = n;
+  lines = l;
+  encoding = e;
+  mode = m;
+  state = 0;
+  flag = 0;
+  held = 0;
+  first = 0;
+  second = 0;
+  third = 0;
+  ended = 1;
+}

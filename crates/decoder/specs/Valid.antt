@@ -1,6 +1,6 @@
 -- The test behind refusal 5: proved to hold exactly of the records that calls leave. Assumes nothing.
 use mathlib.Core.Bool.{Bool, true, false, _&&_, _||_, not}
-use Prim.Native.Nat.{ℕ}
+use Prim.Native.Nat.{ℕ, _+_, _-_, _*_, _%_}
 use lib.Dec.{ltb, leb, eqb}
 use Rattle.standard.specs.Base.{_then_else_}
 use Rattle.standard.specs.Encodings.{Family, UTF-8, single-byte, windows-1252, GB18030, Big5, EUC-JP, ISO-2022-JP, Shift-JIS, EUC-KR, Replacement, UTF-16BE, UTF-16LE, x-user-defined, family, noTables}
@@ -9,21 +9,69 @@ use Rattle.standard.specs.Next.{next}
 use Rattle.decoder.specs.Record.{shiftOf, heldOf}
 use Rattle.decoder.specs.declared.Decoder.{Decoder}
 
--- The shifts that a decoder can come to: state 0 and no flag, but for these.
-unfoldable pub possible : Family → ℕ → Shift → Bool
-possible UTF-8 m s = eqb (s .state) 0
-possible single-byte m s = eqb (s .state) 0 && not (s .flag)
-possible windows-1252 m s = eqb (s .state) 0 && not (s .flag)
-possible GB18030 m s = eqb (s .state) 0 && not (s .flag)
-possible Big5 m s = eqb (s .state) 0 && not (s .flag)
-possible EUC-JP m s = eqb (s .state) 0 && not (s .flag)
-possible ISO-2022-JP m s = leb (s .state) 3
-possible Shift-JIS m s = eqb (s .state) 0 && not (s .flag)
-possible EUC-KR m s = eqb (s .state) 0 && not (s .flag)
-possible Replacement m s = eqb (s .state) 0 && (not (s .flag) || eqb m 0)
-possible UTF-16BE m s = eqb (s .state) 0
-possible UTF-16LE m s = eqb (s .state) 0
-possible x-user-defined m s = eqb (s .state) 0 && not (s .flag)
+-- The shifts that a decoder can come to, with c bytes in whole sequences and l line feeds handed out.
+-- Most encodings have no shift, and a line feed takes a byte.
+abbrev pub unshifted : Shift → ℕ → ℕ → Bool
+unshifted s c l = eqb (s .state) 0 && not (s .flag) && leb l c
+
+-- UTF-8: a mark is still to be dropped where nothing was read.
+abbrev pub marking : Shift → ℕ → ℕ → Bool
+marking s c l = eqb (s .state) 0 && (s .flag then eqb c 0 && eqb l 0 else leb l c)
+
+-- UTF-16: two bytes for a line feed, and an even number in all.
+abbrev pub paired : Shift → ℕ → ℕ → Bool
+paired s c l = eqb (s .state) 0 && eqb (c % 2) 0 && (s .flag then eqb c 0 && eqb l 0 else leb (2 * l) c)
+
+-- replacement: the error of the first byte ends a decoder in refusing mode; no line feeds
+abbrev pub replaced : ℕ → Shift → ℕ → ℕ → Bool
+replaced m s c l = eqb (s .state) 0 && eqb l 0 && (s .flag then eqb m 0 && ltb 0 c else eqb c 0)
+
+-- ISO-2022-JP: the bytes without a line feed that it takes to come to a shift: an escape, and a byte or two that lower the flag.
+-- In Roman that byte may be a line feed, so that four bytes are needed in all.
+unfoldable pub isoCost : ℕ → Shift → ℕ
+isoCost m s =
+    s .flag then 3 else
+    eqb (s .state) 0 then 0 else
+    eqb (s .state) 1 then 3 else
+    eqb (s .state) 2 then 4 else
+    eqb m 0 then 4 else 5
+
+unfoldable pub isoLeast : Shift → ℕ
+isoLeast s = s .flag then 0 else eqb (s .state) 1 then 4 else 0
+
+abbrev pub escaping : ℕ → Shift → ℕ → ℕ → Bool
+escaping m s c l = leb (s .state) 3 && leb (l + isoCost m s) c && leb (isoLeast s) c
+
+unfoldable pub possible : Family → ℕ → Shift → ℕ → ℕ → Bool
+possible UTF-8 m s c l = marking s c l
+possible single-byte m s c l = unshifted s c l
+possible windows-1252 m s c l = unshifted s c l
+possible GB18030 m s c l = unshifted s c l
+possible Big5 m s c l = unshifted s c l
+possible EUC-JP m s c l = unshifted s c l
+possible ISO-2022-JP m s c l = escaping m s c l
+possible Shift-JIS m s c l = unshifted s c l
+possible EUC-KR m s c l = unshifted s c l
+possible Replacement m s c l = replaced m s c l
+possible UTF-16BE m s c l = paired s c l
+possible UTF-16LE m s c l = paired s c l
+possible x-user-defined m s c l = unshifted s c l
+
+-- The totals of a decoder that has ended. In refusing mode replacement ends in the feed of its first byte.
+unfoldable pub endedTotals : Family → ℕ → ℕ → ℕ → Bool
+endedTotals UTF-8 m n l = leb l n
+endedTotals single-byte m n l = leb l n
+endedTotals windows-1252 m n l = leb l n
+endedTotals GB18030 m n l = leb l n
+endedTotals Big5 m n l = leb l n
+endedTotals EUC-JP m n l = leb l n
+endedTotals ISO-2022-JP m n l = leb l n
+endedTotals Shift-JIS m n l = leb l n
+endedTotals EUC-KR m n l = leb l n
+endedTotals Replacement m n l = eqb l 0 && (eqb m 0 || leb n 65536)
+endedTotals UTF-16BE m n l = leb (2 * l) n
+endedTotals UTF-16LE m n l = leb (2 * l) n
+endedTotals x-user-defined m n l = leb l n
 
 -- Is the answer that more bytes are wanted?
 abbrev pub isMore : Next → Bool
@@ -34,11 +82,14 @@ isMore (item w s o) = false
 unfoldable pub unused : Decoder → Bool
 unused d = (ltb 2 (d .held) || eqb (d .third) 0) && (ltb 1 (d .held) || eqb (d .second) 0) && (ltb 0 (d .held) || eqb (d .first) 0)
 
--- An ended record has nothing else in use; another stands at a possible shift with the bytes of a started sequence.
+-- An ended record has nothing else in use than its totals; another stands at a possible shift with the bytes of a started sequence,
+-- the last of those taken.
 unfoldable pub validRest : Decoder → Bool
 validRest d =
-    eqb (d .ended) 1 then eqb (d .held) 0 && eqb (d .state) 0 && eqb (d .flag) 0 else
-    possible (family (d .encoding)) (d .mode) (shiftOf d) && isMore (next noTables (family (d .encoding)) (shiftOf d) (heldOf d))
+    eqb (d .ended) 1 then
+    eqb (d .held) 0 && eqb (d .state) 0 && eqb (d .flag) 0 && endedTotals (family (d .encoding)) (d .mode) (d .taken) (d .lines) else
+    leb (d .held) (d .taken) && possible (family (d .encoding)) (d .mode) (shiftOf d) (d .taken - d .held) (d .lines) &&
+    isMore (next noTables (family (d .encoding)) (shiftOf d) (heldOf d))
 
 unfoldable pub valid : Decoder → Bool
 valid d = leb (d .encoding) 39 && leb (d .mode) 1 && leb (d .flag) 1 && leb (d .held) 3 && leb (d .ended) 1 && unused d && validRest d

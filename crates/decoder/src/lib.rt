@@ -6,11 +6,13 @@ mod refusals;
 use index::tables_fit;
 use reading::feed::read;
 use reading::finish::end;
+use record::accepted;
 use record::answer;
-use record::ends;
+use record::end_answer;
 use record::held;
 use record::new;
 use record::refused;
+use record::unopened;
 use refusals::record_refusal;
 ghost use mathlib.Core.Path.{_≡_};
 ghost use Rattle.standard.specs.Encodings.{lent};
@@ -19,6 +21,10 @@ ghost use Rattle.decoder.specs.Calls.{opening, feeding, finishing};
 // What a decoder keeps from call to call. Every field is a number in use; one that is not in use is 0.
 #[repr(C)]
 pub struct Decoder {
+    // the bytes taken since the opening, a dropped mark and the bytes held among them
+    pub taken: u32,
+    // the line feeds (U+000A) handed out since the opening
+    pub lines: u32,
     // encoding number, 0 to 39
     pub encoding: u8,
     // 0 replacing, 1 refusing
@@ -37,9 +43,14 @@ pub struct Decoder {
 }
 
 // What opening, feed and finish answer: the refusal number of document 01 or 0, the scalars written, and the decoder afterwards.
+// Of report 11 place and line of the error, too; they are 0 in every other answer.
 #[repr(C)]
 pub struct Answer {
     pub written: usize,
+    // the bytes taken since the opening before the first byte of the sequence at fault
+    pub place: u32,
+    // one plus the line feeds handed out before it
+    pub line: u32,
     pub refusal: u8,
     pub decoder: Decoder,
 }
@@ -50,20 +61,16 @@ impl Decoder {
         ensures { λ r. ⌜ r ≡ opening encoding mode rule ⌝ }
     {
         if 39 < encoding {
-            return ends(0, 0, 2, 0);
+            return unopened(2);
         }
         if 1 < mode {
-            return ends(0, 0, 3, 0);
+            return unopened(3);
         }
         if 1 < rule {
-            return ends(0, 0, 3, 0);
+            return unopened(3);
         }
         let decoder = new(encoding, mode, rule);
-        Answer {
-            written: 0,
-            refusal: 0,
-            decoder,
-        }
+        accepted(0, decoder)
     }
 
     // Decodes a chunk into the room: the bytes held and then the chunk, with the tables that the encoding wants.
@@ -81,6 +88,7 @@ impl Decoder {
                 self.encoding,
                 self.mode,
                 before,
+                4294967295 - self.taken,
                 chunk,
                 t1,
                 t2,
@@ -88,7 +96,7 @@ impl Decoder {
                 self.state,
                 self.flag,
             );
-            return answer(self, left);
+            return answer(self, chunk.len(), left);
         }
         refused(self, 4)
     }
@@ -110,9 +118,6 @@ impl Decoder {
             self.state,
             self.flag,
         );
-        if left.refusal == 7 {
-            return refused(self, 7);
-        }
-        ends(self.encoding, self.mode, left.refusal, left.written)
+        end_answer(self, left)
     }
 }

@@ -7,16 +7,19 @@ use reading::Held;
 use reading::Left;
 ghost use mathlib.Core.Path.{_≡_};
 ghost use mathlib.Core.Bool.{_&&_};
+ghost use Prim.Native.Nat.{_+_, _-_, _≤_};
 ghost use lib.Dec.{eqb};
 ghost use Rattle.standard.specs.Encodings.{family, traits};
 ghost use Rattle.decoder.specs.Record.{bit, new, closed};
-ghost use Rattle.decoder.specs.Code.{Holds, closing, refusing, heldIn, Answers};
+ghost use Rattle.decoder.specs.Code.{Holds, accepting, reporting, refusing, heldIn, Answers, fed, finished, Fits, Small, Takes};
 
-// A record at the shift that reading leaves, with the bytes that it leaves.
-fn holding(encoding: u8, mode: u8, left: Left) -> Decoder
-    ensures { λ r. ⌜ Holds encoding mode left r ⌝ }
+// A record after so many bytes and line feeds, at the shift that reading leaves, with the bytes that it leaves.
+fn holding(encoding: u8, mode: u8, taken: u32, lines: u32, left: Left) -> Decoder
+    ensures { λ r. ⌜ Holds encoding mode taken lines left r ⌝ }
 {
     Decoder {
+        taken,
+        lines,
         encoding,
         mode,
         state: left.state,
@@ -48,6 +51,8 @@ pub(crate) fn new(encoding: u8, mode: u8, rule: u8) -> Decoder
     let flag = drops(encoding, rule);
     let left = Left {
         written: 0,
+        place: 0,
+        lines: 0,
         refusal: 0,
         state: 0,
         flag,
@@ -58,14 +63,16 @@ pub(crate) fn new(encoding: u8, mode: u8, rule: u8) -> Decoder
             third: 0,
         },
     };
-    holding(encoding, mode, left)
+    holding(encoding, mode, 0, 0, left)
 }
 
-// A record that has ended.
-fn closed(encoding: u8, mode: u8) -> Decoder
-    ensures { λ r. ⌜ r ≡ closed encoding mode ⌝ }
+// A record that has ended, after so many bytes and line feeds.
+fn closed(encoding: u8, mode: u8, taken: u32, lines: u32) -> Decoder
+    ensures { λ r. ⌜ r ≡ closed encoding mode taken lines ⌝ }
 {
     Decoder {
+        taken,
+        lines,
         encoding,
         mode,
         state: 0,
@@ -90,43 +97,98 @@ pub(crate) fn held(d: Decoder) -> Held
     }
 }
 
-// The answer that ends a decoder.
-pub(crate) fn ends(encoding: u8, mode: u8, refusal: u8, written: usize) -> Answer
-    ensures { λ r. ⌜ r ≡ closing encoding mode refusal written ⌝ }
+// The answer of a call that is read: so many scalars written, and the decoder afterwards.
+pub(crate) fn accepted(written: usize, decoder: Decoder) -> Answer
+    ensures { λ r. ⌜ r ≡ accepting written decoder ⌝ }
 {
-    let decoder = closed(encoding, mode);
     Answer {
         written,
-        refusal,
+        place: 0,
+        line: 0,
+        refusal: 0,
         decoder,
     }
 }
 
 // The answer of a refused call: everything stays as it was.
-pub(crate) fn refused(d: Decoder, refusal: u8) -> Answer
-    ensures { λ r. ⌜ r ≡ refusing refusal d ⌝ }
+pub(crate) fn refused(decoder: Decoder, refusal: u8) -> Answer
+    ensures { λ r. ⌜ r ≡ refusing refusal decoder ⌝ }
 {
     Answer {
         written: 0,
+        place: 0,
+        line: 0,
         refusal,
-        decoder: d,
+        decoder,
     }
 }
 
-// The answer of a feed, by what reading leaves.
-pub(crate) fn answer(d: Decoder, left: Left) -> Answer
-    ensures { λ r. ⌜ Answers d left r ⌝ }
+// The answer of a refused opening.
+pub(crate) fn unopened(refusal: u8) -> Answer
+    ensures { λ r. ⌜ r ≡ refusing refusal (closed 0 0 0 0) ⌝ }
+{
+    let decoder = closed(0, 0, 0, 0);
+    refused(decoder, refusal)
+}
+
+// Where the bytes held begin: the bytes taken before them.
+fn start(d: Decoder) -> u32
+    requires { ⌜ d .held ≤ d .taken ⌝ }
+    ensures { λ r. ⌜ r ≡ d .taken - d .held ⌝ }
+{
+    d.taken - d.held as u32
+}
+
+// Report 11, after so many bytes: the error's place and line, and a decoder that has ended.
+fn reported(d: Decoder, taken: u32, left: Left) -> Answer
+    requires { ⌜ Fits d taken left ⌝ }
+    ensures { λ r. ⌜ r ≡ reporting (d .encoding) (d .mode) taken (d .lines + left .lines) (left .written)
+        (d .taken - d .held + left .place) ⌝ }
+{
+    let from = start(d);
+    let place = from + left.place as u32;
+    let lines = d.lines + left.lines as u32;
+    let line = 1 + lines;
+    let decoder = closed(d.encoding, d.mode, taken, lines);
+    Answer {
+        written: left.written,
+        place,
+        line,
+        refusal: 11,
+        decoder,
+    }
+}
+
+// The answer of a feed of n bytes, by what reading leaves.
+pub(crate) fn answer(d: Decoder, n: usize, left: Left) -> Answer
+    requires { ⌜ Takes (d .taken + n) left × Small d (d .taken + n) left ⌝ }
+    ensures { λ r. ⌜ Answers d (d .taken + n) (fed d (d .taken + n)) left r ⌝ }
 {
     if left.refusal == 0 {
-        let decoder = holding(d.encoding, d.mode, left);
-        return Answer {
-            written: left.written,
-            refusal: 0,
-            decoder,
-        };
+        let taken = d.taken + n as u32;
+        let lines = d.lines + left.lines as u32;
+        let decoder = holding(d.encoding, d.mode, taken, lines, left);
+        return accepted(left.written, decoder);
     }
     if left.refusal == 11 {
-        return ends(d.encoding, d.mode, 11, left.written);
+        let taken = d.taken + n as u32;
+        return reported(d, taken, left);
+    }
+    refused(d, left.refusal)
+}
+
+// The answer of a finish, by what the end of input leaves.
+pub(crate) fn end_answer(d: Decoder, left: Left) -> Answer
+    requires { ⌜ Small d (d .taken) left ⌝ }
+    ensures { λ r. ⌜ Answers d (d .taken) (finished d) left r ⌝ }
+{
+    if left.refusal == 0 {
+        let lines = d.lines + left.lines as u32;
+        let decoder = closed(d.encoding, d.mode, d.taken, lines);
+        return accepted(left.written, decoder);
+    }
+    if left.refusal == 11 {
+        return reported(d, d.taken, left);
     }
     refused(d, left.refusal)
 }

@@ -3,14 +3,15 @@
 use crate::Decoder;
 use sequences::next;
 ghost use mathlib.Core.Path.{_≡_};
-ghost use mathlib.Core.Bool.{true, false, _&&_, _||_};
-ghost use Prim.Native.Nat.{_+_, _%_, _≤_, _<_};
+ghost use mathlib.Core.Bool.{_&&_, _||_};
+ghost use Prim.Native.Nat.{_≤_};
 ghost use lib.Dec.{ltb, leb, eqb};
 ghost use Rattle.standard.specs.Encodings.{family, traits, noTables};
 ghost use Rattle.standard.specs.Sequence.{shift};
 ghost use Rattle.standard.specs.Next.{next};
 ghost use Rattle.decoder.specs.Record.{shiftOf, heldOf};
-ghost use Rattle.decoder.specs.Valid.{possible, isMore, unused, validRest, valid};
+ghost use Rattle.decoder.specs.Valid.{unshifted, marking, paired, replaced, isoCost, isoLeast, escaping};
+ghost use Rattle.decoder.specs.Valid.{possible, endedTotals, isMore, unused, validRest, valid};
 ghost use Rattle.decoder.specs.Code.{recordRefusal};
 
 // Does rule "drop" apply to an encoding?
@@ -26,26 +27,166 @@ pub(crate) fn marked(encoding: u8) -> bool
     encoding == 38
 }
 
-// Can a decoder of this encoding and mode come to this shift?
-fn possible(encoding: u8, mode: u8, state: u8, flag: u8) -> bool
-    ensures { λ r. ⌜ r ≡ possible (family encoding) mode (shift state (eqb flag 1)) ⌝ }
+// Most encodings: no shift, and a line feed takes a byte.
+fn unshifted(state: u8, flag: u8, c: u32, l: u32) -> bool
+    ensures { λ r. ⌜ r ≡ unshifted (shift state (eqb flag 1)) c l ⌝ }
 {
-    if encoding == 33 {
-        return state <= 3;
+    if state != 0 {
+        return false;
     }
+    if flag == 1 {
+        return false;
+    }
+    l <= c
+}
+
+// UTF-8: a mark is still to be dropped where nothing was read.
+fn marking(state: u8, flag: u8, c: u32, l: u32) -> bool
+    ensures { λ r. ⌜ r ≡ marking (shift state (eqb flag 1)) c l ⌝ }
+{
     if state != 0 {
         return false;
     }
     if flag != 1 {
-        return true;
+        return l <= c;
     }
-    if marked(encoding) {
-        return true;
+    if c != 0 {
+        return false;
+    }
+    l == 0
+}
+
+// UTF-16: as UTF-8, by pairs of bytes.
+fn paired(state: u8, flag: u8, c: u32, l: u32) -> bool
+    ensures { λ r. ⌜ r ≡ paired (shift state (eqb flag 1)) c l ⌝ }
+{
+    if c % 2 != 0 {
+        return false;
+    }
+    marking(state, flag, c / 2, l)
+}
+
+// replacement: no line feeds; its error is given once, and ends a decoder in refusing mode.
+fn replaced(mode: u8, state: u8, flag: u8, c: u32, l: u32) -> bool
+    ensures { λ r. ⌜ r ≡ replaced mode (shift state (eqb flag 1)) c l ⌝ }
+{
+    if state != 0 {
+        return false;
+    }
+    if l != 0 {
+        return false;
+    }
+    if flag != 1 {
+        return c == 0;
+    }
+    if mode != 0 {
+        return false;
+    }
+    0 < c
+}
+
+// ISO-2022-JP: the bytes without a line feed that it takes to come to a shift.
+fn iso_cost(mode: u8, state: u8, flag: u8) -> u32
+    ensures { λ r. ⌜ r ≡ isoCost mode (shift state (eqb flag 1)) ⌝ }
+{
+    if flag == 1 {
+        return 3;
+    }
+    if state == 0 {
+        return 0;
+    }
+    if state == 1 {
+        return 3;
+    }
+    if state == 2 {
+        return 4;
+    }
+    if mode == 0 {
+        return 4;
+    }
+    5
+}
+
+// ISO-2022-JP: the bytes that it takes in all.
+fn iso_least(state: u8, flag: u8) -> u32
+    ensures { λ r. ⌜ r ≡ isoLeast (shift state (eqb flag 1)) ⌝ }
+{
+    if flag == 1 {
+        return 0;
+    }
+    if state == 1 {
+        return 4;
+    }
+    0
+}
+
+// ISO-2022-JP: a line feed takes a byte, and the shift its own.
+fn escaping(mode: u8, state: u8, flag: u8, c: u32, l: u32) -> bool
+    ensures { λ r. ⌜ r ≡ escaping mode (shift state (eqb flag 1)) c l ⌝ }
+{
+    if 3 < state {
+        return false;
+    }
+    let cost = iso_cost(mode, state, flag);
+    if c < cost {
+        return false;
+    }
+    if c - cost < l {
+        return false;
+    }
+    let least = iso_least(state, flag);
+    least <= c
+}
+
+// Can a decoder of this encoding and mode come to this shift, with c bytes in whole sequences and l line feeds handed out?
+fn possible(encoding: u8, mode: u8, state: u8, flag: u8, c: u32, l: u32) -> bool
+    ensures { λ r. ⌜ r ≡ possible (family encoding) mode (shift state (eqb flag 1)) c l ⌝ }
+{
+    if encoding == 0 {
+        return marking(state, flag, c, l);
+    }
+    if encoding == 33 {
+        return escaping(mode, state, flag, c, l);
     }
     if encoding == 36 {
-        return mode == 0;
+        return replaced(mode, state, flag, c, l);
     }
-    false
+    if encoding == 37 {
+        return paired(state, flag, c, l);
+    }
+    if encoding == 38 {
+        return paired(state, flag, c, l);
+    }
+    unshifted(state, flag, c, l)
+}
+
+// replacement that has ended: in refusing mode in the feed of its first byte.
+fn replaced_totals(mode: u8, n: u32, l: u32) -> bool
+    ensures { λ r. ⌜ r ≡ (eqb l 0 && (eqb mode 0 || leb n 65536)) ⌝ }
+{
+    if l != 0 {
+        return false;
+    }
+    if mode == 0 {
+        return true;
+    }
+    n <= 65536
+}
+
+// Can a decoder that has ended have taken n bytes and handed out l line feeds?
+fn ended_totals(encoding: u8, mode: u8, n: u32, l: u32) -> bool
+    ensures { λ r. ⌜ r ≡ endedTotals (family encoding) mode n l ⌝ }
+{
+    if encoding == 36 {
+        return replaced_totals(mode, n, l);
+    }
+    if encoding == 37 {
+        return l <= n / 2;
+    }
+    if encoding == 38 {
+        return l <= n / 2;
+    }
+    l <= n
 }
 
 // Is byte n, counted from 0, in use, or else 0?
@@ -96,24 +237,39 @@ fn started(d: Decoder) -> bool
     q.width == 0
 }
 
-// What the test of a record says of one that has ended, and of one that has not.
-fn valid_rest(d: Decoder) -> bool
-    requires { ⌜ d .held ≤ 3 ⌝ }
+// What the test of a record says of one that has ended.
+fn valid_ended(d: Decoder) -> bool
+    requires { ⌜ d .ended ≡ 1 ⌝ }
     ensures { λ r. ⌜ r ≡ validRest d ⌝ }
 {
-    if d.ended != 1 {
-        if possible(d.encoding, d.mode, d.state, d.flag) {
-            return started(d);
-        }
-        return false;
-    }
     if d.held != 0 {
         return false;
     }
     if d.state != 0 {
         return false;
     }
-    d.flag == 0
+    if d.flag != 0 {
+        return false;
+    }
+    ended_totals(d.encoding, d.mode, d.taken, d.lines)
+}
+
+// What it says of any record: one that has not ended holds the last of the bytes taken.
+fn valid_rest(d: Decoder) -> bool
+    requires { ⌜ d .held ≤ 3 ⌝ }
+    ensures { λ r. ⌜ r ≡ validRest d ⌝ }
+{
+    if d.ended == 1 {
+        return valid_ended(d);
+    }
+    let held = d.held as u32;
+    if d.taken < held {
+        return false;
+    }
+    if possible(d.encoding, d.mode, d.state, d.flag, d.taken - held, d.lines) {
+        return started(d);
+    }
+    false
 }
 
 // Do some opening, accepted feeds and finish leave this record?

@@ -2,31 +2,35 @@
 use mathlib.Core.Path.{_≡_, refl, sym, ap, _∙_, subst}
 use mathlib.Core.Bool.{Bool, true, false, _&&_, _||_, and-false}
 use mathlib.Core.List.{List, [], _∷_, _++_, append-assoc, append-nil}
-use Prim.Native.Nat.{ℕ, _≤_}
+use Prim.Native.Nat.{ℕ, _+_, _-_, _≤_}
 use native.Mathlib.Omega.{arith}
-use lib.Dec.{T, eqb}
-use lib.ListN.{length, take, drop}
+use lib.Dec.{T, eqb, lit≤}
+use lib.ListN.{length, take, drop, length-append}
 use lib.Seq.{take-append-seam}
-use Rattle.standard.specs.Base.{_then_else_}
+use Rattle.standard.specs.Base.{_then_else_, lineFeeds}
 use Rattle.standard.specs.Encodings.{family, Tables, noTables}
 use Rattle.standard.specs.Sequence.{Shift, more}
 use Rattle.standard.specs.Next.{next}
-use Rattle.standard.specs.Decode.{Item, Read, decode, ending, shown, broken, before, everything}
+use Rattle.standard.specs.Decode.{Item, Read, decode, ending, shown, broken, before, widths, reach, everything}
 use Rattle.standard.proofs.Tests.{and-left, and-right}
 use Rattle.standard.proofs.FamilyLaws.{keeps, next-laws}
 use Rattle.standard.proofs.Walk.{chunks, decode-more}
 use Rattle.standard.proofs.AnyTables.{Place, place, tables-meet, more-any}
-use Rattle.standard.proofs.Items.{shown-append, broken-append, before-append, before-broken}
+use Rattle.standard.proofs.Items.{shown-append, broken-append, before-append, before-broken, reach-append, reach-broken}
 use Rattle.standard.proofs.Reading.{reading, ending-any, empty}
-use Rattle.decoder.specs.Record.{shiftOf, heldOf, holding, closed, newShift}
-use Rattle.decoder.specs.Calls.{openRefusal, Outcome, refuse, write, handOut, handOutRead, feedRefusal, feeding, finishRefusal, finishing}
-use Rattle.demands.specs.Histories.{Call, feed, finish, History, noted, after, start}
-use Rattle.demands.specs.Statements.{Piece, joined, cutting, reports, Account, account, Accepts, AllFeeds}
-use Rattle.demands.specs.Whole.{dealt, wholeAccount}
+use Rattle.standard.proofs.LineFeeds.{line-feeds-append}
+use Rattle.decoder.specs.Record.{holding, closed, newShift}
+use Rattle.decoder.specs.Calls.{openRefusal, Outcome, refuse, handOut, feedRefusal, feeding, finishRefusal, finishing}
+use Rattle.demands.specs.Histories.{Call, feed, finish, History, accepted, noted, after, start}
+use Rattle.demands.specs.Statements.{Piece, joined, cutting, Report, reported, reports, untaken, Account, account, Accepts, AllFeeds}
+use Rattle.demands.specs.Whole.{stopped, completed, dealt, wholeAccount}
 use Rattle.decoder.specs.declared.Decoder.{Decoder}
 use Rattle.decoder.proofs.Records.{shift-holding, held-holding}
-use Rattle.demands.proofs.Steps.{Stands, reads, ended, readOf, Step, refused, fed, reported, few, feed-holding, finish-holding, feed-not-11, finish-not-11, feed-open, finish-open, stepped, still, opened-is}
-use Rattle.demands.proofs.Invariants.{Tracks, tracks-new, tracks-step}
+use Rattle.demands.proofs.Steps.{Stands, reads, ended, readOf, handedIf, feed-is, finish-is, Step, refused, fed, few, stepped, still, opened-is}
+use Rattle.demands.proofs.Steps.{feed-holding, finish-holding, feed-not-11, finish-not-11, feed-open, finish-open}
+use Rattle.demands.proofs.Steps.{reported as reported-at}
+use Rattle.demands.proofs.Refused.{feed-accepted}
+use Rattle.demands.proofs.Invariants.{Tracks, tracks-new, tracks-step, Counted, counted-step}
 
 -- in refusing mode nothing before was an error
 sound : (m : ℕ) (a b : Bool) → eqb m 1 && a ≡ false → eqb m 1 && b ≡ true → a ≡ false
@@ -50,11 +54,14 @@ module _ (t : Tables) (e m : ℕ) (s₀ : Shift) where
   pub record Follows (taken handed : List ℕ) (d : Decoder) : Type 0 where
     pub stands : Stands e m d
     pub tracks : Tracks e m s₀ taken d
+    pub counts : Counted e m taken handed d
     pub shows : d .ended ≡ 0 → (eqb m 1 && broken (readAll taken .items) ≡ false) × (handed ≡ shown (readAll taken .items))
     pub stops : d .ended ≡ 1 → (eqb m 1 && broken (readAll taken .items) ≡ true) × (handed ≡ before (readAll taken .items))
 
-  here : (taken : List ℕ) (s : Shift) (xs : List ℕ) → length xs ≤ 3 → Tracks e m s₀ taken (holding e m s xs) → place (readAll taken) ≡ record { shift = s; rest = xs }
-  here taken s xs l i = tables-meet t noTables (family e) s₀ taken ∙ i refl ∙ (λ j. record { shift = shift-holding e m s xs j; rest = held-holding e m s xs l j })
+  here : (taken : List ℕ) (n l : ℕ) (s : Shift) (xs : List ℕ) → length xs ≤ 3 → Tracks e m s₀ taken (holding e m n l s xs) →
+      place (readAll taken) ≡ record { shift = s; rest = xs }
+  here taken n l s xs h i = tables-meet t noTables (family e) s₀ taken ∙ i refl ∙
+      (λ j. record { shift = shift-holding e m n l s xs j; rest = held-holding e m n l s xs h j })
 
   -- one chunk more
   items-more : (taken : List ℕ) (s : Shift) (xs chunk : List ℕ) → place (readAll taken) ≡ record { shift = s; rest = xs } → readAll (taken ++ chunk) .items ≡ readAll taken .items ++ readOf e t s xs chunk .items
@@ -63,25 +70,28 @@ module _ (t : Tables) (e m : ℕ) (s₀ : Shift) where
 
   follow : {taken handed chunk room : List ℕ} {d : Decoder} {h : History} {n : ℕ} → Step e m taken handed d (feed chunk t room) h n → Follows taken handed d → Follows (h .taken) (h .handed) (h .decoder)
   follow (refused d c n p) i = i
-  follow {taken} {handed} (fed s xs chunk t room w z q) i =
-      let step = fed s xs chunk t room w z q in
+  follow {taken} {handed} (fed n l s xs chunk t room w z q) i =
+      let step = fed n l s xs chunk t room w z q in
       let r = readOf e t s xs chunk in
       let a = readAll taken .items in
-      let k = items-more taken s xs chunk (here taken s xs (few e m s xs w) (i .tracks)) in
+      let k = items-more taken s xs chunk (here taken n l s xs (few e m s xs w) (i .tracks)) in
       record {
         stands = still e m {taken = taken} {handed = handed} step (i .stands);
         tracks = tracks-step e m s₀ {taken = taken} {handed = handed} step (i .tracks);
+        counts = counted-step e m step (i .counts);
         shows = λ o. (rw (k, broken-append a (r .items)) (both-sound (eqb m 1) (broken a) (broken (r .items)) (i .shows refl .0) q), rw (i .shows refl .1, k) (sym (shown-append a (r .items))));
         stops = λ o. absurd (omega arith);
       }
-  follow {taken} {handed} (reported s xs chunk t room w z q) i =
+  follow {taken} {handed} (reported-at n l s xs chunk t room w z q) i =
+      let step = reported-at n l s xs chunk t room w z q in
       let r = readOf e t s xs chunk in
       let a = readAll taken .items in
-      let k = items-more taken s xs chunk (here taken s xs (few e m s xs w) (i .tracks)) in
+      let k = items-more taken s xs chunk (here taken n l s xs (few e m s xs w) (i .tracks)) in
       let clean = sound m (broken a) (broken (r .items)) (i .shows refl .0) q in
       record {
-        stands = ended;
+        stands = still e m {taken = taken} {handed = handed} step (i .stands);
         tracks = λ o. absurd (omega arith);
+        counts = counted-step e m step (i .counts);
         shows = λ o. absurd (omega arith);
         stops = λ o. (rw (k, broken-append a (r .items)) (second-broken (eqb m 1) (broken a) (broken (r .items)) clean q), rw (i .shows refl .1, k) (sym (before-append a (r .items) clean)));
       }
@@ -98,32 +108,37 @@ module _ (t : Tables) (e m : ℕ) (s₀ : Shift) where
   nothing-read : readAll [] ≡ record { items = []; shift = s₀; rest = [] }
   nothing-read = decode-more (keeps (family e)) (next t (family e)) (next-laws t (family e)) s₀ [] (empty t (family e) s₀)
 
-  follow-new : Follows [] [] (holding e m s₀ [])
-  unfolding broken shown
+  follow-new : Follows [] [] (holding e m 0 0 s₀ [])
+  unfolding broken shown lineFeeds
   follow-new = record {
-    stands = reads s₀ [] (empty noTables (family e) s₀);
+    stands = reads 0 0 s₀ [] (empty noTables (family e) s₀);
     tracks = tracks-new e m s₀;
+    counts = record { bytes = refl; feeds = refl };
     shows = λ o. (rw (nothing-read, and-false (eqb m 1)), rw nothing-read);
     stops = λ o. absurd (omega arith);
   }
 
   -- where no error was read, everything is shown, and the decoder stands where reading stands
   follow-sound : (taken handed : List ℕ) (d : Decoder) → Stands e m d → Follows taken handed d → broken (readAll taken .items) ≡ false →
-      (handed ≡ shown (readAll taken .items)) × (d ≡ holding e m (readAll taken .shift) (readAll taken .rest))
-  follow-sound taken handed d (reads s xs w) i b =
-      let p = here taken s xs (few e m s xs w) (i .tracks) in
-      (i .shows refl .1, λ j. holding e m (sym p j .shift) (sym p j .rest))
-  follow-sound taken handed d ended i b = let q : eqb m 1 && false ≡ true = rw b at (i .stops refl .0) in absurd (subst T (sym (sym (and-false (eqb m 1)) ∙ q)) tt)
+      (handed ≡ shown (readAll taken .items)) ×
+      (d ≡ holding e m (length taken) (lineFeeds handed) (readAll taken .shift) (readAll taken .rest))
+  follow-sound taken handed d (reads n l s xs w) i b =
+      let p = here taken n l s xs (few e m s xs w) (i .tracks) in
+      (i .shows refl .1, λ j. holding e m (i .counts .bytes j) (i .counts .feeds j) (sym p j .shift) (sym p j .rest))
+  follow-sound taken handed d (ended n l) i b =
+      let q : eqb m 1 && false ≡ true = rw b at (i .stops refl .0) in
+      absurd (subst T (sym (sym (and-false (eqb m 1)) ∙ q)) tt)
 
 -- After feeds with one pair of tables, refused ones among them.
 pub feeds-follow : (t : Tables) (e m rule : ℕ) → openRefusal e m rule ≡ 0 → (cs : List Call) → AllFeeds t cs → let h = after (start e m rule) cs in Follows t e m (newShift e rule) (h .taken) (h .handed) (h .decoder)
 feeds-follow t e m rule o cs a =
     subst (λ (h : History). Follows t e m (newShift e rule) (after h cs .taken) (after h cs .handed) (after h cs .decoder)) (sym (opened-is e m rule o))
-    (follow-all t e m (newShift e rule) (record { taken = []; handed = []; decoder = holding e m (newShift e rule) [] }) cs a (follow-new t e m (newShift e rule)))
+    (follow-all t e m (newShift e rule) (record { taken = []; handed = []; decoder = holding e m 0 0 (newShift e rule) [] }) cs a
+    (follow-new t e m (newShift e rule)))
 
-pub feeds-give : (t : Tables) (e m rule : ℕ) → openRefusal e m rule ≡ 0 → (cs : List Call) → AllFeeds t cs → broken (decode (next t (family e)) (newShift e rule) (after (start e m rule) cs .taken) .items) ≡ false →
-    (after (start e m rule) cs .handed ≡ shown (decode (next t (family e)) (newShift e rule) (after (start e m rule) cs .taken) .items)) ×
-    (after (start e m rule) cs .decoder ≡ holding e m (decode (next t (family e)) (newShift e rule) (after (start e m rule) cs .taken) .shift) (decode (next t (family e)) (newShift e rule) (after (start e m rule) cs .taken) .rest))
+pub feeds-give : (t : Tables) (e m rule : ℕ) → openRefusal e m rule ≡ 0 → (cs : List Call) → AllFeeds t cs →
+    let h = after (start e m rule) cs in let r = readAll t e m (newShift e rule) (h .taken) in broken (r .items) ≡ false →
+    (h .handed ≡ shown (r .items)) × (h .decoder ≡ holding e m (length (h .taken)) (lineFeeds (h .handed)) (r .shift) (r .rest))
 feeds-give t e m rule o cs a b =
     let h = after (start e m rule) cs in
     let i = feeds-follow t e m rule o cs a in
@@ -131,20 +146,25 @@ feeds-give t e m rule o cs a b =
 
 -- Handing out in two parts.
 module _ (e m : ℕ) where
-  dealt-stop : (is js : List Item) (out : List ℕ) → eqb m 1 && broken is ≡ true →
-      dealt e m (is ++ js) out ≡ record { handed = out ++ before is; reports = length (out ++ before is) ∷ []; decoder = closed e m }
+  dealt-stop : (n : ℕ) (is js : List Item) (out : List ℕ) → eqb m 1 && broken is ≡ true →
+      dealt e m n (is ++ js) out ≡ stopped e m (n + reach is) (out ++ before is)
   unfolding dealt
-  dealt-stop is js out h = let b = and-right (eqb m 1) (broken is) h in rw (and-left (eqb m 1) (broken is) h, broken-append is js, b, before-broken is js b)
+  dealt-stop n is js out h =
+      let b = and-right (eqb m 1) (broken is) h in
+      rw (and-left (eqb m 1) (broken is) h, broken-append is js, b, before-broken is js b, reach-broken is js b)
 
-  dealt-on : (is js : List Item) (out : List ℕ) → eqb m 1 && broken is ≡ false → dealt e m (is ++ js) out ≡ dealt e m js (out ++ shown is)
+  dealt-on : (n : ℕ) (is js : List Item) (out : List ℕ) → eqb m 1 && broken is ≡ false →
+      dealt e m n (is ++ js) out ≡ dealt e m (n + widths is) js (out ++ shown is)
   unfolding dealt
-  dealt-on is js out h = go (eqb m 1) (broken is) refl h
+  dealt-on n is js out h = go (eqb m 1) (broken is) refl h
     where
       one : (x y : Bool) → Account
-      one x y = x && y then record { handed = out ++ before (is ++ js); reports = length (out ++ before (is ++ js)) ∷ []; decoder = closed e m } else record { handed = out ++ shown (is ++ js); reports = []; decoder = closed e m }
+      one x y = x && y then stopped e m (n + reach (is ++ js)) (out ++ before (is ++ js)) else completed e m (out ++ shown (is ++ js))
 
       two : (x y : Bool) → Account
-      two x y = x && y then record { handed = (out ++ shown is) ++ before js; reports = length ((out ++ shown is) ++ before js) ∷ []; decoder = closed e m } else record { handed = (out ++ shown is) ++ shown js; reports = []; decoder = closed e m }
+      two x y =
+          x && y then stopped e m (n + widths is + reach js) ((out ++ shown is) ++ before js) else
+          completed e m ((out ++ shown is) ++ shown js)
 
       all : out ++ shown (is ++ js) ≡ (out ++ shown is) ++ shown js
       all = ap (λ (l : List ℕ). out ++ l) (shown-append is js) ∙ sym (append-assoc out (shown is) (shown js))
@@ -152,61 +172,59 @@ module _ (e m : ℕ) where
       part : broken is ≡ false → out ++ before (is ++ js) ≡ (out ++ shown is) ++ before js
       part b = ap (λ (l : List ℕ). out ++ l) (before-append is js b) ∙ sym (append-assoc out (shown is) (before js))
 
+      far : broken is ≡ false → n + reach (is ++ js) ≡ n + widths is + reach js
+      far b = rw (reach-append is js b) (omega arith)
+
       pick : broken is ≡ false → (y : Bool) → one true y ≡ two true y
-      pick b true = λ i. record { handed = part b i; reports = length (part b i) ∷ []; decoder = closed e m }
-      pick b false = λ i. record { handed = all i; reports = []; decoder = closed e m }
+      pick b true = λ i. stopped e m (far b i) (part b i)
+      pick b false = λ i. completed e m (all i)
 
       go : (x y : Bool) → broken is ≡ y → x && y ≡ false → one x (broken (is ++ js)) ≡ two x (broken js)
       go true true b q = absurd (subst T q tt)
       go true false b q = ap (one true) (broken-append is js ∙ ap (λ (x : Bool). x || broken js) b) ∙ pick b (broken js)
-      go false y b q = λ i. record { handed = all i; reports = []; decoder = closed e m }
+      go false y b q = λ i. completed e m (all i)
 
--- The account of one call, with its outcome, and the calls after it.
-abbrev first : History → List ℕ → Outcome → List Call → Account
-first h chunk o cs =
+-- The account of one call, with its outcome, and the calls after it; and by whether the call is reported.
+abbrev firstIf : Bool → History → List ℕ → Outcome → List Call → Account
+firstIf b h chunk o cs =
     let h′ = noted h chunk o in
-    record { handed = after h′ cs .handed; reports = eqb (o .answer .refusal) 11 then length (h′ .handed) ∷ reports h′ cs else reports h′ cs; decoder = after h′ cs .decoder }
+    record {
+      handed = after h′ cs .handed;
+      reports = b then reported h′ (o .answer) ∷ reports h′ cs else reports h′ cs;
+      decoder = untaken (after h′ cs .decoder);
+    }
+
+abbrev first : History → List ℕ → Outcome → List Call → Account
+first h chunk o cs = firstIf (eqb (o .answer .refusal) 11) h chunk o cs
 
 -- A decoder that has ended stays as it is, and reports nothing.
-shut-feed : (h : History) (t : Tables) (chunk room : List ℕ) → h .decoder .ended ≡ 1 → feeding (h .decoder) t chunk room ≡ refuse (feedRefusal (h .decoder) t chunk room) (h .decoder) room
-unfolding feeding
-shut-feed h t chunk room z = go (eqb (feedRefusal (h .decoder) t chunk room) 0) refl
-  where
-    d : Decoder
-    d = h .decoder
+shut-feed : (h : History) (t : Tables) (chunk room : List ℕ) → h .decoder .ended ≡ 1 →
+    feeding (h .decoder) t chunk room ≡ refuse (feedRefusal (h .decoder) t chunk room) (h .decoder) room
+shut-feed h t chunk room z =
+    let d = h .decoder in
+    let n = feedRefusal d t chunk room in
+    feed-is (λ (o : Outcome). o ≡ refuse n d room) d t chunk room
+    (λ q. absurd (subst T (sym (ap (λ (n : ℕ). eqb n 1) z) ∙ feed-open d t chunk room (ap (λ (n : ℕ). eqb n 0) q)) tt)) (λ q. refl)
 
-    out : Bool → Outcome
-    out b = b then handOutRead (d .encoding) (d .mode) (decode (next t (family (d .encoding))) (shiftOf d) (heldOf d ++ chunk)) room else refuse (feedRefusal d t chunk room) d room
+shut-finish : (h : History) (room : List ℕ) → h .decoder .ended ≡ 1 →
+    finishing (h .decoder) room ≡ refuse (finishRefusal (h .decoder) room) (h .decoder) room
+shut-finish h room z =
+    let d = h .decoder in
+    let n = finishRefusal d room in
+    finish-is (λ (o : Outcome). o ≡ refuse n d room) d room
+    (λ q. absurd (subst T (sym (ap (λ (n : ℕ). eqb n 1) z) ∙ finish-open d room (ap (λ (n : ℕ). eqb n 0) q)) tt)) (λ q. refl)
 
-    go : (b : Bool) → eqb (feedRefusal d t chunk room) 0 ≡ b → out b ≡ refuse (feedRefusal d t chunk room) d room
-    go true q = absurd (subst T (sym (ap (λ (n : ℕ). eqb n 1) z) ∙ feed-open d t chunk room q) tt)
-    go false q = refl
-
-shut-finish : (h : History) (room : List ℕ) → h .decoder .ended ≡ 1 → finishing (h .decoder) room ≡ refuse (finishRefusal (h .decoder) room) (h .decoder) room
-unfolding finishing
-shut-finish h room z = go (eqb (finishRefusal (h .decoder) room) 0) refl
-  where
-    d : Decoder
-    d = h .decoder
-
-    out : Bool → Outcome
-    out b = b then handOut (d .encoding) (d .mode) (ending noTables (family (d .encoding)) (shiftOf d) (heldOf d)) (closed (d .encoding) (d .mode)) room else refuse (finishRefusal d room) d room
-
-    go : (b : Bool) → eqb (finishRefusal d room) 0 ≡ b → out b ≡ refuse (finishRefusal d room) d room
-    go true q = absurd (subst T (sym (ap (λ (n : ℕ). eqb n 1) z) ∙ finish-open d room q) tt)
-    go false q = refl
-
-shut : (t : Tables) (ps : List Piece) (last : List ℕ) (h : History) → h .decoder .ended ≡ 1 → account h (cutting t ps last) ≡ record { handed = h .handed; reports = []; decoder = h .decoder }
+shut : (t : Tables) (ps : List Piece) (last : List ℕ) (h : History) → h .decoder .ended ≡ 1 →
+    account h (cutting t ps last) ≡ record { handed = h .handed; reports = []; decoder = untaken (h .decoder) }
 unfolding account cutting after reports
 shut t [] last h z = ap (λ (o : Outcome). first h [] o []) (shut-finish h last z) ∙ rw (finish-not-11 (h .decoder) last, append-nil (h .handed))
 shut t (p ∷ ps) last h z =
-    let n = feedRefusal (h .decoder) t (p .chunk) (p .room) in
-    let h′ = noted h (p .chunk) (refuse n (h .decoder) (p .room)) in
-    ap (λ (o : Outcome). first h (p .chunk) o (cutting t ps last)) (shut-feed h t (p .chunk) (p .room) z) ∙ ap (silent h′) (feed-not-11 (h .decoder) t (p .chunk) (p .room)) ∙
-    shut t ps last h′ z ∙ (λ i. record { handed = append-nil (h .handed) i; reports = []; decoder = h .decoder })
-  where
-    silent : History → Bool → Account
-    silent h′ b = record { handed = after h′ (cutting t ps last) .handed; reports = b then length (h′ .handed) ∷ reports h′ (cutting t ps last) else reports h′ (cutting t ps last); decoder = after h′ (cutting t ps last) .decoder }
+    let cs = cutting t ps last in
+    let o = refuse (feedRefusal (h .decoder) t (p .chunk) (p .room)) (h .decoder) (p .room) in
+    ap (λ (o : Outcome). first h (p .chunk) o cs) (shut-feed h t (p .chunk) (p .room) z) ∙
+    ap (λ (b : Bool). firstIf b h (p .chunk) o cs) (feed-not-11 (h .decoder) t (p .chunk) (p .room)) ∙
+    shut t ps last (noted h (p .chunk) o) z ∙
+    (λ i. record { handed = append-nil (h .handed) i; reports = []; decoder = untaken (h .decoder) })
 
 module _ (t : Tables) (e m : ℕ) where
   everything-more : (s : Shift) (xs : List ℕ) → next t (family e) s xs ≡ more → everything t (family e) s xs ≡ ending t (family e) s xs
@@ -217,40 +235,57 @@ module _ (t : Tables) (e m : ℕ) where
   unfolding everything
   everything-cut s xs chunk ys = rw (← (append-assoc xs chunk ys), chunks (keeps (family e)) (next t (family e)) (next-laws t (family e)) s (xs ++ chunk) ys) (append-assoc (readOf e t s xs chunk .items) _ _)
 
-  -- the history whose decoder stands at a shift with bytes held
-  abbrev at : List ℕ → List ℕ → Shift → List ℕ → History
-  at taken out s xs = record { taken = taken; handed = out; decoder = holding e m s xs }
+  -- the history whose decoder stands at a shift with bytes held, after n bytes
+  abbrev at : List ℕ → List ℕ → ℕ → Shift → List ℕ → History
+  at taken out n s xs = record { taken = taken; handed = out; decoder = holding e m n (lineFeeds out) s xs }
 
-  -- What is left to do on both sides once the outcome of a call is known: o wrote cs at the front of its room.
-  cut-from : (ps : List Piece) (last taken out : List ℕ) (s : Shift) (xs : List ℕ) → next noTables (family e) s xs ≡ more → Accepts t (at taken out s xs) ps last →
-      account (at taken out s xs) (cutting t ps last) ≡ dealt e m (everything t (family e) s (xs ++ joined ps)) out
+  feeds : (out cs : List ℕ) → lineFeeds out + lineFeeds cs ≡ lineFeeds (out ++ cs)
+  feeds out cs = sym (line-feeds-append out cs)
+
+  -- what was written stands at the front of the room
+  front : (out cs room : List ℕ) → out ++ take (length cs) (cs ++ drop (length cs) room) ≡ out ++ cs
+  front out cs room = rw (take-append-seam cs (drop (length cs) room))
+
+  -- The account of the end, and of a report, by what was written.
+  abbrev ended-with : List ℕ → ℕ → Account
+  ended-with cs l = record { handed = cs; reports = []; decoder = closed e m 0 l }
+
+  abbrev reported-with : ℕ → List ℕ → ℕ → Account
+  reported-with place cs l =
+      let here : Report = record { handed = length cs; place = place; line = 1 + l } in
+      record { handed = cs; reports = here ∷ []; decoder = closed e m 0 l }
+
+  -- What is left to do on both sides once the outcome of a call is known: it wrote at the front of its room.
+  cut-from : (ps : List Piece) (last taken out : List ℕ) (n : ℕ) (s : Shift) (xs : List ℕ) →
+      length xs ≤ n → next noTables (family e) s xs ≡ more → Accepts t (at taken out n s xs) ps last →
+      account (at taken out n s xs) (cutting t ps last) ≡ dealt e m (n - length xs) (everything t (family e) s (xs ++ joined ps)) out
   unfolding account cutting after reports Accepts joined dealt
-  cut-from [] last taken out s xs w a =
-      ap (λ (o : Outcome). first (at taken out s xs) [] o []) (finish-holding e m s xs last w a ∙ ap (λ (is : List Item). handOut e m is (closed e m) last) (ending-any noTables t (family e) s xs)) ∙
+  cut-from [] last taken out n s xs le w a =
+      ap (λ (o : Outcome). first (at taken out n s xs) [] o []) (finish-holding e m n (lineFeeds out) s xs last w a ∙
+      ap (λ (is : List Item). handOut e m (n - length xs) n (lineFeeds out) is (closed e m n) last)
+      (ending-any noTables t (family e) s xs)) ∙
       rw (append-nil xs, everything-more s xs (more-any noTables t (family e) s xs w)) (go (eqb m 1 && broken (ending t (family e) s xs)))
     where
       is : List Item
       is = ending t (family e) s xs
 
-      front : (cs : List ℕ) → out ++ take (length cs) (cs ++ drop (length cs) last) ≡ out ++ cs
-      front cs = rw (take-append-seam cs (drop (length cs) last))
-
       one : Bool → Account
-      one b = first (at taken out s xs) [] (b then write 11 (before is) (closed e m) last else write 0 (shown is) (closed e m) last) []
+      one b = first (at taken out n s xs) [] (handedIf e m (n - length xs) n (lineFeeds out) is (closed e m n) last b) []
 
       two : Bool → Account
-      two b = b then record { handed = out ++ before is; reports = length (out ++ before is) ∷ []; decoder = closed e m } else record { handed = out ++ shown is; reports = []; decoder = closed e m }
+      two b = b then stopped e m (n - length xs + reach is) (out ++ before is) else completed e m (out ++ shown is)
 
       go : (b : Bool) → one b ≡ two b
-      go true = λ i. record { handed = front (before is) i; reports = length (front (before is) i) ∷ []; decoder = closed e m }
-      go false = λ i. record { handed = front (shown is) i; reports = []; decoder = closed e m }
-  cut-from (p ∷ ps) last taken out s xs w a =
-      ap (λ (o : Outcome). first (at taken out s xs) (p .chunk) o (cutting t ps last)) (feed-holding e m s xs t (p .chunk) (p .room) w (a .0)) ∙
-      go (eqb m 1 && broken (r .items)) refl (λ taken′ out′ w′ a′. cut-from ps last taken′ out′ (r .shift) (r .rest) w′ a′) ∙
-      sym (ap (λ (is : List Item). dealt e m is out) (everything-cut s xs (p .chunk) (joined ps)))
+      go true = λ i. reported-with (n - length xs + reach is) (front out (before is) last i) (feeds out (before is) i)
+      go false = λ i. ended-with (front out (shown is) last i) (feeds out (shown is) i)
+  cut-from (p ∷ ps) last taken out n s xs le w a =
+      ap (λ (o : Outcome). first (at taken out n s xs) (p .chunk) o (cutting t ps last))
+      (feed-holding e m n (lineFeeds out) s xs t (p .chunk) (p .room) w (a .0)) ∙
+      go (eqb m 1 && broken (r .items)) refl (λ taken′ out′ n′ le′ w′ a′. cut-from ps last taken′ out′ n′ (r .shift) (r .rest) le′ w′ a′) ∙
+      sym (ap (λ (is : List Item). dealt e m (n - length xs) is out) (everything-cut s xs (p .chunk) (joined ps)))
     where
       H : History
-      H = at taken out s xs
+      H = at taken out n s xs
 
       cs : List Call
       cs = cutting t ps last
@@ -261,30 +296,88 @@ module _ (t : Tables) (e m : ℕ) where
       later : List Item
       later = everything t (family e) (r .shift) (r .rest ++ joined ps)
 
-      front : (cs : List ℕ) → out ++ take (length cs) (cs ++ drop (length cs) (p .room)) ≡ out ++ cs
-      front cs = rw (take-append-seam cs (drop (length cs) (p .room)))
+      place : ℕ
+      place = n - length xs
 
-      given : Bool → Outcome
-      given b = b then write 11 (before (r .items)) (closed e m) (p .room) else write 0 (shown (r .items)) (holding e m (r .shift) (r .rest)) (p .room)
+      now : ℕ
+      now = n + length (p .chunk)
+
+      -- the widths of the items and the bytes left over are the bytes held and the chunk
+      bytes : widths (r .items) + length (r .rest) ≡ length xs + length (p .chunk)
+      bytes =
+          let R = reading (keeps (family e)) (next t (family e)) (next-laws t (family e)) s (xs ++ p .chunk) in
+          omega (arith, R .wide, ap length (R .split), length-append xs (p .chunk), length-append (R .used) (r .rest))
+
+      wrote : Bool → Outcome
+      wrote = handedIf e m place now (lineFeeds out) (r .items) (λ l. holding e m now l (r .shift) (r .rest)) (p .room)
+
+      leads : noted H (p .chunk) (wrote false) ≡ at (taken ++ p .chunk) (out ++ shown (r .items)) now (r .shift) (r .rest)
+      leads = λ i. record {
+        taken = taken ++ p .chunk;
+        handed = front out (shown (r .items)) (p .room) i;
+        decoder = holding e m now (feeds out (shown (r .items)) i) (r .shift) (r .rest);
+      }
 
       go : (b : Bool) → eqb m 1 && broken (r .items) ≡ b →
-          ((taken′ out′ : List ℕ) → next noTables (family e) (r .shift) (r .rest) ≡ more → Accepts t (at taken′ out′ (r .shift) (r .rest)) ps last →
-          account (at taken′ out′ (r .shift) (r .rest)) (cutting t ps last) ≡ dealt e m (everything t (family e) (r .shift) (r .rest ++ joined ps)) out′) →
-          first H (p .chunk) (given b) cs ≡ dealt e m (r .items ++ later) out
+          ((taken′ out′ : List ℕ) (n′ : ℕ) → length (r .rest) ≤ n′ → next noTables (family e) (r .shift) (r .rest) ≡ more →
+          Accepts t (at taken′ out′ n′ (r .shift) (r .rest)) ps last →
+          account (at taken′ out′ n′ (r .shift) (r .rest)) (cutting t ps last) ≡ dealt e m (n′ - length (r .rest)) later out′) →
+          first H (p .chunk) (wrote b) cs ≡ dealt e m place (r .items ++ later) out
       go true q ih =
-          ap (λ (x : Account). record { handed = x .handed; reports = length (noted H (p .chunk) (given true) .handed) ∷ x .reports; decoder = x .decoder }) (shut t ps last (noted H (p .chunk) (given true)) refl) ∙
-          (λ i. record { handed = front (before (r .items)) i; reports = length (front (before (r .items)) i) ∷ []; decoder = closed e m }) ∙ sym (dealt-stop e m (r .items) later out q)
+          let h = noted H (p .chunk) (wrote true) in
+          ap (λ (x : Account). record { handed = x .handed; reports = reported h (wrote true .answer) ∷ x .reports; decoder = x .decoder })
+          (shut t ps last h refl) ∙
+          (λ i. reported-with (place + reach (r .items)) (front out (before (r .items)) (p .room) i) (feeds out (before (r .items)) i)) ∙
+          sym (dealt-stop e m place (r .items) later out q)
       go false q ih =
-          let spec : feeding (holding e m s xs) t (p .chunk) (p .room) ≡ given false = feed-holding e m s xs t (p .chunk) (p .room) w (a .0) ∙ ap given q in
-          let onward : Accepts t (noted H (p .chunk) (given false)) ps last = subst (λ (o : Outcome). Accepts t (noted H (p .chunk) o) ps last) spec (a .1 (ap (λ (o : Outcome). eqb (o .answer .refusal) 11) spec)) in
-          let accepts : Accepts t (at (taken ++ p .chunk) (out ++ shown (r .items)) (r .shift) (r .rest)) ps last = subst (λ (out′ : List ℕ). Accepts t (at (taken ++ p .chunk) out′ (r .shift) (r .rest)) ps last) (front (shown (r .items))) onward in
-          let waits = more-any t noTables (family e) (r .shift) (r .rest) (reading (keeps (family e)) (next t (family e)) (next-laws t (family e)) s (xs ++ p .chunk) .waits) in
-          ap (λ (out′ : List ℕ). account (at (taken ++ p .chunk) out′ (r .shift) (r .rest)) cs) (front (shown (r .items))) ∙
-          ih (taken ++ p .chunk) (out ++ shown (r .items)) waits accepts ∙ sym (dealt-on e m (r .items) later out q)
+          let spec : feeding (holding e m n (lineFeeds out) s xs) t (p .chunk) (p .room) ≡ wrote false =
+          feed-holding e m n (lineFeeds out) s xs t (p .chunk) (p .room) w (a .0) ∙ ap wrote q in
+          let onward : Accepts t (noted H (p .chunk) (wrote false)) ps last =
+          subst (λ (o : Outcome). Accepts t (noted H (p .chunk) o) ps last) spec
+          (a .1 (ap (λ (o : Outcome). eqb (o .answer .refusal) 11) spec)) in
+          let accepts = subst (λ (h : History). Accepts t h ps last) leads onward in
+          let waits = reading (keeps (family e)) (next t (family e)) (next-laws t (family e)) s (xs ++ p .chunk) .waits in
+          let waits′ = more-any t noTables (family e) (r .shift) (r .rest) waits in
+          let far : now - length (r .rest) ≡ place + widths (r .items) = omega (arith, bytes, le) in
+          ap (λ (h : History). account h cs) leads ∙
+          ih (taken ++ p .chunk) (out ++ shown (r .items)) now (omega (arith, bytes, le)) waits′ accepts ∙
+          ap (λ (x : ℕ). dealt e m x later (out ++ shown (r .items))) far ∙ sym (dealt-on e m place (r .items) later out q)
 
 -- Cut anywhere into accepted feeds with one pair of tables, and finished: the account of the whole.
-pub cut-is-whole : (t : Tables) (e m rule : ℕ) → openRefusal e m rule ≡ 0 → (ps : List Piece) (last : List ℕ) → Accepts t (start e m rule) ps last → account (start e m rule) (cutting t ps last) ≡ wholeAccount t e m rule (joined ps)
-unfolding wholeAccount
+pub cut-is-whole : (t : Tables) (e m rule : ℕ) → openRefusal e m rule ≡ 0 → (ps : List Piece) (last : List ℕ) →
+    Accepts t (start e m rule) ps last → account (start e m rule) (cutting t ps last) ≡ wholeAccount t e m rule (joined ps)
+unfolding wholeAccount lineFeeds
 cut-is-whole t e m rule o ps last a =
     let k = opened-is e m rule o in
-    ap (λ (h : History). account h (cutting t ps last)) k ∙ cut-from t e m ps last [] [] (newShift e rule) [] (empty noTables (family e) (newShift e rule)) (subst (λ (h : History). Accepts t h ps last) k a)
+    ap (λ (h : History). account h (cutting t ps last)) k ∙
+    cut-from t e m ps last [] [] 0 (newShift e rule) [] (lit≤ tt) (empty noTables (family e) (newShift e rule))
+    (subst (λ (h : History). Accepts t h ps last) k a)
+
+-- Without a report everything is taken.
+pub cut-taken : (t : Tables) (ps : List Piece) (last : List ℕ) (h : History) → Accepts t h ps last → reports h (cutting t ps last) ≡ [] →
+    after h (cutting t ps last) .taken ≡ h .taken ++ joined ps
+unfolding reports cutting after Accepts joined
+cut-taken t [] last h a r = go (accepted (finishing (h .decoder) last .answer .refusal))
+  where
+    go : (b : Bool) → h .taken ++ (b then [] else []) ≡ h .taken ++ []
+    go true = refl
+    go false = refl
+cut-taken t (p ∷ ps) last h a r = go (eqb (o .answer .refusal) 11) refl r (λ h′ a′ r′. cut-taken t ps last h′ a′ r′)
+  where
+    o : Outcome
+    o = feeding (h .decoder) t (p .chunk) (p .room)
+
+    cs : List Call
+    cs = cutting t ps last
+
+    h₁ : History
+    h₁ = noted h (p .chunk) (feeding (h .decoder) t (p .chunk) (p .room))
+
+    took : h₁ .taken ≡ h .taken ++ p .chunk
+    took = rw (feed-accepted (h .decoder) t (p .chunk) (p .room) (a .0))
+
+    go : (b : Bool) → eqb (o .answer .refusal) 11 ≡ b → (b then reported h₁ (o .answer) ∷ reports h₁ cs else reports h₁ cs) ≡ [] →
+        ((h′ : History) → Accepts t h′ ps last → reports h′ cs ≡ [] → after h′ cs .taken ≡ h′ .taken ++ joined ps) →
+        after h₁ cs .taken ≡ h .taken ++ (p .chunk ++ joined ps)
+    go true q r ih = let z : _≡_ {A = ℕ} 0 1 = cc in absurd (omega arith)
+    go false q r ih = ih h₁ (a .1 q) r ∙ ap (λ (l : List ℕ). l ++ joined ps) took ∙ append-assoc (h .taken) (p .chunk) (joined ps)

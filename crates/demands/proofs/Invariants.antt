@@ -1,13 +1,14 @@
--- What every list of calls keeps true: the count and the separators, where decoding stands, and whether the decoder has ended. Assumes nothing.
+-- What every list of calls keeps true: the count and the separators, where decoding stands, the totals, and whether the decoder has ended.
+-- Assumes nothing.
 use mathlib.Core.Path.{_≡_, refl, sym, ap, _∙_, subst}
 use mathlib.Core.Bool.{Bool, true, false, _&&_, _||_}
 use mathlib.Core.List.{List, [], _∷_, _++_, append-assoc, append-nil}
-use Prim.Native.Nat.{ℕ, _≤_}
+use Prim.Native.Nat.{ℕ, _+_, _≤_}
 use native.Mathlib.Omega.{arith}
 use lib.Dec.{T, eqb, lit≤}
 use lib.ListN.{length, length-append}
 use borrow.Author.Tests.{eqb-true}
-use Rattle.standard.specs.Base.{separators}
+use Rattle.standard.specs.Base.{separators, lineFeeds}
 use Rattle.standard.specs.Encodings.{family, Tables, noTables}
 use Rattle.standard.specs.Sequence.{Shift, more}
 use Rattle.standard.specs.Next.{next}
@@ -19,6 +20,7 @@ use Rattle.standard.proofs.AnyTables.{Place, place, tables-meet}
 use Rattle.standard.proofs.Items.{before-length}
 use Rattle.standard.proofs.Reading.{separators-append, reading, ending-is, empty}
 use Rattle.standard.proofs.Separators.{none-held, chunk-separators}
+use Rattle.standard.proofs.LineFeeds.{line-feeds-append}
 use Rattle.decoder.specs.Record.{shiftOf, heldOf, bit, holding}
 use Rattle.demands.specs.Histories.{Call, feed, finish, History, accepted, after, ends, anyEnds}
 use Rattle.decoder.specs.declared.Decoder.{Decoder}
@@ -66,46 +68,78 @@ module _ (e m : ℕ) where
 
   pub kept-step : {taken handed : List ℕ} {d : Decoder} {c : Call} {h : History} {n : ℕ} → Step e m taken handed d c h n → Kept e m taken handed (heldOf d) → Kept e m (h .taken) (h .handed) (heldOf (h .decoder))
   kept-step (refused d c n p) i = i
-  kept-step {taken} {handed} (fed s xs chunk t room w z q) i =
+  kept-step {taken} {handed} (fed n l s xs chunk t room w z q) i =
       let r = readOf e t s xs chunk in
       let waits = reading (keeps (family e)) (next t (family e)) (next-laws t (family e)) s (xs ++ chunk) .waits in
-      rw (held-holding e m (r .shift) (r .rest) (at-more (keeps (family e)) (next t (family e)) (next-laws t (family e)) (r .shift) (r .rest) waits .0))
-      (kept-fed taken handed xs (rw (held-holding e m s xs (few e m s xs w)) at i) s w chunk t)
-  kept-step {taken} {handed} (reported s xs chunk t room w z q) i =
+      let short = at-more (keeps (family e)) (next t (family e)) (next-laws t (family e)) (r .shift) (r .rest) waits .0 in
+      rw (held-holding e m (n + length chunk) (l + lineFeeds (shown (r .items))) (r .shift) (r .rest) short)
+      (kept-fed taken handed xs (rw (held-holding e m n l s xs (few e m s xs w)) at i) s w chunk t)
+  kept-step {taken} {handed} (reported n l s xs chunk t room w z q) i =
       let R = reading (keeps (family e)) (next t (family e)) (next-laws t (family e)) s (xs ++ chunk) in
-      kept-reported taken handed xs (rw (held-holding e m s xs (few e m s xs w)) at i) chunk (readOf e t s xs chunk .items) (omega (arith, R .count, ap length (R .split) ∙ length-append (R .used) (readOf e t s xs chunk .rest))) q
-  kept-step {taken} {handed} (closes s xs room w z q) i = kept-closed taken handed xs (rw (held-holding e m s xs (few e m s xs w)) at i) s w
-  kept-step {taken} {handed} (closes-reported s xs room w z q) i =
-      rw (append-nil taken) at (kept-reported taken handed xs (rw (held-holding e m s xs (few e m s xs w)) at i) [] (endOf e s xs) (rw (append-nil xs) (ending-is noTables (family e) s xs .count)) q)
+      let r = readOf e t s xs chunk in
+      kept-reported taken handed xs (rw (held-holding e m n l s xs (few e m s xs w)) at i) chunk (r .items)
+      (omega (arith, R .count, ap length (R .split) ∙ length-append (R .used) (r .rest))) q
+  kept-step {taken} {handed} (closes n l s xs room w z q) i =
+      kept-closed taken handed xs (rw (held-holding e m n l s xs (few e m s xs w)) at i) s w
+  kept-step {taken} {handed} (closes-reported n l s xs room w z q) i =
+      rw (append-nil taken) at (kept-reported taken handed xs (rw (held-holding e m n l s xs (few e m s xs w)) at i) [] (endOf e s xs)
+      (rw (append-nil xs) (ending-is noTables (family e) s xs .count)) q)
 
   -- Where decoding the bytes taken from the first shift, with no tables, stands: at the shift and the bytes of the record.
   abbrev pub Tracks : Shift → List ℕ → Decoder → Type 0
   Tracks s₀ taken d = d .ended ≡ 0 → place (decode (next noTables (family e)) s₀ taken) ≡ record { shift = shiftOf d; rest = heldOf d }
 
-  place-holding : (s : Shift) (xs : List ℕ) → length xs ≤ 3 → _≡_ {A = Place} (record { shift = shiftOf (holding e m s xs); rest = heldOf (holding e m s xs) }) (record { shift = s; rest = xs })
-  place-holding s xs l = λ i. record { shift = shift-holding e m s xs i; rest = held-holding e m s xs l i }
+  place-holding : (n l : ℕ) (s : Shift) (xs : List ℕ) → length xs ≤ 3 →
+      let d = holding e m n l s xs in _≡_ {A = Place} (record { shift = shiftOf d; rest = heldOf d }) (record { shift = s; rest = xs })
+  place-holding n l s xs h = λ i. record { shift = shift-holding e m n l s xs i; rest = held-holding e m n l s xs h i }
 
-  pub tracks-new : (s₀ : Shift) → Tracks s₀ [] (holding e m s₀ [])
-  tracks-new s₀ o = ap place (decode-more (keeps (family e)) (next noTables (family e)) (next-laws noTables (family e)) s₀ [] (empty noTables (family e) s₀)) ∙ sym (place-holding s₀ [] (lit≤ tt))
+  pub tracks-new : (s₀ : Shift) → Tracks s₀ [] (holding e m 0 0 s₀ [])
+  tracks-new s₀ o =
+      ap place (decode-more (keeps (family e)) (next noTables (family e)) (next-laws noTables (family e)) s₀ [] (empty noTables (family e) s₀)) ∙
+      sym (place-holding 0 0 s₀ [] (lit≤ tt))
 
   pub tracks-step : (s₀ : Shift) {taken handed : List ℕ} {d : Decoder} {c : Call} {h : History} {n : ℕ} → Step e m taken handed d c h n → Tracks s₀ taken d → Tracks s₀ (h .taken) (h .decoder)
   tracks-step s₀ (refused d c n p) i o = i o
-  tracks-step s₀ {taken} (fed s xs chunk t room w z q) i o =
+  tracks-step s₀ {taken} (fed n l s xs chunk t room w z q) i o =
       let f = next noTables (family e) in
       let L = next-laws noTables (family e) in
       let r = readOf e t s xs chunk in
       let waits = reading (keeps (family e)) (next t (family e)) (next-laws t (family e)) s (xs ++ chunk) .waits in
-      let here : place (decode f s₀ taken) ≡ record { shift = s; rest = xs } = i refl ∙ place-holding s xs (few e m s xs w) in
+      let here : place (decode f s₀ taken) ≡ record { shift = s; rest = xs } = i refl ∙ place-holding n l s xs (few e m s xs w) in
       ap place (chunks (keeps (family e)) f L s₀ taken chunk) ∙ ap (λ (p : Place). place (decode f (p .shift) (p .rest ++ chunk))) here ∙ tables-meet noTables t (family e) s (xs ++ chunk) ∙
-      sym (place-holding (r .shift) (r .rest) (at-more (keeps (family e)) (next t (family e)) (next-laws t (family e)) (r .shift) (r .rest) waits .0))
-  tracks-step s₀ (reported s xs chunk t room w z q) i o = absurd (omega arith)
-  tracks-step s₀ (closes s xs room w z q) i o = absurd (omega arith)
-  tracks-step s₀ (closes-reported s xs room w z q) i o = absurd (omega arith)
+      sym (place-holding (n + length chunk) (l + lineFeeds (shown (r .items))) (r .shift) (r .rest)
+      (at-more (keeps (family e)) (next t (family e)) (next-laws t (family e)) (r .shift) (r .rest) waits .0))
+  tracks-step s₀ (reported n l s xs chunk t room w z q) i o = absurd (omega arith)
+  tracks-step s₀ (closes n l s xs room w z q) i o = absurd (omega arith)
+  tracks-step s₀ (closes-reported n l s xs room w z q) i o = absurd (omega arith)
+
+  -- Both totals are counts over the whole history.
+  pub record Counted (taken handed : List ℕ) (d : Decoder) : Type 0 where
+    pub bytes : d .taken ≡ length taken
+    pub feeds : d .lines ≡ lineFeeds handed
+
+  more-bytes : (taken chunk : List ℕ) {n : ℕ} → n ≡ length taken → n + length chunk ≡ length (taken ++ chunk)
+  more-bytes taken chunk p = rw (length-append taken chunk, p)
+
+  more-feeds : (handed cs : List ℕ) {l : ℕ} → l ≡ lineFeeds handed → l + lineFeeds cs ≡ lineFeeds (handed ++ cs)
+  more-feeds handed cs p = rw (line-feeds-append handed cs, p)
+
+  pub counted-step : {taken handed : List ℕ} {d : Decoder} {c : Call} {h : History} {n : ℕ} →
+      Step e m taken handed d c h n → Counted taken handed d → Counted (h .taken) (h .handed) (h .decoder)
+  counted-step (refused d c n p) i = i
+  counted-step {taken} {handed} (fed n l s xs chunk t room w z q) i =
+      record { bytes = more-bytes taken chunk (i .bytes); feeds = more-feeds handed (shown (readOf e t s xs chunk .items)) (i .feeds) }
+  counted-step {taken} {handed} (reported n l s xs chunk t room w z q) i =
+      record { bytes = more-bytes taken chunk (i .bytes); feeds = more-feeds handed (before (readOf e t s xs chunk .items)) (i .feeds) }
+  counted-step {taken} {handed} (closes n l s xs room w z q) i =
+      record { bytes = i .bytes; feeds = more-feeds handed (shown (endOf e s xs)) (i .feeds) }
+  counted-step {taken} {handed} (closes-reported n l s xs room w z q) i =
+      record { bytes = i .bytes; feeds = more-feeds handed (before (endOf e s xs)) (i .feeds) }
 
   -- Whether the decoder has ended.
   ended-bit : {d : Decoder} → Stands e m d → d .ended ≡ bit (eqb (d .ended) 1)
-  ended-bit (reads s xs w) = refl
-  ended-bit ended = refl
+  ended-bit (reads n l s xs w) = refl
+  ended-bit (ended n l) = refl
 
   or-right : (a b : Bool) → a || b ≡ false → b ≡ false
   or-right true b h = absurd (subst T h tt)
@@ -121,10 +155,10 @@ module _ (e m : ℕ) where
 
   ended-step : {taken handed : List ℕ} {d : Decoder} {c : Call} {h : History} {n : ℕ} → Step e m taken handed d c h n → Stands e m d → h .decoder .ended ≡ bit (eqb (d .ended) 1 || ends c n)
   ended-step (refused d c n p) st = ended-bit st ∙ ap bit (sym (or-false (eqb (d .ended) 1) (ends c n) (not-ends c n p)))
-  ended-step (fed s xs chunk t room w z q) st = refl
-  ended-step (reported s xs chunk t room w z q) st = refl
-  ended-step (closes s xs room w z q) st = refl
-  ended-step (closes-reported s xs room w z q) st = refl
+  ended-step (fed n l s xs chunk t room w z q) st = refl
+  ended-step (reported n l s xs chunk t room w z q) st = refl
+  ended-step (closes n l s xs room w z q) st = refl
+  ended-step (closes-reported n l s xs room w z q) st = refl
 
   or-assoc : (a b c : Bool) → (a || b) || c ≡ a || (b || c)
   or-assoc true b c = refl

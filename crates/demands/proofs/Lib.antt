@@ -2,8 +2,11 @@ pub mod Steps
 pub mod Refused
 pub mod Invariants
 pub mod Cutting
+pub mod Shapes
+pub mod ShiftsIso
 pub mod Shifts
 pub mod Validity
+pub mod Ways
 pub mod Reaching
 pub mod Rooms
 pub mod Samples

@@ -1,46 +1,47 @@
 -- Refused calls change nothing, wherever they stand in a list of calls. Assumes nothing.
 use mathlib.Core.Path.{_≡_, refl, sym, ap, _∙_, subst}
-use mathlib.Core.Bool.{Bool, true, false, _&&_, _||_}
+use mathlib.Core.Bool.{Bool, true, false, _||_}
 use mathlib.Core.List.{List, [], _∷_, append-nil}
-use Prim.Native.Nat.{ℕ}
+use Prim.Native.Nat.{ℕ, _+_, _-_}
 use lib.Dec.{T, eqb}
 use lib.ListN.{length}
 use Rattle.standard.specs.Base.{_then_else_}
 use Rattle.standard.specs.Encodings.{Tables}
-use Rattle.standard.specs.Decode.{Item, shown, broken, before}
+use Rattle.standard.specs.Decode.{Item}
 use Rattle.decoder.specs.Record.{holding, closed}
-use Rattle.decoder.specs.Calls.{Outcome, refuse, write, handOut, handOutRead, readOn, feedRefusal, feeding, readEnd, finishRefusal, finishing}
+use Rattle.decoder.specs.Calls.{Outcome, handOut, readOn, feedRefusal, feeding, readEnd}
 use Rattle.decoder.specs.declared.Decoder.{Decoder}
 use Rattle.demands.specs.Histories.{Call, feed, finish, History, accepted, noted, outcome, afterOne, after, acceptedCalls}
-use Rattle.demands.specs.Statements.{reports, account, RefusedNothing}
+use Rattle.demands.specs.Statements.{Report, reported, reports, untaken, account, RefusedNothing}
+use Rattle.demands.proofs.Steps.{handed-is, fedOut, finishedOut, feed-is, finish-is}
 
 -- what is handed out is accepted
-handed-accepted : (e m : ℕ) (is : List Item) (d : Decoder) (room : List ℕ) → accepted (handOut e m is d room .answer .refusal) ≡ true
-handed-accepted e m is d room = go (eqb m 1 && broken is)
-  where
-    go : (b : Bool) → accepted ((b then write 11 (before is) (closed e m) room else write 0 (shown is) d room) .answer .refusal) ≡ true
-    go true = refl
-    go false = refl
+handed-accepted : (e m from n l : ℕ) (is : List Item) (d : ℕ → Decoder) (room : List ℕ) →
+    accepted (handOut e m from n l is d room .answer .refusal) ≡ true
+handed-accepted e m from n l is d room = handed-is (λ (o : Outcome). accepted (o .answer .refusal) ≡ true) e m from n l is d room refl refl
+
+fed-accepted : (d : Decoder) (t : Tables) (chunk room : List ℕ) → accepted (fedOut d t chunk room .answer .refusal) ≡ true
+fed-accepted d t chunk room =
+    let r = readOn d t chunk in
+    let n = d .taken + length chunk in
+    let on : ℕ → Decoder = λ l. holding (d .encoding) (d .mode) n l (r .shift) (r .rest) in
+    handed-accepted (d .encoding) (d .mode) (d .taken - d .held) n (d .lines) (r .items) on room
+
+finished-accepted : (d : Decoder) (room : List ℕ) → accepted (finishedOut d room .answer .refusal) ≡ true
+finished-accepted d room =
+    handed-accepted (d .encoding) (d .mode) (d .taken - d .held) (d .taken) (d .lines) (readEnd d) (closed (d .encoding) (d .mode) (d .taken)) room
+
+pub feed-accepted : (d : Decoder) (t : Tables) (chunk room : List ℕ) → feedRefusal d t chunk room ≡ 0 →
+    accepted (feeding d t chunk room .answer .refusal) ≡ true
+unfolding feeding
+feed-accepted d t chunk room h = rw h (fed-accepted d t chunk room)
 
 -- a refused call leaves the history as it was
-by-test : (h : History) (chunk : List ℕ) (b : Bool) (o : Outcome) (n : ℕ) (room : List ℕ) → accepted (o .answer .refusal) ≡ true →
-    accepted ((b then o else refuse n (h .decoder) room) .answer .refusal) ≡ false → noted h chunk (b then o else refuse n (h .decoder) room) ≡ h
-by-test h chunk true o n room a q = absurd (subst T (sym a ∙ q) tt)
-by-test h chunk false o n room a q = rw (q, append-nil (h .taken), append-nil (h .handed))
-
 refused-same : (h : History) (c : Call) → accepted (outcome h c .answer .refusal) ≡ false → afterOne h c ≡ h
-unfolding feeding finishing
-refused-same h (feed chunk t room) q =
-    let d = h .decoder in
-    let r = readOn d t chunk in
-    let n = feedRefusal d t chunk room in
-    let a = handed-accepted (d .encoding) (d .mode) (r .items) (holding (d .encoding) (d .mode) (r .shift) (r .rest)) room in
-    by-test h chunk (eqb n 0) (handOutRead (d .encoding) (d .mode) r room) n room a q
-refused-same h (finish room) q =
-    let d = h .decoder in
-    let n = finishRefusal d room in
-    let a = handed-accepted (d .encoding) (d .mode) (readEnd d) (closed (d .encoding) (d .mode)) room in
-    by-test h [] (eqb n 0) (handOut (d .encoding) (d .mode) (readEnd d) (closed (d .encoding) (d .mode)) room) n room a q
+refused-same h (feed chunk t room) = feed-is (λ (o : Outcome). accepted (o .answer .refusal) ≡ false → noted h chunk o ≡ h) (h .decoder) t chunk room
+    (λ z q. absurd (subst T (sym (fed-accepted (h .decoder) t chunk room) ∙ q) tt)) (λ z q. rw (q, append-nil (h .taken), append-nil (h .handed)))
+refused-same h (finish room) = finish-is (λ (o : Outcome). accepted (o .answer .refusal) ≡ false → noted h [] o ≡ h) (h .decoder) room
+    (λ z q. absurd (subst T (sym (finished-accepted (h .decoder) room) ∙ q) tt)) (λ z q. rw (q, append-nil (h .taken), append-nil (h .handed)))
 
 no-report : (n : ℕ) → accepted n ≡ false → eqb n 11 ≡ false
 no-report n q = go (eqb n 0) (eqb n 11) q
@@ -76,8 +77,8 @@ same-reports h (c ∷ cs) = go (accepted (outcome h c .answer .refusal)) refl (s
     rest : List Call
     rest = acceptedCalls h′ cs
 
-    one : Bool → List ℕ → List ℕ
-    one b ns = b then length (h′ .handed) ∷ ns else ns
+    one : Bool → List Report → List Report
+    one b rs = b then reported h′ (outcome h c .answer) ∷ rs else rs
 
     go : (b : Bool) → accepted (outcome h c .answer .refusal) ≡ b → reports h′ rest ≡ reports h′ cs →
         reports h (b then c ∷ rest else rest) ≡ one (eqb (outcome h c .answer .refusal) 11) (reports h′ cs)
@@ -91,5 +92,5 @@ refused-nothing h cs =
     let k = same-history h cs in
     record {
       same-history = k;
-      same-account = λ i. record { handed = k i .handed; reports = same-reports h cs i; decoder = k i .decoder };
+      same-account = λ i. record { handed = k i .handed; reports = same-reports h cs i; decoder = untaken (k i .decoder) };
     }

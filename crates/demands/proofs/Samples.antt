@@ -1,11 +1,12 @@
 -- The sample readings hold. Assumes nothing.
 use mathlib.Core.Path.{_≡_, refl, _∙_}
-use mathlib.Core.List.{[], _∷_}
+use mathlib.Core.List.{List, [], _∷_}
 use Prim.Native.Nat.{ℕ, _≤_}
 use lib.Dec.{lit≤}
 use lib.ListN.{replicate}
 use borrow.Author.Tests.{le-ltb}
-use Rattle.standard.specs.Encodings.{family, traits, fits, noTables}
+use Rattle.standard.specs.Base.{lineFeeds}
+use Rattle.standard.specs.Encodings.{family, traits, fits}
 use Rattle.standard.specs.Sequence.{cell}
 use Rattle.standard.specs.Layouts.{pointerOf, pairCode}
 use Rattle.standard.specs.Sequences.Utf8.{utf8, utf8Low, utf8High}
@@ -20,11 +21,11 @@ use Rattle.standard.specs.Decode.{reads, decode, oneError, isoEnd, ending, show
 use Rattle.standard.proofs.FamilyLaws.{keeps, next-laws}
 use Rattle.standard.proofs.Walk.{decode-more}
 use Rattle.standard.proofs.Reading.{empty, no-bytes}
-use Rattle.decoder.specs.Valid.{possible, unused, validRest, valid}
+use Rattle.decoder.specs.Valid.{isoCost, isoLeast, possible, unused, validRest, valid}
 use Rattle.decoder.specs.Record.{newShift}
 use Rattle.decoder.specs.Calls.{openRefusal, opening, feedRefusal, feeding, finishRefusal, finishing}
 use Rattle.demands.specs.Histories.{after, start}
-use Rattle.demands.specs.Statements.{joined, cutting, reports, account, Roomy}
+use Rattle.demands.specs.Statements.{Piece, joined, cutting, reports, account, Roomy}
 use Rattle.demands.specs.Whole.{dealt, wholeAccount}
 use Rattle.demands.specs.Samples.{filled, gives, Samples}
 use Rattle.demands.proofs.Cutting.{cut-is-whole}
@@ -33,16 +34,18 @@ use Rattle.demands.proofs.Rooms.{roomy}
 
 -- no bytes: the account of the whole of an empty input
 nothing-given : (e rule : ℕ) → e ≤ 39 → rule ≤ 1 → gives e rule (filled 0 (family e)) [] []
-unfolding openRefusal wholeAccount dealt everything Roomy joined shown broken
+unfolding openRefusal wholeAccount dealt everything Roomy joined shown broken lineFeeds
 nothing-given e rule a r =
     let t = filled 0 (family e) in
     let s = newShift e rule in
     let o : openRefusal e 0 rule ≡ 0 = rw (le-ltb 39 e a, le-ltb 1 rule r) in
-    cut-is-whole t e 0 rule o (record { chunk = []; room = replicate 3 0 } ∷ []) (replicate 3 0) (roomy t e 0 rule o (record { chunk = []; room = replicate 3 0 } ∷ []) (replicate 3 0) (filled-fits 0 (family e)) (lit≤ tt, lit≤ tt, lit≤ tt)) ∙
+    let once : List Piece = record { chunk = []; room = replicate 3 0 } ∷ [] in
+    cut-is-whole t e 0 rule o once (replicate 3 0)
+    (roomy t e 0 rule o once (replicate 3 0) (filled-fits 0 (family e)) (lit≤ tt) (lit≤ tt, lit≤ tt, lit≤ tt)) ∙
     rw (decode-more (keeps (family e)) (next t (family e)) (next-laws t (family e)) s [] (empty t (family e) s), no-bytes t (family e) s)
 
 pub samples : Samples
-unfolding family traits fits filled account cutting after reports start opening openRefusal feeding feedRefusal finishing finishRefusal valid validRest unused possible decode reads ending oneError isoEnd shown broken before next cell utf8 utf8Low utf8High gb18030 gb18030Range gb18030FourCode gb18030FourPointer big5 big5Pair eucJp iso2022Jp escaped byteOut shiftJis shiftJisCode pointerOf pairCode utf16 unit
+unfolding family traits fits filled account cutting after reports start opening openRefusal feeding feedRefusal finishing finishRefusal valid validRest unused possible isoCost isoLeast lineFeeds decode reads ending oneError isoEnd shown broken before next cell utf8 utf8Low utf8High gb18030 gb18030Range gb18030FourCode gb18030FourPointer big5 big5Pair eucJp iso2022Jp escaped byteOut shiftJis shiftJisCode pointerOf pairCode utf16 unit
 samples = record {
   no-bytes-1 = λ e a. (nothing-given e 0 a (lit≤ tt), nothing-given e 1 a (lit≤ tt));
   utf8-2 = (refl, refl);

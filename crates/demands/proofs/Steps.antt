@@ -2,31 +2,32 @@
 use mathlib.Core.Path.{_≡_, refl, sym, ap, _∙_, subst}
 use mathlib.Core.Bool.{Bool, true, false, not, _&&_}
 use mathlib.Core.List.{List, [], _∷_, _++_, append-nil}
-use Prim.Native.Nat.{ℕ, _+_, _≤_}
+use Prim.Native.Nat.{ℕ, _+_, _-_, _≤_}
 use lib.Dec.{T, ltb, eqb}
 use lib.ListN.{length, take, drop}
 use lib.Seq.{take-append-seam}
 use borrow.Author.Tests.{eqb-true}
-use Rattle.standard.specs.Base.{_then_else_}
+use Rattle.standard.specs.Base.{_then_else_, lineFeeds}
 use Rattle.standard.specs.Encodings.{family, Tables, noTables, fits}
 use Rattle.standard.specs.Sequence.{Shift, more}
 use Rattle.standard.specs.Next.{next}
-use Rattle.standard.specs.Decode.{Item, Read, decode, ending, shown, broken, before}
+use Rattle.standard.specs.Decode.{Item, Read, decode, ending, shown, broken, before, reach}
 use Rattle.standard.proofs.FamilyLaws.{keeps, next-laws}
 use Rattle.standard.proofs.Walk.{at-more}
 use Rattle.standard.proofs.AnyTables.{more-any}
 use Rattle.standard.proofs.Reading.{reading, empty}
 use Rattle.decoder.specs.Valid.{valid}
 use Rattle.decoder.specs.Record.{holding, closed, newShift}
-use Rattle.decoder.specs.Calls.{openRefusal, opening, Outcome, refuse, write, handOut, handOutRead, feedRefusal, feeding, finishRefusal, finishing}
+use Rattle.decoder.specs.Calls.{openRefusal, opening, Outcome, refuse, write, report, handOut, handOutRead}
+use Rattle.decoder.specs.Calls.{feedRefusal, readOn, feeding, finishRefusal, readEnd, finishing}
 use Rattle.demands.specs.Histories.{Call, feed, finish, History, accepted, noted, outcome, chunkOf, after, start}
 use Rattle.decoder.specs.declared.Decoder.{Decoder}
 use Rattle.decoder.proofs.Records.{bit-back, held-holding}
 
 -- A decoder of encoding e and mode m that calls leave: it reads on from a shift and the bytes of a started sequence, or it has ended.
 pub data Stands (e m : ℕ) : Decoder → Type 0 where
-  reads : (s : Shift) (xs : List ℕ) → next noTables (family e) s xs ≡ more → Stands e m (holding e m s xs)
-  ended : Stands e m (closed e m)
+  reads : (n l : ℕ) (s : Shift) (xs : List ℕ) → next noTables (family e) s xs ≡ more → Stands e m (holding e m n l s xs)
+  ended : (n l : ℕ) → Stands e m (closed e m n l)
 
 -- What is read of the bytes held and a chunk.
 abbrev pub readOf : ℕ → Tables → Shift → List ℕ → List ℕ → Read
@@ -35,17 +36,87 @@ readOf e t s xs chunk = decode (next t (family e)) s (xs ++ chunk)
 abbrev pub endOf : ℕ → Shift → List ℕ → List Item
 endOf e s xs = ending noTables (family e) s xs
 
+-- The records that accepted calls leave: reading on after a chunk, ended by an error among the items, ended after all of them.
+abbrev pub onward : ℕ → ℕ → ℕ → ℕ → List ℕ → Read → Decoder
+onward e m n l chunk r = holding e m (n + length chunk) (l + lineFeeds (shown (r .items))) (r .shift) (r .rest)
+
+abbrev pub stoppedBy : ℕ → ℕ → ℕ → ℕ → List Item → Decoder
+stoppedBy e m n l is = closed e m n (l + lineFeeds (before is))
+
+abbrev pub closedAfter : ℕ → ℕ → ℕ → ℕ → List Item → Decoder
+closedAfter e m n l is = closed e m n (l + lineFeeds (shown is))
+
+-- What is handed out, by the test for an error in refusing mode.
+abbrev pub handedIf : ℕ → ℕ → ℕ → ℕ → ℕ → List Item → (ℕ → Decoder) → List ℕ → Bool → Outcome
+handedIf e m from n l is d room b =
+    b then report (from + reach is) (1 + (l + lineFeeds (before is))) (before is) (stoppedBy e m n l is) room else
+    write (shown is) (d (l + lineFeeds (shown is))) room
+
+pub handed-is : (P : Outcome → Type 0) (e m from n l : ℕ) (is : List Item) (d : ℕ → Decoder) (room : List ℕ) →
+    P (handedIf e m from n l is d room true) → P (handedIf e m from n l is d room false) → P (handOut e m from n l is d room)
+handed-is P e m from n l is d room p q = go (eqb m 1 && broken is)
+  where
+    go : (b : Bool) → P (handedIf e m from n l is d room b)
+    go true = p
+    go false = q
+
+-- What an accepted feed and finish hand out. A call hands out, or it is refused.
+abbrev pub fedOut : Decoder → Tables → List ℕ → List ℕ → Outcome
+fedOut d t chunk room =
+    handOutRead (d .encoding) (d .mode) (d .taken - d .held) (d .taken + length chunk) (d .lines) (readOn d t chunk) room
+
+abbrev pub finishedOut : Decoder → List ℕ → Outcome
+finishedOut d room =
+    handOut (d .encoding) (d .mode) (d .taken - d .held) (d .taken) (d .lines) (readEnd d) (closed (d .encoding) (d .mode) (d .taken)) room
+
+by-number : (P : Outcome → Type 0) (n : ℕ) {o o′ : Outcome} → (n ≡ 0 → P o) → (eqb n 0 ≡ false → P o′) → P (eqb n 0 then o else o′)
+by-number P n {o} {o′} f g = go (eqb n 0) refl
+  where
+    go : (b : Bool) → eqb n 0 ≡ b → P (b then o else o′)
+    go true q = f (eqb-true n 0 q)
+    go false q = g q
+
+pub feed-is : (P : Outcome → Type 0) (d : Decoder) (t : Tables) (chunk room : List ℕ) → let n = feedRefusal d t chunk room in
+    (n ≡ 0 → P (fedOut d t chunk room)) → (eqb n 0 ≡ false → P (refuse n d room)) → P (feeding d t chunk room)
+unfolding feeding
+feed-is P d t chunk room f g = by-number P (feedRefusal d t chunk room) f g
+
+pub finish-is : (P : Outcome → Type 0) (d : Decoder) (room : List ℕ) → let n = finishRefusal d room in
+    (n ≡ 0 → P (finishedOut d room)) → (eqb n 0 ≡ false → P (refuse n d room)) → P (finishing d room)
+unfolding finishing
+finish-is P d room f g = by-number P (finishRefusal d room) f g
+
 -- A call on a decoder, the history it leads to, and its refusal number.
 pub data Step (e m : ℕ) (taken handed : List ℕ) : Decoder → Call → History → ℕ → Type 0 where
   refused : (d : Decoder) (c : Call) (n : ℕ) → accepted n ≡ false → Step e m taken handed d c (record { taken = taken; handed = handed; decoder = d }) n
-  fed : (s : Shift) (xs chunk : List ℕ) (t : Tables) (room : List ℕ) → next noTables (family e) s xs ≡ more → feedRefusal (holding e m s xs) t chunk room ≡ 0 → eqb m 1 && broken (readOf e t s xs chunk .items) ≡ false →
-      Step e m taken handed (holding e m s xs) (feed chunk t room) (record { taken = taken ++ chunk; handed = handed ++ shown (readOf e t s xs chunk .items); decoder = holding e m (readOf e t s xs chunk .shift) (readOf e t s xs chunk .rest) }) 0
-  reported : (s : Shift) (xs chunk : List ℕ) (t : Tables) (room : List ℕ) → next noTables (family e) s xs ≡ more → feedRefusal (holding e m s xs) t chunk room ≡ 0 → eqb m 1 && broken (readOf e t s xs chunk .items) ≡ true →
-      Step e m taken handed (holding e m s xs) (feed chunk t room) (record { taken = taken ++ chunk; handed = handed ++ before (readOf e t s xs chunk .items); decoder = closed e m }) 11
-  closes : (s : Shift) (xs room : List ℕ) → next noTables (family e) s xs ≡ more → finishRefusal (holding e m s xs) room ≡ 0 → eqb m 1 && broken (endOf e s xs) ≡ false →
-      Step e m taken handed (holding e m s xs) (finish room) (record { taken = taken; handed = handed ++ shown (endOf e s xs); decoder = closed e m }) 0
-  closes-reported : (s : Shift) (xs room : List ℕ) → next noTables (family e) s xs ≡ more → finishRefusal (holding e m s xs) room ≡ 0 → eqb m 1 && broken (endOf e s xs) ≡ true →
-      Step e m taken handed (holding e m s xs) (finish room) (record { taken = taken; handed = handed ++ before (endOf e s xs); decoder = closed e m }) 11
+  fed : (n l : ℕ) (s : Shift) (xs chunk : List ℕ) (t : Tables) (room : List ℕ) →
+      next noTables (family e) s xs ≡ more → feedRefusal (holding e m n l s xs) t chunk room ≡ 0 →
+      eqb m 1 && broken (readOf e t s xs chunk .items) ≡ false →
+      Step e m taken handed (holding e m n l s xs) (feed chunk t room)
+      (record {
+        taken = taken ++ chunk;
+        handed = handed ++ shown (readOf e t s xs chunk .items);
+        decoder = onward e m n l chunk (readOf e t s xs chunk);
+      }) 0
+  reported : (n l : ℕ) (s : Shift) (xs chunk : List ℕ) (t : Tables) (room : List ℕ) →
+      next noTables (family e) s xs ≡ more → feedRefusal (holding e m n l s xs) t chunk room ≡ 0 →
+      eqb m 1 && broken (readOf e t s xs chunk .items) ≡ true →
+      Step e m taken handed (holding e m n l s xs) (feed chunk t room)
+      (record {
+        taken = taken ++ chunk;
+        handed = handed ++ before (readOf e t s xs chunk .items);
+        decoder = stoppedBy e m (n + length chunk) l (readOf e t s xs chunk .items);
+      }) 11
+  closes : (n l : ℕ) (s : Shift) (xs room : List ℕ) →
+      next noTables (family e) s xs ≡ more → finishRefusal (holding e m n l s xs) room ≡ 0 →
+      eqb m 1 && broken (endOf e s xs) ≡ false →
+      Step e m taken handed (holding e m n l s xs) (finish room)
+      (record { taken = taken; handed = handed ++ shown (endOf e s xs); decoder = closedAfter e m n l (endOf e s xs) }) 0
+  closes-reported : (n l : ℕ) (s : Shift) (xs room : List ℕ) →
+      next noTables (family e) s xs ≡ more → finishRefusal (holding e m n l s xs) room ≡ 0 →
+      eqb m 1 && broken (endOf e s xs) ≡ true →
+      Step e m taken handed (holding e m n l s xs) (finish room)
+      (record { taken = taken; handed = handed ++ before (endOf e s xs); decoder = stoppedBy e m n l (endOf e s xs) }) 11
 
 -- a call's refusal is none of an accepted one's, unless it is 0
 five-six : (a b : Bool) (n : ℕ) → eqb n 11 ≡ false → eqb (a then 5 else b then 6 else n) 11 ≡ false
@@ -55,13 +126,16 @@ five-six false false n h = h
 
 pub feed-not-11 : (d : Decoder) (t : Tables) (chunk room : List ℕ) → eqb (feedRefusal d t chunk room) 11 ≡ false
 unfolding feedRefusal
-feed-not-11 d t chunk room = five-six (not (valid d)) (eqb (d .ended) 1) _ (go (not (fits (family (d .encoding)) t)) (ltb 65536 (length chunk)) (ltb (length room) (length chunk + d .held)))
+feed-not-11 d t chunk room = five-six (not (valid d)) (eqb (d .ended) 1) _
+    (go (not (fits (family (d .encoding)) t)) (ltb 65536 (length chunk)) (ltb 4294967295 (d .taken + length chunk))
+    (ltb (length room) (length chunk + d .held)))
   where
-    go : (c e f : Bool) → eqb (c then 4 else e then 8 else f then 7 else 0) 11 ≡ false
-    go true e f = refl
-    go false true f = refl
-    go false false true = refl
-    go false false false = refl
+    go : (c e g f : Bool) → eqb (c then 4 else e then 8 else g then 14 else f then 7 else 0) 11 ≡ false
+    go true e g f = refl
+    go false true g f = refl
+    go false false true f = refl
+    go false false false true = refl
+    go false false false false = refl
 
 pub finish-not-11 : (d : Decoder) (room : List ℕ) → eqb (finishRefusal d room) 11 ≡ false
 unfolding finishRefusal
@@ -101,15 +175,17 @@ module _ (e m : ℕ) where
   few s xs w = at-more (keeps (family e)) (next noTables (family e)) (next-laws noTables (family e)) s xs w .0
 
   -- the outcome of an accepted feed and finish
-  pub feed-holding : (s : Shift) (xs : List ℕ) (t : Tables) (chunk room : List ℕ) → next noTables (family e) s xs ≡ more → feedRefusal (holding e m s xs) t chunk room ≡ 0 →
-      feeding (holding e m s xs) t chunk room ≡ handOutRead e m (readOf e t s xs chunk) room
+  pub feed-holding : (n l : ℕ) (s : Shift) (xs : List ℕ) (t : Tables) (chunk room : List ℕ) →
+      next noTables (family e) s xs ≡ more → feedRefusal (holding e m n l s xs) t chunk room ≡ 0 →
+      feeding (holding e m n l s xs) t chunk room ≡ handOutRead e m (n - length xs) (n + length chunk) l (readOf e t s xs chunk) room
   unfolding feeding
-  feed-holding s xs t chunk room w h = rw (h, bit-back (s .flag), held-holding e m s xs (few s xs w))
+  feed-holding n l s xs t chunk room w h = rw (h, bit-back (s .flag), held-holding e m n l s xs (few s xs w))
 
-  pub finish-holding : (s : Shift) (xs room : List ℕ) → next noTables (family e) s xs ≡ more → finishRefusal (holding e m s xs) room ≡ 0 →
-      finishing (holding e m s xs) room ≡ handOut e m (endOf e s xs) (closed e m) room
+  pub finish-holding : (n l : ℕ) (s : Shift) (xs room : List ℕ) →
+      next noTables (family e) s xs ≡ more → finishRefusal (holding e m n l s xs) room ≡ 0 →
+      finishing (holding e m n l s xs) room ≡ handOut e m (n - length xs) n l (endOf e s xs) (closed e m n) room
   unfolding finishing
-  finish-holding s xs room w h = rw (h, bit-back (s .flag), held-holding e m s xs (few s xs w))
+  finish-holding n l s xs room w h = rw (h, bit-back (s .flag), held-holding e m n l s xs (few s xs w))
 
   feed-refused : (d : Decoder) (t : Tables) (chunk room : List ℕ) → eqb (feedRefusal d t chunk room) 0 ≡ false → feeding d t chunk room ≡ refuse (feedRefusal d t chunk room) d room
   unfolding feeding
@@ -133,69 +209,89 @@ module _ (e m : ℕ) where
       step = refused (h .decoder) c n (neither n p q);
     }
 
-    feeds : (s : Shift) (xs : List ℕ) → h .decoder ≡ holding e m s xs → next noTables (family e) s xs ≡ more → (chunk : List ℕ) (t : Tables) (room : List ℕ) → feedRefusal (holding e m s xs) t chunk room ≡ 0 → Stepped e m h (feed chunk t room)
-    feeds s xs k w chunk t room z = go (eqb m 1 && broken (readOf e t s xs chunk .items)) refl
+    feeds : (n l : ℕ) (s : Shift) (xs : List ℕ) → h .decoder ≡ holding e m n l s xs → next noTables (family e) s xs ≡ more →
+        (chunk : List ℕ) (t : Tables) (room : List ℕ) → feedRefusal (holding e m n l s xs) t chunk room ≡ 0 →
+        Stepped e m h (feed chunk t room)
+    feeds n l s xs k w chunk t room z = go (eqb m 1 && broken (readOf e t s xs chunk .items)) refl
       where
         r : Read
         r = readOf e t s xs chunk
 
-        given : Bool → Outcome
-        given b = b then write 11 (before (r .items)) (closed e m) room else write 0 (shown (r .items)) (holding e m (r .shift) (r .rest)) room
+        out : Bool → Outcome
+        out = handedIf e m (n - length xs) (n + length chunk) l (r .items) (λ l′. holding e m (n + length chunk) l′ (r .shift) (r .rest)) room
 
-        is : outcome h (feed chunk t room) ≡ given (eqb m 1 && broken (r .items))
-        is = ap (λ (d : Decoder). feeding d t chunk room) k ∙ feed-holding s xs t chunk room w z
+        is : outcome h (feed chunk t room) ≡ out (eqb m 1 && broken (r .items))
+        is = ap (λ (d : Decoder). feeding d t chunk room) k ∙ feed-holding n l s xs t chunk room w z
+
+        to : List ℕ → Decoder → History
+        to cs d = record { taken = h .taken ++ chunk; handed = cs; decoder = d }
+
+        wrote : (cs : List ℕ) (d : Decoder) → to (h .handed ++ take (length cs) (cs ++ drop (length cs) room)) d ≡ to (h .handed ++ cs) d
+        wrote cs d = ap (λ (cs′ : List ℕ). to cs′ d) (front cs room)
 
         go : (b : Bool) → eqb m 1 && broken (r .items) ≡ b → Stepped e m h (feed chunk t room)
         go true q = record {
-          next = record { taken = h .taken ++ chunk; handed = h .handed ++ before (r .items); decoder = closed e m };
+          next = to (h .handed ++ before (r .items)) (stoppedBy e m (n + length chunk) l (r .items));
           number = 11;
-          leads = ap (noted h chunk) (is ∙ ap given q) ∙ (λ i. record { taken = h .taken ++ chunk; handed = front (before (r .items)) room i; decoder = closed e m });
-          refusal = ap (λ (o : Outcome). o .answer .refusal) (is ∙ ap given q);
-          step = rw k (reported s xs chunk t room w z q);
+          leads = ap (noted h chunk) (is ∙ ap out q) ∙ wrote (before (r .items)) (stoppedBy e m (n + length chunk) l (r .items));
+          refusal = ap (λ (o : Outcome). o .answer .refusal) (is ∙ ap out q);
+          step = rw k (reported n l s xs chunk t room w z q);
         }
         go false q = record {
-          next = record { taken = h .taken ++ chunk; handed = h .handed ++ shown (r .items); decoder = holding e m (r .shift) (r .rest) };
+          next = to (h .handed ++ shown (r .items)) (onward e m n l chunk r);
           number = 0;
-          leads = ap (noted h chunk) (is ∙ ap given q) ∙ (λ i. record { taken = h .taken ++ chunk; handed = front (shown (r .items)) room i; decoder = holding e m (r .shift) (r .rest) });
-          refusal = ap (λ (o : Outcome). o .answer .refusal) (is ∙ ap given q);
-          step = rw k (fed s xs chunk t room w z q);
+          leads = ap (noted h chunk) (is ∙ ap out q) ∙ wrote (shown (r .items)) (onward e m n l chunk r);
+          refusal = ap (λ (o : Outcome). o .answer .refusal) (is ∙ ap out q);
+          step = rw k (fed n l s xs chunk t room w z q);
         }
 
-    finishes : (s : Shift) (xs : List ℕ) → h .decoder ≡ holding e m s xs → next noTables (family e) s xs ≡ more → (room : List ℕ) → finishRefusal (holding e m s xs) room ≡ 0 → Stepped e m h (finish room)
-    finishes s xs k w room z = go (eqb m 1 && broken (endOf e s xs)) refl
+    finishes : (n l : ℕ) (s : Shift) (xs : List ℕ) → h .decoder ≡ holding e m n l s xs → next noTables (family e) s xs ≡ more →
+        (room : List ℕ) → finishRefusal (holding e m n l s xs) room ≡ 0 → Stepped e m h (finish room)
+    finishes n l s xs k w room z = go (eqb m 1 && broken (endOf e s xs)) refl
       where
-        given : Bool → Outcome
-        given b = b then write 11 (before (endOf e s xs)) (closed e m) room else write 0 (shown (endOf e s xs)) (closed e m) room
+        is : List Item
+        is = endOf e s xs
 
-        is : outcome h (finish room) ≡ given (eqb m 1 && broken (endOf e s xs))
-        is = ap (λ (d : Decoder). finishing d room) k ∙ finish-holding s xs room w z
+        out : Bool → Outcome
+        out = handedIf e m (n - length xs) n l (endOf e s xs) (closed e m n) room
+
+        gives : outcome h (finish room) ≡ out (eqb m 1 && broken (endOf e s xs))
+        gives = ap (λ (d : Decoder). finishing d room) k ∙ finish-holding n l s xs room w z
+
+        to : List ℕ → List ℕ → Decoder → History
+        to xs cs d = record { taken = xs; handed = cs; decoder = d }
+
+        wrote : (cs : List ℕ) (d : Decoder) →
+            to (h .taken ++ []) (h .handed ++ take (length cs) (cs ++ drop (length cs) room)) d ≡ to (h .taken) (h .handed ++ cs) d
+        wrote cs d = λ i. to (append-nil (h .taken) i) (front cs room i) d
 
         go : (b : Bool) → eqb m 1 && broken (endOf e s xs) ≡ b → Stepped e m h (finish room)
         go true q = record {
-          next = record { taken = h .taken; handed = h .handed ++ before (endOf e s xs); decoder = closed e m };
+          next = to (h .taken) (h .handed ++ before is) (stoppedBy e m n l is);
           number = 11;
-          leads = ap (noted h []) (is ∙ ap given q) ∙ (λ i. record { taken = append-nil (h .taken) i; handed = front (before (endOf e s xs)) room i; decoder = closed e m });
-          refusal = ap (λ (o : Outcome). o .answer .refusal) (is ∙ ap given q);
-          step = rw k (closes-reported s xs room w z q);
+          leads = ap (noted h []) (gives ∙ ap out q) ∙ wrote (before is) (stoppedBy e m n l is);
+          refusal = ap (λ (o : Outcome). o .answer .refusal) (gives ∙ ap out q);
+          step = rw k (closes-reported n l s xs room w z q);
         }
         go false q = record {
-          next = record { taken = h .taken; handed = h .handed ++ shown (endOf e s xs); decoder = closed e m };
+          next = to (h .taken) (h .handed ++ shown is) (closedAfter e m n l is);
           number = 0;
-          leads = ap (noted h []) (is ∙ ap given q) ∙ (λ i. record { taken = append-nil (h .taken) i; handed = front (shown (endOf e s xs)) room i; decoder = closed e m });
-          refusal = ap (λ (o : Outcome). o .answer .refusal) (is ∙ ap given q);
-          step = rw k (closes s xs room w z q);
+          leads = ap (noted h []) (gives ∙ ap out q) ∙ wrote (shown is) (closedAfter e m n l is);
+          refusal = ap (λ (o : Outcome). o .answer .refusal) (gives ∙ ap out q);
+          step = rw k (closes n l s xs room w z q);
         }
 
     on-feed : (d : Decoder) → h .decoder ≡ d → Stands e m d → (chunk : List ℕ) (t : Tables) (room : List ℕ) (b : Bool) → eqb (feedRefusal d t chunk room) 0 ≡ b → Stepped e m h (feed chunk t room)
     on-feed d k st chunk t room false q = refusing (feed chunk t room) d k (feedRefusal d t chunk room) room q (feed-not-11 d t chunk room)
         (ap (λ (d : Decoder). feeding d t chunk room) k ∙ feed-refused d t chunk room q)
-    on-feed d k (reads s xs w) chunk t room true q = feeds s xs k w chunk t room (eqb-true (feedRefusal (holding e m s xs) t chunk room) 0 q)
-    on-feed d k ended chunk t room true q = absurd (subst T (feed-open (closed e m) t chunk room q) tt)
+    on-feed d k (reads n l s xs w) chunk t room true q =
+        feeds n l s xs k w chunk t room (eqb-true (feedRefusal (holding e m n l s xs) t chunk room) 0 q)
+    on-feed d k (ended n l) chunk t room true q = absurd (subst T (feed-open (closed e m n l) t chunk room q) tt)
 
     on-finish : (d : Decoder) → h .decoder ≡ d → Stands e m d → (room : List ℕ) (b : Bool) → eqb (finishRefusal d room) 0 ≡ b → Stepped e m h (finish room)
     on-finish d k st room false q = refusing (finish room) d k (finishRefusal d room) room q (finish-not-11 d room) (ap (λ (d : Decoder). finishing d room) k ∙ finish-refused d room q)
-    on-finish d k (reads s xs w) room true q = finishes s xs k w room (eqb-true (finishRefusal (holding e m s xs) room) 0 q)
-    on-finish d k ended room true q = absurd (subst T (finish-open (closed e m) room q) tt)
+    on-finish d k (reads n l s xs w) room true q = finishes n l s xs k w room (eqb-true (finishRefusal (holding e m n l s xs) room) 0 q)
+    on-finish d k (ended n l) room true q = absurd (subst T (finish-open (closed e m n l) room q) tt)
 
   pub stepped : (h : History) → Stands e m (h .decoder) → (c : Call) → Stepped e m h c
   stepped h st (feed chunk t room) = on-feed h (h .decoder) refl st chunk t room (eqb (feedRefusal (h .decoder) t chunk room) 0) refl
@@ -204,12 +300,13 @@ module _ (e m : ℕ) where
   -- a call leaves a decoder that stands
   pub still : {taken handed : List ℕ} {d : Decoder} {c : Call} {h : History} {n : ℕ} → Step e m taken handed d c h n → Stands e m d → Stands e m (h .decoder)
   still (refused d c n p) st = st
-  still (fed s xs chunk t room w z q) st =
+  still (fed n l s xs chunk t room w z q) st =
       let r = readOf e t s xs chunk in
-      reads (r .shift) (r .rest) (more-any t noTables (family e) (r .shift) (r .rest) (reading (keeps (family e)) (next t (family e)) (next-laws t (family e)) s (xs ++ chunk) .waits))
-  still (reported s xs chunk t room w z q) st = ended
-  still (closes s xs room w z q) st = ended
-  still (closes-reported s xs room w z q) st = ended
+      let waits = reading (keeps (family e)) (next t (family e)) (next-laws t (family e)) s (xs ++ chunk) .waits in
+      reads (n + length chunk) (l + lineFeeds (shown (r .items))) (r .shift) (r .rest) (more-any t noTables (family e) (r .shift) (r .rest) waits)
+  still (reported n l s xs chunk t room w z q) st = ended (n + length chunk) (l + lineFeeds (before (readOf e t s xs chunk .items)))
+  still (closes n l s xs room w z q) st = ended n (l + lineFeeds (shown (endOf e s xs)))
+  still (closes-reported n l s xs room w z q) st = ended n (l + lineFeeds (before (endOf e s xs)))
 
   -- The induction over every list of calls.
   pub every-list : (P : History → Type 0) → ((h : History) (c : Call) (h′ : History) (n : ℕ) → Stands e m (h .decoder) → P h → Step e m (h .taken) (h .handed) (h .decoder) c h′ n → P h′) →
@@ -221,13 +318,15 @@ module _ (e m : ℕ) where
       subst (λ (h′ : History). P (after h′ cs)) (sym (x .leads)) (every-list P f (x .next) cs (still (x .step) st) (f h c (x .next) (x .number) st p (x .step)))
 
 -- what an accepted opening leaves
-pub opened-is : (e m rule : ℕ) → openRefusal e m rule ≡ 0 → start e m rule ≡ record { taken = []; handed = []; decoder = holding e m (newShift e rule) [] }
+pub opened-is : (e m rule : ℕ) → openRefusal e m rule ≡ 0 →
+    start e m rule ≡ record { taken = []; handed = []; decoder = holding e m 0 0 (newShift e rule) [] }
 unfolding start opening
 opened-is e m rule h = rw h
 
-pub refused-opening : (e m rule : ℕ) → eqb (openRefusal e m rule) 0 ≡ false → start e m rule ≡ record { taken = []; handed = []; decoder = closed 0 0 }
+pub refused-opening : (e m rule : ℕ) → eqb (openRefusal e m rule) 0 ≡ false →
+    start e m rule ≡ record { taken = []; handed = []; decoder = closed 0 0 0 0 }
 unfolding start opening
 refused-opening e m rule h = rw h
 
-pub stands-new : (e m rule : ℕ) → Stands e m (holding e m (newShift e rule) [])
-stands-new e m rule = reads (newShift e rule) [] (empty noTables (family e) (newShift e rule))
+pub stands-new : (e m rule : ℕ) → Stands e m (holding e m 0 0 (newShift e rule) [])
+stands-new e m rule = reads 0 0 (newShift e rule) [] (empty noTables (family e) (newShift e rule))

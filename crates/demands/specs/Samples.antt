@@ -4,6 +4,7 @@ use mathlib.Core.Path.{_≡_}
 use mathlib.Core.List.{List, [], _∷_}
 use Prim.Native.Nat.{ℕ, _+_, _≤_}
 use lib.ListN.{length, replicate}
+use Rattle.standard.specs.Base.{lineFeeds}
 use Rattle.standard.specs.Encodings.{Family, family, Second, cells, ranges, traits, Tables}
 use Rattle.decoder.specs.Record.{closed}
 use Rattle.demands.specs.Histories.{start}
@@ -21,7 +22,8 @@ filled c f = record { first = replicate (traits f .first) c; second = replicate 
 abbrev pub gives : ℕ → ℕ → Tables → List ℕ → List ℕ → Type 0
 gives e rule t xs cs =
     let once : Piece = record { chunk = xs; room = replicate (length xs + 3) 0 } in
-    _≡_ {A = Account} (account (start e 0 rule) (cutting t (once ∷ []) (replicate 3 0))) (record { handed = cs; reports = []; decoder = closed e 0 })
+    _≡_ {A = Account} (account (start e 0 rule) (cutting t (once ∷ []) (replicate 3 0)))
+    (record { handed = cs; reports = []; decoder = closed e 0 0 (lineFeeds cs) })
 
 abbrev pub Reads : ℕ → Tables → List ℕ → List ℕ → Type 0
 Reads e t xs cs = gives e 0 t xs cs × gives e 1 t xs cs

@@ -6,15 +6,16 @@ use mathlib.Core.Option.{Option, some, none}
 use Prim.Native.Nat.{ℕ, _+_, _-_, _≤_}
 use lib.Dec.{T, eqb}
 use lib.ListN.{length, drop}
-use Rattle.standard.specs.Base.{_then_else_, Bytes, separators, scalars}
+use Rattle.standard.specs.Base.{_then_else_, Bytes, separators, lineFeeds, scalars}
 use Rattle.standard.specs.Encodings.{family, traits, Tables, fits}
 use Rattle.standard.specs.Machine.{replacement, fatal, Ran}
-use Rattle.standard.specs.Standard.{standard, isError, dropMark, SoFar, standardSoFar}
+use Rattle.standard.specs.Standard.{standard, isError, dropMark, standardPlace, SoFar, standardSoFar}
 use Rattle.decoder.specs.Record.{heldOf, bit, closed}
 use Rattle.decoder.specs.Valid.{valid}
 use Rattle.decoder.specs.Calls.{feedRefusal, feeding, finishRefusal, finishing}
 use Rattle.demands.specs.Histories.{Call, feed, finish, History, noted, outcome, afterOne, after, acceptedCalls, start, hasEnded, Reachable}
 use Rattle.decoder.specs.declared.Decoder.{Decoder}
+use Rattle.decoder.specs.declared.Answer.{Answer}
 
 -- A chunk, with the room that is lent for it; the chunks joined; their feeds, all with the tables t, and then a finish.
 pub record Piece : Type 0 where
@@ -29,21 +30,46 @@ unfoldable pub cutting : Tables → List Piece → List ℕ → List Call
 cutting t [] last = finish last ∷ []
 cutting t (p ∷ ps) last = feed (p .chunk) t (p .room) ∷ cutting t ps last
 
--- The reports 11 of a list of calls: for each, how many characters were handed out before the error.
-unfoldable pub reports : History → List Call → List ℕ
+-- The reports 11 of a list of calls: for each, how many characters were handed out before the error, its place and its line.
+pub record Report : Type 0 where
+  pub handed : ℕ
+  pub place : ℕ
+  pub line : ℕ
+
+abbrev pub reported : History → Answer → Report
+reported h a = record { handed = length (h .handed); place = a .place; line = a .line }
+
+unfoldable pub reports : History → List Call → List Report
 reports h [] = []
 reports h (c ∷ cs) =
     let h′ = afterOne h c in
-    eqb (outcome h c .answer .refusal) 11 then length (h′ .handed) ∷ reports h′ cs else reports h′ cs
+    let a = outcome h c .answer in
+    eqb (a .refusal) 11 then reported h′ a ∷ reports h′ cs else reports h′ cs
 
--- What demand 2 compares.
+-- What demand 2 compares. An accepted feed takes the whole chunk, so that the bytes taken at a report 11 depend on the cutting:
+-- records are compared without them (`all-taken` and `Demand3.taken-total` say how many they are).
+abbrev pub untaken : Decoder → Decoder
+untaken d = record {
+  taken = 0;
+  lines = d .lines;
+  encoding = d .encoding;
+  mode = d .mode;
+  state = d .state;
+  flag = d .flag;
+  held = d .held;
+  first = d .first;
+  second = d .second;
+  third = d .third;
+  ended = d .ended;
+}
+
 pub record Account : Type 0 where
   pub handed : List ℕ
-  pub reports : List ℕ
+  pub reports : List Report
   pub decoder : Decoder
 
 unfoldable pub account : History → List Call → Account
-account h cs = record { handed = after h cs .handed; reports = reports h cs; decoder = after h cs .decoder }
+account h cs = record { handed = after h cs .handed; reports = reports h cs; decoder = untaken (after h cs .decoder) }
 
 -- Every call is accepted, up to the report 11 if there is one.
 unfoldable pub Accepts : Tables → History → List Piece → List ℕ → Type 0
@@ -63,19 +89,21 @@ AllFeeds t [] = Unit
 AllFeeds t (feed chunk t′ room ∷ cs) = (t′ ≡ t) × AllFeeds t cs
 AllFeeds t (finish room ∷ cs) = ⊥
 
--- The account of a whole input by 000's `run` alone: mode 1 is "fatal"; the mark dropped by the rule; a report where `run` returned error.
+-- The account of a whole input by 000's `run` alone: mode 1 is "fatal"; the mark dropped by the rule; a report where `run` returned error,
+-- behind the longest front that it reads without one, in the line that its output has come to.
 abbrev pub drops : ℕ → ℕ → Bool
 drops e rule = traits (family e) .mark && eqb rule 0
 
-abbrev pub accountOf : ℕ → ℕ → Bool → Option Ran → Option Account
-accountOf e m mark none = none
-accountOf e m mark (some r) =
+abbrev pub accountOf : ℕ → ℕ → Bool → ℕ → Option Ran → Option Account
+accountOf e m mark place none = none
+accountOf e m mark place (some r) =
     let out = mark then dropMark (r .output) else r .output in
-    some (record { handed = out; reports = isError (r .result) then length out ∷ [] else []; decoder = closed e m })
+    let here : Report = record { handed = length out; place = place; line = 1 + lineFeeds out } in
+    some (record { handed = out; reports = isError (r .result) then here ∷ [] else []; decoder = closed e m 0 (lineFeeds out) })
 
 unfoldable pub standardAccount : Tables → ℕ → ℕ → ℕ → List ℕ → Option Account
 standardAccount t e m rule xs =
-    accountOf e m (drops e rule) (standard t (family e) (eqb m 1 then fatal else replacement) xs)
+    accountOf e m (drops e rule) (standardPlace t (family e) xs) (standard t (family e) (eqb m 1 then fatal else replacement) xs)
 
 -- the same before the end of the input, and the bytes held alone
 abbrev pub unmarked : Bool → Option SoFar → Option SoFar
@@ -105,9 +133,13 @@ pub record Demand2 (t : Tables) (e m rule : ℕ) : Type 0 where
       acceptedCalls (start e m rule) cs ≡ acceptedCalls (start e m rule) (cutting t ps last) →
       Bytes (joined ps) → Accepts t (start e m rule) ps last →
       some (account (start e m rule) cs) ≡ standardAccount t e m rule (joined ps)
-  -- the calls are accepted where the tables fit and the rooms have three cells more
+  -- without a report everything is taken, however it was cut
+  pub all-taken : (ps : List Piece) (last : List ℕ) → Accepts t (start e m rule) ps last →
+      reports (start e m rule) (cutting t ps last) ≡ [] →
+      after (start e m rule) (cutting t ps last) .decoder .taken ≡ length (joined ps)
+  -- the calls are accepted where the tables fit, the rooms have three cells more, and there are not too many bytes
   pub rooms-suffice : (ps : List Piece) (last : List ℕ) →
-      fits (family e) t ≡ true → Roomy ps last → Accepts t (start e m rule) ps last
+      fits (family e) t ≡ true → length (joined ps) ≤ 4294967295 → Roomy ps last → Accepts t (start e m rule) ps last
   -- before the finish, too, refused feeds among them
   pub so-far : (cs : List Call) → AllFeeds t cs →
       let h = after (start e m rule) cs in Bytes (h .taken) → h .decoder .ended ≡ 0 →
@@ -133,6 +165,9 @@ pub record Demand3 (e m rule : ℕ) (calls : List Call) (h : History) : Type 0 w
   pub ended : h .decoder .ended ≡ bit (hasEnded e m rule calls)
   pub feed-room : (t : Tables) (chunk room : List ℕ) → length chunk + 3 ≤ length room → feedRefusal (h .decoder) t chunk room ≡ 7 → ⊥
   pub finish-room : (room : List ℕ) → 3 ≤ length room → finishRefusal (h .decoder) room ≡ 7 → ⊥
+  -- both totals are counts over the whole history
+  pub taken-total : h .decoder .taken ≡ length (h .taken)
+  pub lines-total : h .decoder .lines ≡ lineFeeds (h .handed)
   pub only-scalars : Bytes (h .taken) → T (scalars (h .handed))
 
 -- No call writes past the room: whatever the record and what is lent, the room keeps its length.
@@ -140,7 +175,7 @@ pub record RoomKept (d : Decoder) : Type 0 where
   pub fed : (t : Tables) (chunk room : List ℕ) → length (feeding d t chunk room .room) ≡ length room
   pub finished : (room : List ℕ) → length (finishing d room .room) ≡ length room
 
--- Refusal 5 is given exactly when no calls leave the record. (A record's fields are bytes.)
+-- Refusal 5 is given exactly when no calls leave the record. (A record's fields are bytes, and the bytes taken a number of 32 bits.)
 pub record Refusal5 (d : Decoder) : Type 0 where
   pub reachable-valid : Reachable d → valid d ≡ true
-  pub valid-reachable : Bytes (d .first ∷ d .second ∷ d .third ∷ []) → valid d ≡ true → Reachable d
+  pub valid-reachable : Bytes (d .first ∷ d .second ∷ d .third ∷ []) → d .taken ≤ 4294967295 → valid d ≡ true → Reachable d

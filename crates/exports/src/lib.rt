@@ -13,6 +13,14 @@ use index_spec::Line;
 use labels_spec::Found;
 use labels_spec::Named;
 
+// The version of the library, 0.2.0: 10,000 times major, 100 times minor, and patch.
+#[no_mangle]
+pub extern "C" fn hamvukile_version() -> u32
+    ensures { λ r. ⌜ r ≡ 200 ⌝ }
+{
+    200
+}
+
 // The label call.
 #[no_mangle]
 pub extern "C" fn hamvukile_label(bytes: &[u8]) -> Found

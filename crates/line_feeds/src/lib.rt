@@ -1,9 +1,9 @@
-// How many line feeds there are in a part of some bytes, or in the front of some scalars: many at a time, by narrow counts.
+// How many line feeds there are in a part of some bytes or scalars: many at a time, by narrow counts.
 
 ghost use mathlib.Core.Path.{_≡_};
 ghost use mathlib.Core.List.{_∷_, []};
 ghost use Prim.Native.Nat.{_+_, _-_, _≤_};
-ghost use lib.ListN.{length, take};
+ghost use lib.ListN.{length};
 ghost use Rattle.standard.specs.Base.{lineFeeds};
 ghost use Rattle.line_feeds.specs.Parts.{part};
 
@@ -18,7 +18,7 @@ fn one(b: u8) -> u8
 }
 
 // The line feeds among n bytes, at most 255, so that they fit a byte.
-fn in_few(bytes: &[u8], at: usize, n: usize) -> u8
+pub fn in_few(bytes: &[u8], at: usize, n: usize) -> u8
     requires { ⌜ (n ≤ 255) × (at + n ≤ length (now bytes)) ⌝ }
     ensures { λ r. ⌜ r ≡ lineFeeds (part (now (bytes .entry)) at n) ⌝ }
 {
@@ -60,7 +60,7 @@ pub fn in_bytes(bytes: &[u8], from: usize, to: usize) -> usize
 }
 
 // 1 for a line feed, 0 for another scalar.
-fn one_scalar(c: u32) -> u32
+pub fn one_scalar(c: u32) -> u32
     ensures { λ r. ⌜ r ≡ lineFeeds (c ∷ []) ⌝ }
 {
     if c == 0x0A {
@@ -81,26 +81,32 @@ fn in_few_scalars(cells: &[u32], at: usize, n: usize) -> u32
     count
 }
 
-// The line feeds among the first n scalars, in blocks of 1,024 and what is left.
-fn in_many_scalars(cells: &[u32], n: usize) -> usize
-    requires { ⌜ n ≤ length (now cells) ⌝ }
-    ensures { λ r. ⌜ r ≡ lineFeeds (part (now (cells .entry)) 0 n) ⌝ }
+// The line feeds among n scalars, in blocks of 1,024 and what is left.
+fn in_many_scalars(cells: &[u32], at: usize, n: usize) -> usize
+    requires { ⌜ at + n ≤ length (now cells) ⌝ }
+    ensures { λ r. ⌜ r ≡ lineFeeds (part (now (cells .entry)) at n) ⌝ }
 {
     let mut count: usize = 0;
     let mut k: usize = 0;
     while n - k >= 1024 {
-        count += in_few_scalars(cells, k, 1024) as usize;
+        count += in_few_scalars(cells, at + k, 1024) as usize;
         k += 1024;
     }
-    count + in_few_scalars(cells, k, n - k) as usize
+    count + in_few_scalars(cells, at + k, n - k) as usize
 }
 
-// The line feeds among the first n scalars, or among all where there are fewer.
-pub fn in_scalars(cells: &[u32], n: usize) -> usize
-    ensures { λ r. ⌜ r ≡ lineFeeds (take n (now (cells .entry))) ⌝ }
+// The line feeds among the scalars from a place up to another; none where there are no such scalars.
+pub fn in_scalars(cells: &[u32], from: usize, to: usize) -> usize
+    ensures { λ r. ⌜ r ≡ lineFeeds (part (now (cells .entry)) from (to - from)) ⌝ }
 {
-    if cells.len() < n {
-        return in_many_scalars(cells, cells.len());
+    if to <= from {
+        return 0;
     }
-    in_many_scalars(cells, n)
+    if cells.len() <= from {
+        return 0;
+    }
+    if cells.len() < to {
+        return in_many_scalars(cells, from, cells.len() - from);
+    }
+    in_many_scalars(cells, from, to - from)
 }

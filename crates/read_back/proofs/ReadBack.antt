@@ -9,7 +9,7 @@ use lib.Dec.{ltb, eqb}
 use lib.ListN.{length, drop}
 use lib.Seq.{take-append-seam}
 use borrow.Author.Tests.{ltb-false, le-ltb, not-false}
-use Rattle.standard.specs.Base.{scalars}
+use Rattle.standard.specs.Base.{lineFeeds, scalars}
 use Rattle.standard.specs.Encodings.{Family, family, traits, Tables, fits}
 use Rattle.standard.specs.Machine.{Result}
 use Rattle.standard.specs.Encoders.{encoder}
@@ -89,21 +89,23 @@ module _ (e m : ℕ) (t : Tables) (cs bs : List ℕ) (m-number : m ≤ 1) (g : G
   new-reads xs q = rw (kept e, q) (g .reads)
 
   fed : (calls : List Call) → AllFeeds t calls → after (start e m 1) calls .taken ≡ bs →
-      (after (start e m 1) calls .handed ≡ cs) × (after (start e m 1) calls .decoder ≡ holding e m plain [])
-  fed calls a q = let d = new-reads (after (start e m 1) calls .taken) q in
+      (after (start e m 1) calls .handed ≡ cs) × (after (start e m 1) calls .decoder ≡ holding e m (length bs) (lineFeeds cs) plain [])
+  fed calls a q =
+      let d = new-reads (after (start e m 1) calls .taken) q in
       let f = feeds-give t e m 1 (opens e m (g .number) m-number) calls a (ap (λ (r : Read). broken (r .items)) d ∙ single-whole (g .encode) cs) in
-      (f .0 ∙ ap (λ (r : Read). shown (r .items)) d ∙ single-shown (g .encode) cs, f .1 ∙ ap (λ (r : Read). holding e m (r .shift) (r .rest)) d)
+      let out = f .0 ∙ ap (λ (r : Read). shown (r .items)) d ∙ single-shown (g .encode) cs in
+      (out, f .1 ∙ (λ i. holding e m (length (q i)) (lineFeeds (out i)) (d i .shift) (d i .rest)))
 
   all : everything t (family e) (newShift e 1) bs ≡ map (single (g .encode)) cs
   unfolding everything
   all = ap (λ (r : Read). r .items ++ ending t (family e) (r .shift) (r .rest)) (new-reads bs refl) ∙ rw (g .ends, append-nil)
 
-  whole : wholeAccount t e m 1 bs ≡ record { handed = cs; reports = []; decoder = closed e m }
+  whole : wholeAccount t e m 1 bs ≡ record { handed = cs; reports = []; decoder = closed e m 0 (lineFeeds cs) }
   unfolding wholeAccount dealt
   whole = rw (all, single-whole (g .encode) cs, and-false (eqb m 1), single-shown (g .encode) cs)
 
   finished : (ps : List Piece) (last : List ℕ) → joined ps ≡ bs → Accepts t (start e m 1) ps last →
-      account (start e m 1) (cutting t ps last) ≡ record { handed = cs; reports = []; decoder = closed e m }
+      account (start e m 1) (cutting t ps last) ≡ record { handed = cs; reports = []; decoder = closed e m 0 (lineFeeds cs) }
   finished ps last q a = cut-is-whole t e m 1 (opens e m (g .number) m-number) ps last a ∙ rw q whole
 
 pub reads-back : ReadsBack

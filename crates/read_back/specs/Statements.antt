@@ -2,7 +2,8 @@
 use mathlib.Core.Path.{_≡_}
 use mathlib.Core.List.{List, []}
 use Prim.Native.Nat.{ℕ, _≤_}
-use lib.ListN.{take}
+use lib.ListN.{length, take}
+use Rattle.standard.specs.Base.{lineFeeds}
 use Rattle.standard.specs.Encodings.{Tables}
 use Rattle.standard.specs.Sequence.{plain}
 use Rattle.decoder.specs.Record.{holding, closed}
@@ -14,10 +15,10 @@ use Rattle.encoder_spec.specs.Writer.{Outcome, writerCall}
 pub record ReadBack (e m : ℕ) (t : Tables) (cs bs : List ℕ) : Type 0 where
   -- any feeds that take these bytes: nothing is held
   pub fed : (calls : List Call) → AllFeeds t calls → after (start e m 1) calls .taken ≡ bs →
-      (after (start e m 1) calls .handed ≡ cs) × (after (start e m 1) calls .decoder ≡ holding e m plain [])
+      (after (start e m 1) calls .handed ≡ cs) × (after (start e m 1) calls .decoder ≡ holding e m (length bs) (lineFeeds cs) plain [])
   -- any cutting into accepted feeds, and a finish
   pub finished : (ps : List Piece) (last : List ℕ) → joined ps ≡ bs → Accepts t (start e m 1) ps last →
-      account (start e m 1) (cutting t ps last) ≡ record { handed = cs; reports = []; decoder = closed e m }
+      account (start e m 1) (cutting t ps last) ≡ record { handed = cs; reports = []; decoder = closed e m 0 (lineFeeds cs) }
 
 -- what a call wrote
 abbrev pub written : Outcome → List ℕ

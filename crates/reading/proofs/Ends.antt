@@ -14,7 +14,7 @@ use Rattle.standard.specs.Encodings.{Family, ISO-2022-JP, family, Tables, noTab
 use Rattle.standard.specs.Sequence.{Shift, Out, text, error, Next, more, item, shift, plain}
 use Rattle.standard.specs.Sequences.Iso2022Jp.{iso2022Jp, byteOut}
 use Rattle.standard.specs.Next.{next}
-use Rattle.standard.specs.Decode.{Item, span, oneError, isoEnd, ending, lastOut, given, shown, broken, before}
+use Rattle.standard.specs.Decode.{Item, span, oneError, isoEnd, ending, lastOut, given, shown, broken, before, reach}
 use Rattle.standard.proofs.Items.{shown-cons}
 use Rattle.standard.proofs.Reading.{either-end, no-bytes}
 use Rattle.standard.proofs.Families.{by-family}
@@ -129,7 +129,7 @@ held-two (suc (suc n)) a b c h g = (take n (c ∷ []), refl)
 
 -- What the end gives, in the order of the code's tests.
 abbrev pub ended : ℕ → List ℕ → List ℕ → Result
-ended n cs room = wrote n cs plain [] room
+ended n cs room = wrote n 0 cs plain [] room
 
 module _ (e m state flag : ℕ) (held : Held) (room : List ℕ) where
   abbrev s : Shift
@@ -140,7 +140,7 @@ module _ (e m state flag : ℕ) (held : Held) (room : List ℕ) where
   end-none h = rw (h, no-bytes noTables (family e) s, and-false (eqb m 1))
 
   pub end-report : (held .count ≡ 0 → ⊥) → m ≡ 1 → ends e m state flag held room ≡ ended 11 [] room
-  unfolding broken before
+  unfolding broken before reach
   end-report h q =
       let k = held-some (held .count) (held .first) (held .second) (held .third) h in
       let j = starts-error noTables (family e) s (held .first) (k .0) in

@@ -1,3 +1,4 @@
+pub mod Counting
 pub mod Loop
 pub mod Ends
 pub mod Guards

@@ -4,25 +4,29 @@ use mathlib.Core.Bool.{Bool, true, false, _&&_, and-false}
 use mathlib.Core.List.{List, [], _∷_, _++_, append-assoc, append-nil}
 use Prim.Native.Nat.{ℕ, zero, suc, _+_, _-_, _≤_, _<_}
 use native.Mathlib.Omega.{arith}
-use native.Mathlib.Nat.{add-zero}
+use native.Mathlib.Nat.{add-zero, zero-add}
 use lib.Dec.{T, leb, eqb}
 use lib.ListN.{length, take, drop, getD, List·getD-append, length-append, length-drop, take-append-drop}
 use lib.Seq.{sets, sets-eq, length-take-le, getD-take, getD-drop, getD-append-add, take-all, drop-drop, take-nil, length-sets, take-at, drop-at}
 use borrow.Author.Tests.{leb-true, leb-false, eqb-true, ne-eqb, eq-eqb}
-use Rattle.standard.specs.Base.{_then_else_}
+use Rattle.standard.specs.Base.{_then_else_, lineFeeds}
 use Rattle.standard.specs.Encodings.{Family, family, Tables, lent}
 use Rattle.standard.specs.Sequence.{Shift, Out, text, error, Next, more, item, shift, plain}
 use Rattle.standard.specs.Next.{next}
-use Rattle.standard.specs.Decode.{Item, span, Read, put, decode, given, shown, broken, before}
+use Rattle.standard.specs.Decode.{Item, span, Read, put, decode, given, shown, broken, before, widths, reach}
 use Rattle.standard.proofs.Tests.{and-left, and-right}
 use Rattle.standard.proofs.Items.{shown-cons}
+use Rattle.standard.proofs.LineFeeds.{line-feeds-append, line-feeds-length}
 use Rattle.standard.proofs.Laws.{Laws, Law}
 use Rattle.standard.proofs.FamilyLaws.{keeps, next-laws}
 use Rattle.standard.proofs.Walk.{stop, at-item, at-more, nothing, decode-more, decode-item}
 use Rattle.sequences.specs.Code.{nextOf, outOf, front}
 use Rattle.sequences.specs.declared.Sequence.{Sequence}
 use Rattle.runs.specs.Run.{patch, puts, Runs}
+use Rattle.line_feeds.specs.Parts.{part}
 use Rattle.runs.proofs.Patches.{patch-sets, patch-none, patch-length, patch-patch}
+use Rattle.runs.proofs.Running.{ran-widths}
+use Rattle.runs.proofs.Counting.{shown-none, runs-part, runs-fewer}
 use Rattle.reading.specs.Reading.{bytesOf, hold, bit, leaves, Result, wrote, handed, reached}
 use Rattle.reading.specs.declared.Held.{Held}
 use Rattle.reading.specs.declared.Left.{Left}
@@ -69,61 +73,79 @@ module _ (held : Held) (chunk : List ℕ) (h : held .count ≤ 3) where
 pub third-is : (a b c i : ℕ) → i < 3 → (i ≡ 0 → ⊥) → (i ≡ 1 → ⊥) → getD (a ∷ b ∷ c ∷ []) i 0 ≡ c
 third-is a b c i h g k = let e : i ≡ 2 = omega arith in rw e
 
--- What is still to be handed out, from place w of the room on.
-abbrev written : ℕ → ℕ → List ℕ → Shift → List ℕ → List ℕ → Result
-written n w cs s xs room = record { left = leaves n (w + length cs) s xs; room = patch w cs room }
+-- the line feeds of a sequence, by its count
+pub feeds-error : (q : Sequence) → q .count ≡ 3 → 0 ≡ lineFeeds (given (outOf q))
+unfolding lineFeeds
+feeds-error q h = rw (out-error q h)
 
-unfoldable pub emit : ℕ → Read → ℕ → List ℕ → Result
-emit m r w room =
-    eqb m 1 && broken (r .items) then written 11 w (before (r .items)) plain [] room else
-    written 0 w (shown (r .items)) (r .shift) (r .rest) room
+pub feeds-none : (q : Sequence) → q .count ≡ 0 → 0 ≡ lineFeeds (given (outOf q))
+unfolding lineFeeds
+feeds-none q h = rw (out-none q h)
 
-zero-plus : (n : ℕ) → 0 + n ≡ n
-zero-plus n = omega arith
+pub feeds-one : (q : Sequence) → q .count ≡ 1 → lineFeeds (q .first ∷ []) ≡ lineFeeds (given (outOf q))
+feeds-one q h = rw (out-one q h)
 
-emit-start : (m : ℕ) (r : Read) (room : List ℕ) → handed m r room ≡ emit m r 0 room
+pub feeds-two : (q : Sequence) → (q .count ≡ 3 → ⊥) → (q .count ≡ 0 → ⊥) → (q .count ≡ 1 → ⊥) →
+    lineFeeds (q .first ∷ []) + lineFeeds (q .second ∷ []) ≡ lineFeeds (given (outOf q))
+feeds-two q h g k = rw (out-two q h g k) (sym (line-feeds-append (q .first ∷ []) (q .second ∷ [])))
+
+-- What is still to be handed out, where `at` bytes are read, and w scalars with l line feeds are written.
+abbrev written : ℕ → ℕ → ℕ → ℕ → List ℕ → Shift → List ℕ → List ℕ → Result
+written n place l w cs s xs room = record { left = leaves n (w + length cs) place (l + lineFeeds cs) s xs; room = patch w cs room }
+
+unfoldable pub emit : ℕ → Read → ℕ → ℕ → ℕ → List ℕ → Result
+emit m r at l w room =
+    eqb m 1 && broken (r .items) then written 11 (at + reach (r .items)) l w (before (r .items)) plain [] room else
+    written 0 0 l w (shown (r .items)) (r .shift) (r .rest) room
+
+emit-start : (m : ℕ) (r : Read) (room : List ℕ) → handed m r room ≡ emit m r 0 0 0 room
 unfolding emit
 emit-start m r room = go (eqb m 1 && broken (r .items))
   where
-    same : (n : ℕ) (cs : List ℕ) (s : Shift) (xs : List ℕ) → wrote n cs s xs room ≡ written n 0 cs s xs room
-    same n cs s xs = rw (zero-plus (length cs))
+    same : (n place : ℕ) (cs : List ℕ) (s : Shift) (xs : List ℕ) → wrote n place cs s xs room ≡ written n place 0 0 cs s xs room
+    same n place cs s xs = rw (zero-add (length cs), zero-add (lineFeeds cs))
 
-    go : (b : Bool) → (b then wrote 11 (before (r .items)) plain [] room else wrote 0 (shown (r .items)) (r .shift) (r .rest) room) ≡
-        (b then written 11 0 (before (r .items)) plain [] room else written 0 0 (shown (r .items)) (r .shift) (r .rest) room)
-    go true = same 11 (before (r .items)) plain []
-    go false = same 0 (shown (r .items)) (r .shift) (r .rest)
+    go : (b : Bool) → (b then wrote 11 (reach (r .items)) (before (r .items)) plain [] room else wrote 0 0 (shown (r .items)) (r .shift) (r .rest) room) ≡
+        (b then written 11 (0 + reach (r .items)) 0 0 (before (r .items)) plain [] room else written 0 0 0 0 (shown (r .items)) (r .shift) (r .rest) room)
+    go true = rw (zero-add (reach (r .items))) (same 11 (reach (r .items)) (before (r .items)) plain [])
+    go false = same 0 0 (shown (r .items)) (r .shift) (r .rest)
 
 -- at the end: nothing more is written
-emit-stop : (m : ℕ) (s : Shift) (xs : List ℕ) (w : ℕ) (room : List ℕ) → emit m (stop s xs) w room ≡ record { left = leaves 0 w s xs; room = room }
-unfolding emit broken shown
-emit-stop m s xs w room = rw (and-false (eqb m 1), add-zero w, append-nil (take w room), take-append-drop w room)
+emit-stop : (m : ℕ) (s : Shift) (xs : List ℕ) (at l w : ℕ) (room : List ℕ) →
+    emit m (stop s xs) at l w room ≡ record { left = leaves 0 w 0 l s xs; room = room }
+unfolding emit broken shown lineFeeds
+emit-stop m s xs at l w room = rw (and-false (eqb m 1), add-zero w, add-zero l, append-nil (take w room), take-append-drop w room)
 
 -- an error in refusing mode: the report
-emit-report : (m k : ℕ) (r : Read) (w : ℕ) (room : List ℕ) → m ≡ 1 → emit m (put k error r) w room ≡ record { left = leaves 11 w plain []; room = room }
-unfolding emit broken before
-emit-report m k r w room h = rw (eq-eqb m 1 h, add-zero w, append-nil (take w room), take-append-drop w room)
+emit-report : (m k : ℕ) (r : Read) (at l w : ℕ) (room : List ℕ) → m ≡ 1 →
+    emit m (put k error r) at l w room ≡ record { left = leaves 11 w at l plain []; room = room }
+unfolding emit broken before reach lineFeeds
+emit-report m k r at l w room h = rw (eq-eqb m 1 h, add-zero w, add-zero l, add-zero at, append-nil (take w room), take-append-drop w room)
 
 -- any other sequence: its scalars are written, and the rest from there on
-written-put : (n w : ℕ) (us vs : List ℕ) (s : Shift) (xs room : List ℕ) → w + length us ≤ length room →
-    written n w (us ++ vs) s xs room ≡ written n (w + length us) vs s xs (patch w us room)
-written-put n w us vs s xs room h =
+written-put : (n place l w : ℕ) (us vs : List ℕ) (s : Shift) (xs room : List ℕ) → w + length us ≤ length room →
+    written n place l w (us ++ vs) s xs room ≡ written n place (l + lineFeeds us) (w + length us) vs s xs (patch w us room)
+written-put n place l w us vs s xs room h =
     let z : w + length (us ++ vs) ≡ w + length us + length vs = omega (arith, length-append us vs) in
-    λ i. record { left = leaves n (z i) s xs; room = sym (patch-patch w us vs room h) i }
+    let y : l + lineFeeds (us ++ vs) ≡ l + lineFeeds us + lineFeeds vs = omega (arith, line-feeds-append us vs) in
+    λ i. record { left = leaves n (z i) place (y i) s xs; room = sym (patch-patch w us vs room h) i }
 
-emit-put : (m k : ℕ) (o : Out) (r : Read) (w : ℕ) (room : List ℕ) → (m ≡ 1 → o ≡ error → ⊥) → w + length (given o) ≤ length room →
-    emit m (put k o r) w room ≡ emit m r (w + length (given o)) (patch w (given o) room)
-unfolding emit broken before shown
-emit-put m k (text cs) r w room n h = go (eqb m 1 && broken (r .items))
+emit-put : (m k : ℕ) (o : Out) (r : Read) (at l w : ℕ) (room : List ℕ) → (m ≡ 1 → o ≡ error → ⊥) → w + length (given o) ≤ length room →
+    emit m (put k o r) at l w room ≡ emit m r (at + k) (l + lineFeeds (given o)) (w + length (given o)) (patch w (given o) room)
+unfolding emit broken before shown reach
+emit-put m k (text cs) r at l w room n h = go (eqb m 1 && broken (r .items))
   where
-    go : (b : Bool) → (b then written 11 w (cs ++ before (r .items)) plain [] room else written 0 w (cs ++ shown (r .items)) (r .shift) (r .rest) room) ≡
-        (b then written 11 (w + length cs) (before (r .items)) plain [] (patch w cs room) else written 0 (w + length cs) (shown (r .items)) (r .shift) (r .rest) (patch w cs room))
-    go true = written-put 11 w cs (before (r .items)) plain [] room h
-    go false = written-put 0 w cs (shown (r .items)) (r .shift) (r .rest) room h
-emit-put m k error r w room n h = rw (ne-eqb m 1 (λ z. n z refl)) (written-put 0 w (0xFFFD ∷ []) (shown (r .items)) (r .shift) (r .rest) room h)
-
-shown-none : shown [] ≡ []
-unfolding shown
-shown-none = refl
+    go : (b : Bool) →
+        (b then written 11 (at + (k + reach (r .items))) l w (cs ++ before (r .items)) plain [] room else
+        written 0 0 l w (cs ++ shown (r .items)) (r .shift) (r .rest) room) ≡
+        (b then written 11 (at + k + reach (r .items)) (l + lineFeeds cs) (w + length cs) (before (r .items)) plain [] (patch w cs room) else
+        written 0 0 (l + lineFeeds cs) (w + length cs) (shown (r .items)) (r .shift) (r .rest) (patch w cs room))
+    go true =
+        let p : at + (k + reach (r .items)) ≡ at + k + reach (r .items) = omega arith in
+        rw p (written-put 11 (at + k + reach (r .items)) l w cs (before (r .items)) plain [] room h)
+    go false = written-put 0 0 l w cs (shown (r .items)) (r .shift) (r .rest) room h
+emit-put m k error r at l w room n h =
+    rw (ne-eqb m 1 (λ z. n z refl)) (written-put 0 0 l w (0xFFFD ∷ []) (shown (r .items)) (r .shift) (r .rest) room h)
 
 sound-cons : (m k : ℕ) (o : Out) (is : List Item) → (m ≡ 1 → broken (span k o ∷ is) ≡ false) → (m ≡ 1 → o ≡ error → ⊥) × (m ≡ 1 → broken is ≡ false)
 unfolding broken
@@ -131,20 +153,26 @@ sound-cons m k (text cs) is h = (λ e q. let z : _≡_ {A = ℕ} 0 1 = cc in abs
 sound-cons m k error is h = (λ e q. subst T (h e) tt, λ e. absurd (subst T (h e) tt))
 
 -- the same for some sequences at once, as a run reads them
-emit-puts : (m : ℕ) (is : List Item) (r : Read) (w : ℕ) (room : List ℕ) → (m ≡ 1 → broken is ≡ false) → w + length (shown is) ≤ length room →
-    emit m (puts is r) w room ≡ emit m r (w + length (shown is)) (patch w (shown is) room)
-unfolding puts
-emit-puts m [] r w room n h = rw shown-none (λ i. emit m r (sym (add-zero w) i) (patch-none room w i))
-emit-puts m (span n o ∷ is) r w room sound h =
+emit-puts : (m : ℕ) (is : List Item) (r : Read) (at l w : ℕ) (room : List ℕ) → (m ≡ 1 → broken is ≡ false) → w + length (shown is) ≤ length room →
+    emit m (puts is r) at l w room ≡ emit m r (at + widths is) (l + lineFeeds (shown is)) (w + length (shown is)) (patch w (shown is) room)
+unfolding puts widths lineFeeds
+emit-puts m [] r at l w room n h =
+    rw shown-none (λ i. emit m r (sym (add-zero at) i) (sym (add-zero l) i) (sym (add-zero w) i) (patch-none room w i))
+emit-puts m (span n o ∷ is) r at l w room sound h =
     let k = sound-cons m n o is sound in
-    let l : length (shown (span n o ∷ is)) ≡ length (given o) + length (shown is) = ap length (shown-cons n o is) ∙ length-append (given o) (shown is) in
-    let here : w + length (given o) ≤ length room = omega (arith, h, l) in
-    let z : w + length (given o) + length (shown is) ≡ w + length (shown (span n o ∷ is)) = omega (arith, l) in
+    let joined = shown-cons n o is in
+    let c : length (shown (span n o ∷ is)) ≡ length (given o) + length (shown is) = ap length joined ∙ length-append (given o) (shown is) in
+    let here : w + length (given o) ≤ length room = omega (arith, h, c) in
+    let x : at + n + widths is ≡ at + (n + widths is) = omega arith in
+    let y : l + lineFeeds (given o) + lineFeeds (shown is) ≡ l + lineFeeds (shown (span n o ∷ is)) =
+    omega (arith, ap lineFeeds joined, line-feeds-append (given o) (shown is)) in
+    let z : w + length (given o) + length (shown is) ≡ w + length (shown (span n o ∷ is)) = omega (arith, c) in
     let p : patch (w + length (given o)) (shown is) (patch w (given o) room) ≡ patch w (shown (span n o ∷ is)) room =
-    patch-patch w (given o) (shown is) room here ∙ ap (λ (cs : List ℕ). patch w cs room) (sym (shown-cons n o is)) in
-    emit-put m n o (puts is r) w room (k .0) here ∙
-    emit-puts m is r (w + length (given o)) (patch w (given o) room) (k .1) (omega (arith, h, l, patch-length room w (given o) here)) ∙
-    (λ i. emit m r (z i) (p i))
+    patch-patch w (given o) (shown is) room here ∙ ap (λ (cs : List ℕ). patch w cs room) (sym joined) in
+    emit-put m n o (puts is r) at l w room (k .0) here ∙
+    emit-puts m is r (at + n) (l + lineFeeds (given o)) (w + length (given o)) (patch w (given o) room) (k .1)
+    (omega (arith, h, c, patch-length room w (given o) here)) ∙
+    (λ i. emit m r (x i) (y i) (z i) (p i))
 
 -- How the loop was called.
 pub record Args : Type 0 where
@@ -175,22 +203,24 @@ laws : (a : Args) → Laws (keeps (family (a .encoding))) (nextIn a)
 laws a = next-laws (lent (a .first) (a .second)) (family (a .encoding))
 
 -- What holds at the loop's head: what is wanted is what is still to be handed out, from here on.
-pub record Running (a : Args) (room₀ room : List ℕ) (at state flag w : ℕ) : Type 0 where
+pub record Running (a : Args) (room₀ room : List ℕ) (at state flag w l : ℕ) : Type 0 where
   pub few : a .held .count ≤ 3
   pub short : length (a .chunk) ≤ 65536
   pub place : at ≤ countIn a
   pub space : countIn a - at + w ≤ length room
   pub size : length room ≡ length room₀
-  pub outcome : wanted a room₀ ≡ emit (a .mode) (decode (nextIn a) (shift state (eqb flag 1)) (drop at (bytesIn a))) w room
+  pub fewer : l ≤ w
+  pub outcome : wanted a room₀ ≡ emit (a .mode) (decode (nextIn a) (shift state (eqb flag 1)) (drop at (bytesIn a))) at l w room
 
 pub start-running : (a : Args) (room : List ℕ) → a .held .count ≤ 3 → length (a .chunk) ≤ 65536 → length (a .chunk) + a .held .count ≤ length room →
-    Running a room room 0 (a .state) (a .flag) 0
+    Running a room room 0 (a .state) (a .flag) 0 0
 start-running a room h l r = record {
   few = h;
   short = l;
   place = omega arith;
   space = omega arith;
   size = refl;
+  fewer = omega arith;
   outcome = emit-start (a .mode) (decode (nextIn a) (shift (a .state) (eqb (a .flag) 1)) (bytesIn a)) room;
 }
 
@@ -208,21 +238,22 @@ count-error : (q : Sequence) → q .count ≡ 3 → outOf q ≡ error
 count-error q h = rw (eq-eqb (q .count) 3 h)
 
 -- at most three bytes behind a place, as bytes held
-pub leaves-is : (held : Held) (chunk : List ℕ) (at state flag w : ℕ) → held .count ≤ 3 →
+pub leaves-is : (held : Held) (chunk : List ℕ) (at state flag w l : ℕ) → held .count ≤ 3 →
     (kept have b0 b1 b2 : ℕ) → kept ≡ bit (eqb flag 1) → have ≡ held .count + length chunk - at →
     b0 ≡ getD (bytesOf held ++ chunk) at 0 → b1 ≡ getD (bytesOf held ++ chunk) (at + 1) 0 → b2 ≡ getD (bytesOf held ++ chunk) (at + 2) 0 →
-    _≡_ {A = Left} (record { written = w; refusal = 0; state = state; flag = kept; held = record { count = have; first = b0; second = b1; third = b2 } })
-    (leaves 0 w (shift state (eqb flag 1)) (drop at (bytesOf held ++ chunk)))
-leaves-is held chunk at state flag w h kept have b0 b1 b2 k l p0 p1 p2 =
+    _≡_ {A = Left}
+    (record { written = w; place = 0; lines = l; refusal = 0; state = state; flag = kept; held = record { count = have; first = b0; second = b1; third = b2 } })
+    (leaves 0 w 0 l (shift state (eqb flag 1)) (drop at (bytesOf held ++ chunk)))
+leaves-is held chunk at state flag w l h kept have b0 b1 b2 k c p0 p1 p2 =
     let xs = bytesOf held ++ chunk in
-    let n : have ≡ length (drop at xs) = l ∙ sym (left-count held chunk h at) in
+    let n : have ≡ length (drop at xs) = c ∙ sym (left-count held chunk h at) in
     let f0 = p0 ∙ ap (λ (k : ℕ). getD xs k 0) (sym (add-zero at)) ∙ sym (getD-drop at xs 0 0) in
     let f1 = p1 ∙ sym (getD-drop at xs 1 0) in
     let f2 = p2 ∙ sym (getD-drop at xs 2 0) in
-    λ i. record { written = w; refusal = 0; state = state; flag = k i; held = record { count = n i; first = f0 i; second = f1 i; third = f2 i } }
+    λ i. record { written = w; place = 0; lines = l; refusal = 0; state = state; flag = k i; held = record { count = n i; first = f0 i; second = f1 i; third = f2 i } }
 
 -- One turn, with the sequence found at the place.
-module _ {a : Args} {room₀ room : List ℕ} {at state flag w : ℕ} (R : Running a room₀ room at state flag w) (q : Sequence)
+module _ {a : Args} {room₀ room : List ℕ} {at state flag w l : ℕ} (R : Running a room₀ room at state flag w l) (q : Sequence)
     (here : nextOf q ≡ nextIn a (shift state (eqb flag 1)) (drop at (bytesIn a))) where
   abbrev s : Shift
   s = shift state (eqb flag 1)
@@ -240,8 +271,8 @@ module _ {a : Args} {room₀ room : List ℕ} {at state flag w : ℕ} (R : Runni
     pub turn-few : countIn a - at ≤ 3
     turn-few = omega (arith, left, at-more (keeps (family (a .encoding))) (nextIn a) (laws a) s left-over waits .0)
 
-    pub turn-more : wanted a room₀ ≡ record { left = leaves 0 w s left-over; room = room }
-    turn-more = R .outcome ∙ rw (decode-more (keeps (family (a .encoding))) (nextIn a) (laws a) s left-over waits) (emit-stop (a .mode) s left-over w room)
+    pub turn-more : wanted a room₀ ≡ record { left = leaves 0 w 0 l s left-over; room = room }
+    turn-more = R .outcome ∙ rw (decode-more (keeps (family (a .encoding))) (nextIn a) (laws a) s left-over waits) (emit-stop (a .mode) s left-over at l w room)
 
   module _ (z : q .width ≡ 0 → ⊥) where
     goes : nextIn a s left-over ≡ item (q .width) (shift (q .state) (eqb (q .flag) 1)) (outOf q)
@@ -259,27 +290,34 @@ module _ {a : Args} {room₀ room : List ℕ} {at state flag w : ℕ} (R : Runni
     read : decode (nextIn a) s left-over ≡ put (q .width) (outOf q) (decode (nextIn a) (shift (q .state) (eqb (q .flag) 1)) (drop (q .width) left-over))
     read = decode-item (keeps (family (a .encoding))) (nextIn a) (laws a) s left-over goes
 
-    pub turn-report : a .mode ≡ 1 → q .count ≡ 3 → wanted a room₀ ≡ record { left = leaves 11 w plain []; room = room }
-    turn-report m k = R .outcome ∙ rw (read, count-error q k) (emit-report (a .mode) (q .width) _ w room m)
+    pub turn-report : a .mode ≡ 1 → q .count ≡ 3 → wanted a room₀ ≡ record { left = leaves 11 w at l plain []; room = room }
+    turn-report m k = R .outcome ∙ rw (read, count-error q k) (emit-report (a .mode) (q .width) _ at l w room m)
 
-    pub turn-on : (a .mode ≡ 1 → q .count ≡ 3 → ⊥) → Running a room₀ (patch w (given (outOf q)) room) (at + q .width) (q .state) (q .flag) (w + length (given (outOf q)))
+    -- the sum of line feeds stays below that of scalars
+    pub turn-fewer : l + lineFeeds (given (outOf q)) ≤ w + length (given (outOf q))
+    turn-fewer = omega (arith, R .fewer, line-feeds-length (given (outOf q)))
+
+    pub turn-on : (a .mode ≡ 1 → q .count ≡ 3 → ⊥) →
+        Running a room₀ (patch w (given (outOf q)) room) (at + q .width) (q .state) (q .flag) (w + length (given (outOf q))) (l + lineFeeds (given (outOf q)))
     turn-on k = record {
       few = R .few;
       short = R .short;
       place = omega (arith, turn-width .1, R .place);
       space = omega (arith, patch-length room w (given (outOf q)) turn-space, law .3, turn-width .1, R .space, R .place);
       size = patch-length room w (given (outOf q)) turn-space ∙ R .size;
-      outcome = R .outcome ∙ rw read (emit-put (a .mode) (q .width) (outOf q) _ w room (λ m e. k m (error-count q e)) turn-space ∙ rw (drop-drop (q .width) at (bytesIn a)) refl);
+      fewer = turn-fewer;
+      outcome = R .outcome ∙ rw read (emit-put (a .mode) (q .width) (outOf q) _ at l w room (λ m e. k m (error-count q e)) turn-space ∙
+          rw (drop-drop (q .width) at (bytesIn a)) refl);
     }
 
 -- No byte is left.
-pub turn-done : {a : Args} {room₀ room : List ℕ} {at state flag w : ℕ} → Running a room₀ room at state flag w → countIn a ≤ at →
-    wanted a room₀ ≡ record { left = leaves 0 w (shift state (eqb flag 1)) (drop at (bytesIn a)); room = room }
-turn-done {a} {room₀} {room} {at} {state} {flag} {w} R h =
+pub turn-done : {a : Args} {room₀ room : List ℕ} {at state flag w l : ℕ} → Running a room₀ room at state flag w l → countIn a ≤ at →
+    wanted a room₀ ≡ record { left = leaves 0 w 0 l (shift state (eqb flag 1)) (drop at (bytesIn a)); room = room }
+turn-done {a} {room₀} {room} {at} {state} {flag} {w} {l} R h =
     let s = shift state (eqb flag 1) in
-    let l : length (drop at (bytesIn a)) ≤ 0 = omega (arith, left-count (a .held) (a .chunk) (R .few) at) in
-    let none = nothing (keeps (family (a .encoding))) (nextIn a) (laws a) s (drop at (bytesIn a)) l in
-    R .outcome ∙ rw (decode-more (keeps (family (a .encoding))) (nextIn a) (laws a) s (drop at (bytesIn a)) none) (emit-stop (a .mode) s (drop at (bytesIn a)) w room)
+    let z : length (drop at (bytesIn a)) ≤ 0 = omega (arith, left-count (a .held) (a .chunk) (R .few) at) in
+    let none = nothing (keeps (family (a .encoding))) (nextIn a) (laws a) s (drop at (bytesIn a)) z in
+    R .outcome ∙ rw (decode-more (keeps (family (a .encoding))) (nextIn a) (laws a) s (drop at (bytesIn a)) none) (emit-stop (a .mode) s (drop at (bytesIn a)) at l w room)
 
 pub stops-no : (m n : ℕ) → eqb m 1 && eqb n 3 ≡ false → m ≡ 1 → n ≡ 3 → ⊥
 stops-no m n h p q = let k : true ≡ false = rw (p, q) at h in subst T k tt
@@ -307,21 +345,32 @@ module _ (held : Held) (chunk : List ℕ) (few : held .count ≤ 3) where
         ran = rw (from, past k) (r .ran);
       }
 
--- A run carries what holds at the loop's head.
-pub carried : {a : Args} {room₀ room room′ : List ℕ} {at at′ state state′ flag flag′ w w′ : ℕ} → Running a room₀ room at state flag w →
+-- A run with k line feeds carries what holds at the loop's head.
+pub carried : {a : Args} {room₀ room room′ : List ℕ} {at at′ state state′ flag flag′ w w′ l k : ℕ} → Running a room₀ room at state flag w l →
     Runs (nextIn a) (a .mode) (bytesIn a) at at′ (shift state (eqb flag 1)) (shift state′ (eqb flag′ 1)) w w′ room room′ →
-    Running a room₀ room′ at′ state′ flag′ w′
-carried {a} {room₀} {room} {room′} {at} {at′} {state} {state′} {flag} {flag′} {w} {w′} R r =
+    k ≡ lineFeeds (part room′ w (w′ - w)) → Running a room₀ room′ at′ state′ flag′ w′ (l + k)
+carried {a} {room₀} {room} {room′} {at} {at′} {state} {state′} {flag} {flag′} {w} {w′} {l} {k} R r e =
     let n = all-count (a .held) (a .chunk) (R .few) in
-    let e : emit (a .mode) (puts (r .ran .items) (decode (nextIn a) (shift state′ (eqb flag′ 1)) (drop at′ (bytesIn a)))) w room ≡
-    emit (a .mode) (decode (nextIn a) (shift state′ (eqb flag′ 1)) (drop at′ (bytesIn a))) w′ room′ =
-    emit-puts (a .mode) (r .ran .items) _ w room (r .ran .sound) (omega (arith, r .ran .count, r .space, n, R .space)) ∙
-    rw (r .ran .count, r .ran .wrote) refl in
+    let to : at′ ≤ countIn a = let i = r .inside (omega (arith, n, R .place)) in omega (arith, n) in
+    let wide : at + widths (r .ran .items) ≡ at′ =
+    omega (
+      arith,
+      ran-widths (lent (a .first) (a .second)) (family (a .encoding)) (a .mode) (r .ran),
+      left-count (a .held) (a .chunk) (R .few) at,
+      left-count (a .held) (a .chunk) (R .few) at′,
+      r .ahead,
+      to,
+    ) in
+    let rest = decode (nextIn a) (shift state′ (eqb flag′ 1)) (drop at′ (bytesIn a)) in
+    let on : emit (a .mode) (puts (r .ran .items) rest) at l w room ≡ emit (a .mode) rest at′ (l + k) w′ room′ =
+    emit-puts (a .mode) (r .ran .items) rest at l w room (r .ran .sound) (omega (arith, r .ran .count, r .space, n, R .space)) ∙
+    rw (r .ran .count, r .ran .wrote, wide, e, runs-part r) refl in
     record {
       few = R .few;
       short = R .short;
-      place = let i = r .inside (omega (arith, n, R .place)) in omega (arith, n);
+      place = to;
       space = omega (arith, r .space, r .size, n, R .space);
       size = r .size ∙ R .size;
-      outcome = R .outcome ∙ ap (λ (x : Read). emit (a .mode) x w room) (r .ran .read) ∙ e;
+      fewer = runs-fewer r e (R .fewer);
+      outcome = R .outcome ∙ ap (λ (x : Read). emit (a .mode) x at l w room) (r .ran .read) ∙ on;
     }

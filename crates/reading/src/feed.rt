@@ -4,7 +4,10 @@ use crate::Held;
 use crate::Left;
 use crate::ended;
 use crate::run::run;
+use crate::run::uncounted;
 use crate::unread;
+use line_feeds::one_scalar;
+use runs::Counted;
 use runs::Place;
 use sequences::Sequence;
 use sequences::next;
@@ -14,12 +17,14 @@ ghost use mathlib.Core.List.{_++_};
 ghost use Prim.Native.Nat.{_+_, _-_, _≤_, _<_};
 ghost use lib.Dec.{eqb};
 ghost use lib.ListN.{length, getD, drop};
+ghost use Rattle.standard.specs.Base.{lineFeeds};
 ghost use Rattle.standard.specs.Encodings.{family, lent};
 ghost use Rattle.standard.specs.Sequence.{shift};
 ghost use Rattle.standard.specs.Next.{next};
 ghost use Rattle.standard.specs.Decode.{given};
 ghost use Rattle.sequences.specs.Code.{nextOf, outOf};
-ghost use Rattle.runs.specs.Run.{patch, placed, Run};
+ghost use Rattle.runs.specs.Run.{patch, placed};
+ghost use Rattle.runs.specs.Counts.{Counts};
 ghost use Rattle.reading.specs.Reading.{bytesOf, bit, leaves, reached, readChunk};
 
 // The byte at a place of the bytes held and then the chunk; 0 past their end.
@@ -67,6 +72,25 @@ fn put(room: &mut [u32], written: usize, q: Sequence) -> usize
     written + 2
 }
 
+// The line feeds among the scalars of a sequence.
+fn feeds(q: Sequence) -> usize
+    ensures { λ r. ⌜ r ≡ lineFeeds (given (outOf q)) ⌝ }
+{
+    let count = q.count;
+    if count == 3 {
+        return 0;
+    }
+    if count == 0 {
+        return 0;
+    }
+    let first = one_scalar(q.first);
+    if count == 1 {
+        return first as usize;
+    }
+    let second = one_scalar(q.second);
+    first as usize + second as usize
+}
+
 // Does an error end the reading?
 fn stops(mode: u8, count: u8) -> bool
     ensures { λ r. ⌜ r ≡ (eqb mode 1 && eqb count 3) ⌝ }
@@ -111,10 +135,18 @@ fn sequence_at(
 }
 
 // All sequences read: at most three bytes are left, and held.
-fn holds(held: Held, chunk: &[u8], at: usize, state: u8, flag: u8, written: usize) -> Left
+fn holds(
+    held: Held,
+    chunk: &[u8],
+    at: usize,
+    state: u8,
+    flag: u8,
+    written: usize,
+    lines: usize,
+) -> Left
     requires { ⌜ (held .count ≤ 3) × (length (now chunk) ≤ 65536) × (at ≤ held .count + length (now chunk))
         × (held .count + length (now chunk) - at ≤ 3) ⌝ }
-    ensures { λ r. ⌜ r ≡ leaves 0 written (shift state (eqb flag 1)) (drop at (bytesOf held ++ now (chunk .entry))) ⌝ }
+    ensures { λ r. ⌜ r ≡ leaves 0 written 0 lines (shift state (eqb flag 1)) (drop at (bytesOf held ++ now (chunk .entry))) ⌝ }
 {
     let have = held.count as usize + chunk.len() - at;
     let first = byte_at(held, chunk, at);
@@ -123,6 +155,8 @@ fn holds(held: Held, chunk: &[u8], at: usize, state: u8, flag: u8, written: usiz
     let kept = bit(flag);
     Left {
         written,
+        place: 0,
+        lines,
         refusal: 0,
         state,
         flag: kept,
@@ -148,19 +182,24 @@ fn run_from(
     written: usize,
     state: u8,
     flag: u8,
-) -> Place
-    requires { ⌜ (held .count ≤ 3) × (length (now chunk) ≤ 65536) × (at ≤ held .count + length (now chunk)) ⌝ }
-    ensures { λ r. ⌜ Run (lent (now (t1 .entry)) (now (t2 .entry))) (family encoding) mode (bytesOf held ++ now (chunk .entry))
+) -> Counted
+    requires { ⌜ (held .count ≤ 3) × (length (now chunk) ≤ 65536) × (at ≤ held .count + length (now chunk))
+        × (held .count + length (now chunk) - at + written ≤ length (now room)) ⌝ }
+    ensures { λ r. ⌜ Counts (lent (now (t1 .entry)) (now (t2 .entry))) (family encoding) mode (bytesOf held ++ now (chunk .entry))
         (placed at written state flag) r (now (room .entry)) (now (room .exit)) ⌝ }
 {
     let count = held.count as usize;
+    let p = Place {
+        at,
+        written,
+        state,
+        flag,
+    };
     if at < count {
-        return Place {
-            at,
-            written,
-            state,
-            flag,
-        };
+        return uncounted(p);
+    }
+    if chunk.len() <= at - count {
+        return uncounted(p);
     }
     let here = Place {
         at: at - count,
@@ -170,9 +209,10 @@ fn run_from(
     };
     let r = run(encoding, mode, chunk, t1, t2, room, here);
     let to = count + r.at;
-    Place {
+    Counted {
         at: to,
         written: r.written,
+        lines: r.lines,
         state: r.state,
         flag: r.flag,
     }
@@ -198,34 +238,38 @@ fn read_all(
     let mut s = state;
     let mut f = flag;
     let mut written: usize = 0;
+    let mut lines: usize = 0;
     loop {
         let p = run_from(encoding, mode, held, chunk, t1, t2, at, room, written, s, f);
         at = p.at;
         written = p.written;
+        lines += p.lines;
         s = p.state;
         f = p.flag;
         if at == held.count as usize + chunk.len() {
-            return holds(held, chunk, at, s, f, written);
+            return holds(held, chunk, at, s, f, written, lines);
         }
         let q = sequence_at(encoding, held, chunk, t1, t2, at, s, f);
         if q.width == 0 {
-            return holds(held, chunk, at, s, f, written);
+            return holds(held, chunk, at, s, f, written, lines);
         }
         if stops(mode, q.count) {
-            return ended(11, written);
+            return ended(11, written, at, lines);
         }
         written = put(room, written, q);
+        lines += feeds(q);
         at += q.width as usize;
         s = q.state;
         f = q.flag;
     }
 }
 
-// A chunk behind the bytes held, read from a shift into the room.
+// A chunk behind the bytes held, read from a shift into the room, where at most so many bytes may be read.
 pub fn read(
     encoding: u8,
     mode: u8,
     held: Held,
+    most: u32,
     chunk: &[u8],
     t1: &[u32],
     t2: &[u32],
@@ -233,8 +277,8 @@ pub fn read(
     state: u8,
     flag: u8,
 ) -> Left
-    ensures { λ r. ⌜ (r ≡ readChunk encoding mode state flag held (lent (now (t1 .entry)) (now (t2 .entry))) (now (chunk .entry)) (now (room .entry)) .left)
-        × (now (room .exit) ≡ readChunk encoding mode state flag held (lent (now (t1 .entry)) (now (t2 .entry))) (now (chunk .entry)) (now (room .entry)) .room) ⌝ }
+    ensures { λ r. ⌜ (r ≡ readChunk encoding mode state flag held most (lent (now (t1 .entry)) (now (t2 .entry))) (now (chunk .entry)) (now (room .entry)) .left)
+        × (now (room .exit) ≡ readChunk encoding mode state flag held most (lent (now (t1 .entry)) (now (t2 .entry))) (now (chunk .entry)) (now (room .entry)) .room) ⌝ }
 {
     if 3 < held.count {
         return unread(5, state, flag, held);
@@ -242,7 +286,12 @@ pub fn read(
     if 65536 < chunk.len() {
         return unread(8, state, flag, held);
     }
-    if room.len() < chunk.len() + held.count as usize {
+    let most = most as usize;
+    let all = chunk.len() + held.count as usize;
+    if most < chunk.len() {
+        return unread(14, state, flag, held);
+    }
+    if room.len() < all {
         return unread(7, state, flag, held);
     }
     read_all(encoding, mode, held, chunk, t1, t2, room, state, flag)

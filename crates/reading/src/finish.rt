@@ -4,6 +4,7 @@ use crate::Held;
 use crate::Left;
 use crate::ended;
 use crate::unread;
+use line_feeds::one_scalar;
 use sequences::next;
 ghost use mathlib.Core.Path.{_≡_};
 ghost use mathlib.Core.List.{_∷_, []};
@@ -39,20 +40,22 @@ fn rest(encoding: u8, mode: u8, held: Held, room: &mut [u32], state: u8, flag: u
         × (now (room .exit) ≡ ends encoding mode state flag held (now (room .entry)) .room) ⌝ }
 {
     if held.count == 0 {
-        return ended(0, 0);
+        return ended(0, 0, 0, 0);
     }
     if mode == 1 {
-        return ended(11, 0);
+        return ended(11, 0, 0, 0);
     }
     room[0] = 0xFFFD;
     if held.count == 1 {
-        return ended(0, 1);
+        return ended(0, 1, 0, 0);
     }
     if encoding != 33 {
-        return ended(0, 1);
+        return ended(0, 1, 0, 0);
     }
-    room[1] = last_scalar(state, flag, held.second);
-    ended(0, 2)
+    let last = last_scalar(state, flag, held.second);
+    room[1] = last;
+    let lines = one_scalar(last);
+    ended(0, 2, 0, lines as usize)
 }
 
 // The end of input with some bytes held, at a shift.

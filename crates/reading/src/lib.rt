@@ -17,9 +17,12 @@ pub struct Held {
     pub third: u8,
 }
 
-// What reading leaves: the scalars written, a refusal number, report 11 or 0, the shift, and the bytes held.
+// What reading leaves: the scalars written; of report 11 the bytes before the error; the line feeds written; a refusal number, report 11 or 0;
+// the shift, and the bytes held.
 pub struct Left {
     pub written: usize,
+    pub place: usize,
+    pub lines: usize,
     pub refusal: u8,
     pub state: u8,
     pub flag: u8,
@@ -32,6 +35,8 @@ pub(crate) fn unread(refusal: u8, state: u8, flag: u8, held: Held) -> Left
 {
     Left {
         written: 0,
+        place: 0,
+        lines: 0,
         refusal,
         state,
         flag,
@@ -39,12 +44,14 @@ pub(crate) fn unread(refusal: u8, state: u8, flag: u8, held: Held) -> Left
     }
 }
 
-// So many scalars written, no shift, and nothing held.
-pub(crate) fn ended(refusal: u8, written: usize) -> Left
-    ensures { λ r. ⌜ r ≡ leaves refusal written plain [] ⌝ }
+// So many scalars and line feeds written, no shift, and nothing held.
+pub(crate) fn ended(refusal: u8, written: usize, place: usize, lines: usize) -> Left
+    ensures { λ r. ⌜ r ≡ leaves refusal written place lines plain [] ⌝ }
 {
     Left {
         written,
+        place,
+        lines,
         refusal,
         state: 0,
         flag: 0,

@@ -1,17 +1,26 @@
-// The run of an encoding, by its number.
+// The run of an encoding, by its number, and the line feeds among the scalars that it writes.
 
 use iso_2022_jp_runs::iso_2022_jp_run;
+use line_feeds::in_bytes;
+use line_feeds::in_scalars;
 use pair_runs::pairs::pairs_run;
+use runs::Counted;
 use runs::Place;
+use runs::ascii::count_ascii;
 use utf8_runs::utf8_run;
 use word_runs::single_byte::single_byte_run;
 use word_runs::single_byte::windows_1252_run;
 use word_runs::utf_16::utf_16_run;
-ghost use Rattle.standard.specs.Encodings.{family, lent};
-ghost use Rattle.runs.specs.Run.{Run};
+ghost use mathlib.Core.Path.{_≡_};
+ghost use Prim.Native.Nat.{ℕ, _-_};
+ghost use Rattle.standard.specs.Base.{_then_else_, lineFeeds};
+ghost use Rattle.standard.specs.Encodings.{Tables, family, lent, traits};
+ghost use Rattle.line_feeds.specs.Parts.{part};
+ghost use Rattle.runs.specs.Run.{Run, Ready};
+ghost use Rattle.runs.specs.Counts.{counted, Counts};
 
 // A run from a place on. It may stop anywhere; what it has read stands in the room.
-pub(crate) fn run(
+fn by_number(
     encoding: u8,
     mode: u8,
     chunk: &[u8],
@@ -37,11 +46,103 @@ pub(crate) fn run(
     if encoding <= 35 {
         return pairs_run(encoding, mode, chunk, t1, t2, room, p);
     }
+    p
+}
+
+// Does an encoding keep separators?
+fn keeps(encoding: u8) -> bool
+    ensures { λ r. ⌜ r ≡ traits (family encoding) .separators ⌝ }
+{
+    if encoding == 33 {
+        return false;
+    }
+    if encoding < 36 {
+        return true;
+    }
+    38 < encoding
+}
+
+// A place without line feeds.
+pub(crate) fn uncounted(p: Place) -> Counted
+    ensures { λ r. ⌜ r ≡ counted p 0 ⌝ }
+{
+    Counted {
+        at: p.at,
+        written: p.written,
+        lines: 0,
+        state: p.state,
+        flag: p.flag,
+    }
+}
+
+// A long stretch of ASCII in front of a run, where ASCII stands for itself.
+fn front(encoding: u8, chunk: &[u8], room: &mut [u32], p: Place) -> Counted
+    requires { ⌜ Ready (now chunk) (p .at) (now room) (p .written) ⌝ }
+    ensures { λ r. ⌜ ((t : Tables) (m : ℕ) → Counts t (family encoding) m (now (chunk .entry)) p r (now (room .entry)) (now (room .exit))) ⌝ }
+{
+    if !keeps(encoding) {
+        return uncounted(p);
+    }
+    if p.state != 0 {
+        return uncounted(p);
+    }
+    if p.flag != 0 {
+        return uncounted(p);
+    }
+    let s = count_ascii(chunk, p.at, room, p.written);
+    Counted {
+        at: p.at + s.length,
+        written: p.written + s.length,
+        lines: s.lines,
+        state: 0,
+        flag: 0,
+    }
+}
+
+// The line feeds of a run from a place to another: where separators are kept, those of the bytes that it read, else of the scalars that it wrote.
+fn feeds(encoding: u8, chunk: &[u8], room: &[u32], from: Place, to: Place) -> usize
+    ensures { λ r. ⌜ r ≡ (traits (family encoding) .separators then lineFeeds (part (now (chunk .entry)) (from .at) (to .at - from .at)) else
+        lineFeeds (part (now (room .entry)) (from .written) (to .written - from .written))) ⌝ }
+{
+    if keeps(encoding) {
+        return in_bytes(chunk, from.at, to.at);
+    }
+    in_scalars(room, from.written, to.written)
+}
+
+// A run with its line feeds.
+pub(crate) fn run(
+    encoding: u8,
+    mode: u8,
+    chunk: &[u8],
+    t1: &[u32],
+    t2: &[u32],
+    room: &mut [u32],
+    p: Place,
+) -> Counted
+    requires { ⌜ Ready (now chunk) (p .at) (now room) (p .written) ⌝ }
+    ensures { λ r. ⌜ Counts (lent (now (t1 .entry)) (now (t2 .entry))) (family encoding) mode (now (chunk .entry)) p r (now (room .entry)) (now (room .exit)) ⌝ }
+{
     if encoding == 37 {
         return utf_16_run(true, mode, chunk, room, p);
     }
     if encoding == 38 {
         return utf_16_run(false, mode, chunk, room, p);
     }
-    p
+    let a = front(encoding, chunk, room, p);
+    let here = Place {
+        at: a.at,
+        written: a.written,
+        state: a.state,
+        flag: a.flag,
+    };
+    let r = by_number(encoding, mode, chunk, t1, t2, room, here);
+    let lines = feeds(encoding, chunk, room, here, r);
+    Counted {
+        at: r.at,
+        written: r.written,
+        lines: a.lines + lines,
+        state: r.state,
+        flag: r.flag,
+    }
 }

@@ -7,3 +7,4 @@ pub mod Steps
 pub mod Scalars
 pub mod Or
 pub mod Stretches
+pub mod Counting

@@ -2,8 +2,12 @@
 
 use crate::ready;
 use crate::wide;
+use line_feeds::in_few;
+ghost use mathlib.Core.Path.{_≡_};
 ghost use Prim.Native.Nat.{ℕ, _+_, _≤_, _<_};
 ghost use lib.ListN.{length, getD};
+ghost use Rattle.standard.specs.Base.{lineFeeds};
+ghost use Rattle.line_feeds.specs.Parts.{part};
 ghost use Rattle.runs.specs.Run.{Ready};
 ghost use Rattle.runs.specs.Stretch.{Copied, Begins};
 
@@ -79,13 +83,13 @@ fn copy_each(chunk: &[u8], from: usize, room: &mut [u32], place: usize) -> usize
     k
 }
 
-// At least each of 32 bytes; below 80 only if each is.
-fn joined(chunk: &[u8], at: usize) -> u8
-    requires { ⌜ at + 32 ≤ length (now chunk) ⌝ }
-    ensures { λ r. ⌜ ((j : ℕ) → j < 32 → getD (now (chunk .entry)) (at + j) 0 ≤ r) ⌝ }
+// At least each of n bytes; below 80 only if each is.
+fn joined(chunk: &[u8], at: usize, n: usize) -> u8
+    requires { ⌜ at + n ≤ length (now chunk) ⌝ }
+    ensures { λ r. ⌜ ((j : ℕ) → j < n → getD (now (chunk .entry)) (at + j) 0 ≤ r) ⌝ }
 {
     let mut all: u8 = 0;
-    for k in 0..32 {
+    for k in 0..n {
         all = all | chunk[at + k];
     }
     all
@@ -99,7 +103,7 @@ fn ascii_blocks(chunk: &[u8], from: usize) -> usize
     let n = chunk.len() - from;
     let mut k: usize = 0;
     while n - k >= 32 {
-        if 0x80 <= joined(chunk, from + k) {
+        if 0x80 <= joined(chunk, from + k, 32) {
             return k;
         }
         k += 32;
@@ -117,6 +121,18 @@ fn copy_bytes(chunk: &[u8], from: usize, n: usize, room: &mut [u32], place: usiz
         room[place + k] = wide(chunk[from + k]);
         k += 1;
     }
+}
+
+// Copies 192 bytes if each is below 80; how many.
+fn copy_block(chunk: &[u8], from: usize, room: &mut [u32], place: usize) -> usize
+    requires { ⌜ (Ready (now chunk) from (now room) place) × (from + 192 ≤ length (now chunk)) ⌝ }
+    ensures { λ r. ⌜ (Copied (now (chunk .entry)) from r place (now (room .entry)) (now (room .exit))) × ((r ≡ 0 → ⊥) → r ≡ 192) ⌝ }
+{
+    if 0x80 <= joined(chunk, from, 192) {
+        return 0;
+    }
+    copy_bytes(chunk, from, 192, room, place);
+    192
 }
 
 // Copies bytes below 80 in blocks of 32; how many.
@@ -158,4 +174,29 @@ pub fn copy_ascii(chunk: &[u8], from: usize, room: &mut [u32], place: usize) -> 
         return 0;
     }
     copy_stretch(chunk, from, room, place)
+}
+
+// A stretch of ASCII: its bytes, and the line feeds among them.
+pub struct Stretch {
+    pub length: usize,
+    pub lines: usize,
+}
+
+// Copies bytes below 80 in blocks of 192, each tested, copied and counted while it is near. It may stop before another.
+pub fn count_ascii(chunk: &[u8], from: usize, room: &mut [u32], place: usize) -> Stretch
+    requires { ⌜ Ready (now chunk) from (now room) place ⌝ }
+    ensures { λ r. ⌜ (Copied (now (chunk .entry)) from (r .length) place (now (room .entry)) (now (room .exit)))
+        × (r .lines ≡ lineFeeds (part (now (chunk .entry)) from (r .length))) ⌝ }
+{
+    let n = chunk.len() - from;
+    let mut k: usize = 0;
+    let mut lines: usize = 0;
+    while n - k >= 192 {
+        if copy_block(chunk, from + k, room, place + k) == 0 {
+            return Stretch { length: k, lines };
+        }
+        lines += in_few(chunk, from + k, 192) as usize;
+        k += 192;
+    }
+    Stretch { length: k, lines }
 }

@@ -22,6 +22,15 @@ pub struct Place {
     pub flag: u8,
 }
 
+// Where a run has come to, with the line feeds that it wrote.
+pub struct Counted {
+    pub at: usize,
+    pub written: usize,
+    pub lines: usize,
+    pub state: u8,
+    pub flag: u8,
+}
+
 // The guard of every run: is there space for a scalar of each byte that is left, and are there not too many?
 pub fn ready(bytes: usize, from: usize, space: usize, place: usize) -> bool
     ensures { λ r. ⌜ r ≡ ready bytes from space place ⌝ }

@@ -11,19 +11,20 @@ use lib.Seq.{sets-eq}
 use borrow.Author.Tests.{lt-ltb, le-ltb, eq-eqb, ne-eqb, ltb-true, ltb-false, eqb-true, eqb-false}
 use Rattle.standard.specs.Base.{_then_else_}
 use Rattle.standard.specs.Text.{bytes}
-use Rattle.standard.specs.Encodings.{family, Tables, noTables}
-use Rattle.standard.specs.Next.{next}
-use Rattle.standard.specs.Decode.{Item, Read, decode, ending, shown, broken, before}
+use Rattle.standard.specs.Encodings.{Tables, noTables}
+use Rattle.standard.specs.Decode.{Item, Read, shown, before}
 use Rattle.standard.proofs.Tests.{split}
 use Rattle.labels_spec.specs.Labels.{label, name}
 use Rattle.labels_spec.specs.declared.Found.{Found}
-use Rattle.decoder.specs.Record.{shiftOf, heldOf, holding, closed}
-use Rattle.decoder.specs.Calls.{Outcome, refuse, write, handOut, handOutRead, opening, feedRefusal, feeding, finishRefusal, finishing}
+use Rattle.decoder.specs.Record.{holding, closed}
+use Rattle.decoder.specs.Calls.{Outcome, handOut, opening, readOn, feeding, readEnd, finishing}
 use Rattle.decoder.specs.declared.Decoder.{Decoder}
 use Rattle.decoder.specs.declared.Answer.{Answer}
+use Rattle.demands.proofs.Steps.{handed-is, fedOut, feed-is, finish-is}
 use Rattle.demands.proofs.Rooms.{room-kept}
 use Rattle.showtext.specs.Output.{firstLine, afterLine, count, line, refused, scalarLines}
 use Rattle.showtext.specs.Places.{Put}
+use Rattle.showtext.specs.Code.{labelRefusal, heading, feedingOn}
 use Rattle.showtext.specs.Program.{Answers, Left, leave, linesOf, beginning, goingOn, closing, turning}
 use Rattle.showtext.specs.declared.Shown.{Shown}
 use Rattle.showtext.proofs.Named.{name-few}
@@ -46,43 +47,33 @@ pub ahead : {d : Decoder} {n number : ℕ} {out mid us vs : List ℕ} {at : ℕ}
 ahead p a = record { decoder = a .decoder; count = a .count; refusal = a .refusal; put = then-put p (a .put) }
 
 -- No more scalars are written than the room has cells.
-handed-few : (e m : ℕ) (is : List Item) (d : Decoder) (room : List ℕ) → length (handOut e m is d room .room) ≡ length room → handOut e m is d room .answer .written ≤ length room
-handed-few e m is d room = go (eqb m 1 && broken is)
-  where
-    given : Bool → Outcome
-    given b = b then write 11 (before is) (closed e m) room else write 0 (shown is) d room
+Few : List ℕ → Outcome → Type 0
+Few room o = length (o .room) ≡ length room → o .answer .written ≤ length room
 
-    go : (b : Bool) → length (given b .room) ≡ length room → given b .answer .written ≤ length room
-    go true h = omega (arith, h, length-append (before is) (drop (length (before is)) room))
-    go false h = omega (arith, h, length-append (shown is) (drop (length (shown is)) room))
+handed-few : (e m from n l : ℕ) (is : List Item) (d : ℕ → Decoder) (room : List ℕ) → Few room (handOut e m from n l is d room)
+unfolding Few
+handed-few e m from n l is d room = handed-is (Few room) e m from n l is d room
+    (λ h. omega (arith, h, length-append (before is) (drop (length (before is)) room)))
+    (λ h. omega (arith, h, length-append (shown is) (drop (length (shown is)) room)))
 
 pub feed-few : (d : Decoder) (t : Tables) (chunk room : List ℕ) → feeding d t chunk room .answer .written ≤ length room
-unfolding feeding
-feed-few d t chunk room = go (eqb (feedRefusal d t chunk room) 0) (room-kept d .fed t chunk room)
+unfolding Few
+feed-few d t chunk room = feed-is (Few room) d t chunk room (λ z. fed-few) (λ q h. omega arith) (room-kept d .fed t chunk room)
   where
     r : Read
-    r = decode (next t (family (d .encoding))) (shiftOf d) (heldOf d ++ chunk)
+    r = readOn d t chunk
 
-    given : Bool → Outcome
-    given b = b then handOutRead (d .encoding) (d .mode) r room else refuse (feedRefusal d t chunk room) d room
+    n : ℕ
+    n = d .taken + length chunk
 
-    go : (b : Bool) → length (given b .room) ≡ length room → given b .answer .written ≤ length room
-    go true h = handed-few (d .encoding) (d .mode) (r .items) (holding (d .encoding) (d .mode) (r .shift) (r .rest)) room h
-    go false h = omega arith
+    fed-few : Few room (fedOut d t chunk room)
+    fed-few = handed-few (d .encoding) (d .mode) (d .taken - d .held) n (d .lines) (r .items) (λ l. holding (d .encoding) (d .mode) n l (r .shift) (r .rest)) room
 
 pub finish-few : (d : Decoder) (room : List ℕ) → finishing d room .answer .written ≤ length room
-unfolding finishing
-finish-few d room = go (eqb (finishRefusal d room) 0) (room-kept d .finished room)
-  where
-    is : List Item
-    is = ending noTables (family (d .encoding)) (shiftOf d) (heldOf d)
-
-    given : Bool → Outcome
-    given b = b then handOut (d .encoding) (d .mode) is (closed (d .encoding) (d .mode)) room else refuse (finishRefusal d room) d room
-
-    go : (b : Bool) → length (given b .room) ≡ length room → given b .answer .written ≤ length room
-    go true h = handed-few (d .encoding) (d .mode) is (closed (d .encoding) (d .mode)) room h
-    go false h = omega arith
+unfolding Few
+finish-few d room = finish-is (Few room) d room
+    (λ z. handed-few (d .encoding) (d .mode) (d .taken - d .held) (d .taken) (d .lines) (readEnd d) (closed (d .encoding) (d .mode) (d .taken)) room)
+    (λ q h. omega arith) (room-kept d .finished room)
 
 -- What a call wrote fits the room before it and after it.
 fitting : (o : Outcome) (room : List ℕ) → o .answer .written ≤ length room → length (o .room) ≡ length room → {a : Answer} {room′ : List ℕ} → a ≡ o .answer → room′ ≡ o .room → (a .written ≤ length room) × (a .written ≤ length room′)
@@ -101,13 +92,53 @@ pub encoding-few : (e : ℕ) → length (line (bytes "encoding") (name e)) ≤ 3
 unfolding bytes
 encoding-few e = omega (arith, name-few e, length-append (name e) (0x0A ∷ []))
 
+pub refused-few : (out : List ℕ) (k : ℕ) → 32 ≤ length out → length (refused k) ≤ length out
+unfolding bytes
+refused-few out k h = omega (arith, h, number-few (bytes "refused") k)
+
+-- A feed and its text, behind a heading.
+module _ (us : List ℕ) (d : Decoder) (n : ℕ) (chunk room out : List ℕ) where
+  abbrev on : Outcome
+  on = feeding d noTables chunk room
+
+  pub on-fed : on .answer .refusal ≡ 0 → feedingOn us d n chunk room out ≡ leave (on .answer .decoder) (n + on .answer .written) 0 (us ++ linesOf n on) (on .room) out
+  unfolding feedingOn
+  on-fed z = rw (eq-eqb (on .answer .refusal) 0 z)
+
+  pub on-refused : (on .answer .refusal ≡ 0 → ⊥) →
+      feedingOn us d n chunk room out ≡ leave d 0 (on .answer .refusal) (refused (on .answer .refusal)) (on .room) out
+  unfolding feedingOn
+  on-refused z = rw (ne-eqb (on .answer .refusal) 0 z)
+
+  module _ (k : length us ≤ 32) (h : 32 * length room + 32 ≤ length out) where
+    text-few : length (us ++ linesOf n on) ≤ length out
+    text-few = omega (arith, feed-few d noTables chunk room, shown-few n (on .answer .written) (on .room), length-append us (linesOf n on))
+
+    -- how far the count and the text go
+    on-few : let s = feedingOn us d n chunk room out .shown in (s .count ≤ n + length room) × (s .length ≤ length out)
+    on-few = split (eqb (on .answer .refusal) 0)
+        (λ z. rw (on-fed (eqb-true (on .answer .refusal) 0 z)) (omega (arith, feed-few d noTables chunk room), text-few))
+        (λ z. rw (on-refused (eqb-false (on .answer .refusal) 0 z)) (omega arith, refused-few out (on .answer .refusal) (omega arith)))
+
+    -- from the answers of the calls
+    module _ {a : Answer} {room′ : List ℕ} (p : a ≡ on .answer) (q : room′ ≡ on .room) {shown : Shown} {after : List ℕ} where
+      pub left-refused : (a .refusal ≡ 0 → ⊥) → Answers d 0 (a .refusal) out 0 (refused (a .refusal)) shown after →
+          Left (feedingOn us d n chunk room out) shown room′ after
+      left-refused z s = rw (on-refused (rw p at z)) (left (rw p at s) (refused-few out (on .answer .refusal) (omega arith)) q)
+
+      pub left-fed : a .refusal ≡ 0 → {at : ℕ} {mid : List ℕ} → Put out 0 us at mid →
+          Answers (a .decoder) (n + a .written) (a .refusal) mid at (scalarLines n (take (a .written) room′)) shown after → Left
+          (feedingOn us d n chunk room out) shown room′ after
+      left-fed z {at} {mid} b s =
+          let zero : on .answer .refusal ≡ 0 = rw p at z in
+          let s′ : Answers (on .answer .decoder) (n + on .answer .written) (on .answer .refusal) mid at (linesOf n on) shown after = rw
+          (p, q) at s in
+          rw (on-fed zero) (left (ahead b (rw zero at s′)) text-few q)
+
 -- A further buffer.
-pub went-on : (d : Decoder) (n : ℕ) (chunk room out : List ℕ) {a : Answer} {room′ : List ℕ} {shown : Shown} {after : List ℕ} → a ≡ feeding d noTables chunk room .answer → room′ ≡ feeding d noTables chunk room .room →
-    Answers (a .decoder) (n + a .written) (a .refusal) out 0 (scalarLines n (take (a .written) room′)) shown after → 32 * length room ≤ length out → Left (goingOn d n chunk room out) shown room′ after
-unfolding goingOn
-went-on d n chunk room out {a} {room′} p q s h =
-    let o = feeding d noTables chunk room in
-    left (rw (p, q) at s) (omega (arith, h, feed-few d noTables chunk room, shown-few n (o .answer .written) (o .room))) q
+pub going-is : (d : Decoder) (n : ℕ) (chunk room out : List ℕ) → goingOn d n chunk room out ≡ feedingOn [] d n chunk room out
+unfolding goingOn feedingOn
+going-is d n chunk room out = refl
 
 -- The end of input.
 pub closed-up : (d : Decoder) (n : ℕ) (room out : List ℕ) {a : Answer} {room′ : List ℕ} {shown : Shown} {after after′ : List ℕ} {end : ℕ} → a ≡ finishing d room .answer → room′ ≡ finishing d room .room →
@@ -150,95 +181,51 @@ module _ (input room out : List ℕ) where
       unfolding beginning
       at-fed z = rw (le-ltb 255 (length (firstLine input)) h, ne-eqb (found .refusal) 1 e, eq-eqb (fed .answer .refusal) 0 z)
 
--- The same from the answers of the calls.
-module _ (input room out : List ℕ) {n : ℕ} {f : Found} {o : Answer} (p : n ≡ length (firstLine input)) (t : take n input ≡ firstLine input) (q : f ≡ label (take (n - 0) input)) (u : o ≡ opening (f .encoding) 0 0) (h : 32 * length room + 32 ≤ length out) where
-  found-is : f ≡ found input room out
-  found-is = let z : n - 0 ≡ n = omega arith in q ∙ rw (z, t)
+  -- the label is refused, or the text begins
+  begin-refused : labelRefusal input ≡ 1 → beginning input room out ≡ leave opened 0 1 (refused 1) room out
+  begin-refused e = split (ltb 255 (length (firstLine input)))
+      (λ l. at-long (ltb-true 255 (length (firstLine input)) l))
+      (λ l. at-unknown (ltb-false 255 (length (firstLine input)) l) (rw l at e))
 
-  opened-is : o .decoder ≡ opened input room out
-  opened-is = ap (λ (a : Answer). a .decoder) u ∙ ap (λ (f : Found). opening (f .encoding) 0 0 .decoder) found-is
+  begin-text : (labelRefusal input ≡ 1 → ⊥) →
+      beginning input room out ≡ feedingOn (heading (found .encoding)) opened 0 (afterLine input) room out
+  unfolding beginning feedingOn
+  begin-text e = split (ltb 255 (length (firstLine input)))
+      (λ l. absurd (e (rw l refl)))
+      (λ l. rw (l, ne-eqb (found .refusal) 1 (rw l at e), zero-add (fed .answer .written)))
 
-  refused-few : (k : ℕ) → length (refused k) ≤ length out
-  unfolding bytes
-  refused-few k = omega (arith, h, number-few (bytes "refused") k)
+  begin-few : 32 * length room + 32 ≤ length out →
+      let s = beginning input room out .shown in (s .count ≤ length room) × (s .length ≤ length out)
+  begin-few h = split (eqb (labelRefusal input) 1)
+      (λ e. rw (begin-refused (eqb-true (labelRefusal input) 1 e)) (omega arith, refused-few out 1 (omega arith)))
+      (λ e. rw (begin-text (eqb-false (labelRefusal input) 1 e))
+      (let few = on-few (heading (found .encoding)) opened 0 (afterLine input) room out (encoding-few (found .encoding)) h in (omega (arith, few .0), few .1)))
 
-  pub begun-long : 255 < n → {shown : Shown} {after : List ℕ} → Answers (o .decoder) 0 1 out 0 (refused 1) shown after → Left (beginning input room out) shown room after
-  begun-long l a = rw (at-long input room out (omega (arith, p, l))) (left (rw opened-is at a) (refused-few 1) refl)
+  -- the same from the answers of the calls
+  module _ {e r : ℕ} {o : Answer} (p : e ≡ found .encoding) (q : r ≡ labelRefusal input) (u : o ≡ opening e 0 0) where
+    opened-is : o .decoder ≡ opened
+    opened-is = ap (λ (a : Answer). a .decoder) u ∙ ap (λ (n : ℕ). opening n 0 0 .decoder) p
 
-  module _ (l : n ≤ 255) where
-    few : length (firstLine input) ≤ 255
-    few = omega (arith, p, l)
+    pub begun-refused : 32 ≤ length out → r ≡ 1 → {shown : Shown} {after : List ℕ} →
+        Answers (o .decoder) 0 1 out 0 (refused 1) shown after → Left (beginning input room out) shown room after
+    begun-refused h z a = rw (begin-refused (rw q at z)) (left (rw opened-is at a) (refused-few out 1 h) refl)
 
-    pub begun-unknown : f .refusal ≡ 1 → {shown : Shown} {after : List ℕ} → Answers (o .decoder) 0 1 out 0 (refused 1) shown after → Left (beginning input room out) shown room after
-    begun-unknown e a = rw (at-unknown input room out few (rw found-is at e)) (left (rw opened-is at a) (refused-few 1) refl)
-
-    module _ (e : f .refusal ≡ 1 → ⊥) {rest room′ : List ℕ} {g : Answer} (r : rest ≡ afterLine input) (v : g ≡ feeding (o .decoder) noTables rest room .answer) (w : room′ ≡ feeding (o .decoder) noTables rest room .room) where
-      known : found input room out .refusal ≡ 1 → ⊥
-      known = rw found-is at e
-
-      answer-is : g ≡ fed input room out .answer
-      answer-is = v ∙ rw (opened-is, r)
-
-      room-is : room′ ≡ fed input room out .room
-      room-is = w ∙ rw (opened-is, r)
-
-      pub begun-refused : (g .refusal ≡ 0 → ⊥) → {shown : Shown} {after : List ℕ} → Answers (o .decoder) 0 (g .refusal) out 0 (refused (g .refusal)) shown after → Left (beginning input room out) shown room′ after
-      begun-refused z a = rw (at-refused input room out few known (rw answer-is at z)) (left (rw (opened-is, answer-is) at a) (refused-few _) room-is)
-
-      pub begun-fed : g .refusal ≡ 0 → {at : ℕ} {mid : List ℕ} {shown : Shown} {after : List ℕ} → Put out 0 (line (bytes "encoding") (name (f .encoding))) at mid →
-          Answers (g .decoder) (0 + g .written) (g .refusal) mid at (scalarLines 0 (take (g .written) room′)) shown after → Left (beginning input room out) shown room′ after
-      unfolding bytes
-      begun-fed z {at} {mid} {shown} {after} b a =
-          let o = fed input room out in
-          let e = found input room out .encoding in
-          let zero : o .answer .refusal ≡ 0 = rw answer-is at z in
-          let b′ : Put out 0 (line (bytes "encoding") (name e)) at mid = rw found-is at b in
-          let a′ : Answers (o .answer .decoder) (0 + o .answer .written) (o .answer .refusal) mid at (linesOf 0 o) shown after = rw (answer-is, room-is) at a in
-          let few′ : length (line (bytes "encoding") (name e) ++ linesOf 0 o) ≤ length out = omega (
-            arith,
-            h,
-            feed-few (opened input room out) noTables (afterLine input) room,
-            shown-few 0 (o .answer .written) (o .room),
-            encoding-few e,
-            length-append (line (bytes "encoding") (name e)) (linesOf 0 o),
-          ) in
-          rw (at-fed input room out few known zero) (left (ahead b′ (rw (zero-add (o .answer .written), zero) at a′)) few′ room-is)
+    pub begun-text : (r ≡ 1 → ⊥) → {rest : List ℕ} → rest ≡ afterLine input → {shown : Shown} {room′ after : List ℕ} →
+        Left (feedingOn (heading e) (o .decoder) 0 rest room out) shown room′ after → Left (beginning input room out) shown room′ after
+    begun-text z t l = rw (begin-text (rw q at z)) (rw (opened-is, p, t) at l)
 
 -- How far the counts and the texts go.
 module _ {shown : Shown} {room′ out′ : List ℕ} where
-  pub begun-few : (input room out : List ℕ) → 32 * length room + 32 ≤ length out → Left (beginning input room out) shown room′ out′ → (shown .count ≤ length room) × (shown .length ≤ length out)
-  unfolding bytes
-  begun-few input room out h l = rw (l .answer) (split (ltb 255 (length (firstLine input)))
-      (λ b. rw (at-long input room out (ltb-true 255 _ b)) (one 1))
-      (λ b. let few = ltb-false 255 _ b in split (eqb (f .refusal) 1)
-      (λ e. rw (at-unknown input room out few (eqb-true (f .refusal) 1 e)) (one 1))
-      (λ e. let known = eqb-false (f .refusal) 1 e in split (eqb (o .answer .refusal) 0)
-      (λ z. rw (at-fed input room out few known (eqb-true (o .answer .refusal) 0 z)) (few-fed, text-fed))
-      (λ z. rw (at-refused input room out few known (eqb-false (o .answer .refusal) 0 z)) (one (o .answer .refusal))))))
-    where
-      f : Found
-      f = found input room out
+  begun-few : (input room out : List ℕ) → 32 * length room + 32 ≤ length out → Left (beginning input room out) shown room′ out′ →
+      (shown .count ≤ length room) × (shown .length ≤ length out)
+  begun-few input room out h l = rw (l .answer) (begin-few input room out h)
 
-      o : Outcome
-      o = fed input room out
+  went-few : (d : Decoder) (n : ℕ) (chunk room out : List ℕ) → 32 * length room + 32 ≤ length out →
+      Left (goingOn d n chunk room out) shown room′ out′ → (shown .count ≤ n + length room) × (shown .length ≤ length out)
+  went-few d n chunk room out h l = rw (l .answer, going-is d n chunk room out) (on-few [] d n chunk room out (omega arith) h)
 
-      one : (k : ℕ) → (0 ≤ length room) × (length (refused k) ≤ length out)
-      one k = (omega arith, omega (arith, h, number-few (bytes "refused") k))
-
-      few-fed : o .answer .written ≤ length room
-      few-fed = feed-few (opened input room out) noTables (afterLine input) room
-
-      text-fed : length (line (bytes "encoding") (name (f .encoding)) ++ linesOf 0 o) ≤ length out
-      text-fed = omega (arith, h, few-fed, shown-few 0 (o .answer .written) (o .room), encoding-few (f .encoding), length-append (line (bytes "encoding") (name (f .encoding))) (linesOf 0 o))
-
-  pub went-few : (d : Decoder) (n : ℕ) (chunk room out : List ℕ) → 32 * length room + 32 ≤ length out → Left (goingOn d n chunk room out) shown room′ out′ → (shown .count ≤ n + length room) × (shown .length ≤ length out)
-  unfolding goingOn
-  went-few d n chunk room out h l =
-      let o = feeding d noTables chunk room in
-      let few = feed-few d noTables chunk room in
-      rw (l .answer) (omega (arith, few), omega (arith, h, few, shown-few n (o .answer .written) (o .room)))
-
-  pub closed-few : (d : Decoder) (n : ℕ) (room out : List ℕ) → 32 * length room + 32 ≤ length out → Left (closing d n room out) shown room′ out′ →
+  closed-few : (d : Decoder) (n : ℕ) (room out : List ℕ) → 32 * length room + 32 ≤ length out →
+      Left (closing d n room out) shown room′ out′ →
       (shown .count ≤ n + length room) × (shown .length ≤ length out)
   unfolding closing bytes
   closed-few d n room out h l =

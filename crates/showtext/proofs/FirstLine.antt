@@ -7,10 +7,13 @@ use native.Mathlib.Omega.{arith}
 use lib.Dec.{eqb}
 use lib.ListN.{length, getD, take, drop, drop-of-length-le}
 use lib.Seq.{drop-cons, take-suc, length-take-le, append-snoc}
-use borrow.Author.Tests.{eq-eqb, ne-eqb}
+use borrow.Author.Tests.{eq-eqb, ne-eqb, lt-ltb, le-ltb}
 use Rattle.standard.proofs.Tests.{split}
 use Rattle.labels.proofs.Ends.{rest}
+use Rattle.labels_spec.specs.Labels.{label}
+use Rattle.labels_spec.specs.declared.Found.{Found}
 use Rattle.showtext.specs.Output.{firstLine, afterLine}
+use Rattle.showtext.specs.Code.{labelRefusal}
 
 pub first-few : (xs : List ℕ) → length (firstLine xs) ≤ length xs
 unfolding firstLine
@@ -59,3 +62,15 @@ passed-on xs i s h e = record {
   inside = omega arith;
   split = s .split ∙ rw (add-one, drop-cons xs i 0 h, take-suc xs i 0 h, ne-eqb (getD xs i 0) 0x0A e) (sym (append-snoc (take i xs) (getD xs i 0) (firstLine (drop (suc i) xs)) ∙ refl));
 }
+
+-- What the label call answers for the first line, as first_label does.
+module _ (input : List ℕ) {n : ℕ} {f : Found} (p : n ≡ length (firstLine input)) (t : take n input ≡ firstLine input)
+    (q : f ≡ label (take (n - 0) input)) where
+  label-is : f ≡ label (firstLine input)
+  label-is = let z : n - 0 ≡ n = omega arith in q ∙ rw (z, t)
+
+  pub label-long : 255 < n → (f .encoding ≡ label (firstLine input) .encoding) × (1 ≡ labelRefusal input)
+  label-long h = (ap (λ (f : Found). f .encoding) label-is, rw (lt-ltb 255 (length (firstLine input)) (omega (arith, p, h))))
+
+  pub label-short : n ≤ 255 → (f .encoding ≡ label (firstLine input) .encoding) × (f .refusal ≡ labelRefusal input)
+  label-short h = (ap (λ (f : Found). f .encoding) label-is, rw (le-ltb 255 (length (firstLine input)) (omega (arith, p, h))) (ap (λ (f : Found). f .refusal) label-is))

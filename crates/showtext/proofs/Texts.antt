@@ -49,6 +49,20 @@ module _ (b most extra n : ℕ) where
         Put room at (digits b most (most - extra) n) (place + 1) (set after place v)
     put-last q v = same (sym (last b most extra n p h)) (rw v (then-byte (digit (n % b)) (rw e at q)))
 
+-- the digits of a code point below 0x10000
+module _ (c : ℕ) (h : c < 0x10000) where
+  four : digits 16 8 4 c ≡ digit (c / 16 / 16 / 16 % 16) ∷ digit (c / 16 / 16 % 16) ∷ digit (c / 16 % 16) ∷ digit (c % 16) ∷ []
+  unfolding digits
+  four = let z : c / 16 / 16 / 16 / 16 ≡ 0 = omega arith in rw z
+
+  pub put-four : {room : List ℕ} {at u v x y : ℕ} → u ≡ digit (c / 16 / 16 / 16 % 16) → v ≡ digit (c / 16 / 16 % 16) →
+      x ≡ digit (c / 16 % 16) → y ≡ digit (c % 16) →
+      Put room at (digits 16 8 4 c) (at + 4) (set (set (set (set room at u) (at + 1) v) (at + 2) x) (at + 3) y)
+  put-four {room} {at} p q r s =
+      let two : at + 2 ≡ suc (suc at) = omega arith in
+      let three : at + 3 ≡ suc (suc (suc at)) = omega arith in
+      same (sym four) (record { behind = refl; stands = rw (p, q, r, s, three, two, add-one) refl })
+
 -- Lines.
 module _ (room : List ℕ) (at : ℕ) where
   pub put-scalar : (n c : ℕ) {tab end : ℕ} {a b : List ℕ} → Put room at (count n) tab a → Put (set (set (set a tab 0x09) (tab + 1) 0x55) (tab + 2) 0x2B) (tab + 3) (digits 16 8 4 c) end b →

@@ -41,7 +41,7 @@ use Rattle.showtext.specs.Program.{Leaves, leave, linesOf, beginning, go
 use Rattle.showtext.specs.declared.Shown.{Shown}
 use Rattle.showtext.specs.Statements.{joined, Small, Filled, Prints}
 use Rattle.showtext.proofs.Texts.{scalarLines-append}
-use Rattle.showtext.proofs.Buffers.{feed-few, finish-few, found, opened, fed, at-long, at-unknown, at-refused, at-fed}
+use Rattle.showtext.proofs.Buffers.{feed-few, finish-few, found, opened, fed, on-fed, going-is, at-long, at-unknown, at-refused, at-fed}
 
 -- The first line of a longer input.
 line-closed : (xs ys : List ℕ) → length (firstLine xs) < length xs → (firstLine (xs ++ ys) ≡ firstLine xs) × (afterLine (xs ++ ys) ≡ afterLine xs ++ ys)
@@ -139,10 +139,22 @@ module _ (handed : List ℕ) (n : ℕ) (k : n ≡ length handed) (o : Outcome) (
       let e : scalarLines 0 now ≡ scalarLines 0 handed ++ linesOf n o = scalarLines-append 0 handed cs ∙ ap (λ (m : ℕ). scalarLines 0 handed ++ scalarLines m cs) (zero-add (length handed) ∙ sym k) in
       sym (append-assoc (scalarLines 0 handed) (linesOf n o) us) ∙ ap (λ (l : List ℕ). l ++ us) (sym e)
 
-later-is : (bs : List (List ℕ)) (l : Leaves) (taken handed : List ℕ) → l .shown .count ≡ length handed →
+-- A further buffer that is not refused.
+went-on : (d : Decoder) (n : ℕ) (b room out : List ℕ) → let o = feeding d noTables b room in
+    o .answer .refusal ≡ 0 → goingOn d n b room out ≡ leave (o .answer .decoder) (n + o .answer .written) 0 (linesOf n o) (o .room) out
+went-on d n b room out z = going-is d n b room out ∙ on-fed [] d n b room out z
+
+-- No further buffer is refused.
+GoesOn : Leaves → List (List ℕ) → Type 0
+GoesOn l [] = Unit
+GoesOn l (b ∷ bs) =
+    let d = l .shown .decoder in
+    (feeding d noTables b (l .room) .answer .refusal ≡ 0) × GoesOn (goingOn d (l .shown .count) b (l .room) (l .out)) bs
+
+later-is : (bs : List (List ℕ)) (l : Leaves) (taken handed : List ℕ) → GoesOn l bs → l .shown .count ≡ length handed →
     scalarLines 0 handed ++ later l bs ≡ ended (after (record { taken = taken; handed = handed; decoder = l .shown .decoder }) (calls (l .shown .decoder) (l .room) bs) .handed)
-unfolding later closing goingOn calls pieces lastRoom cutting after
-later-is [] l taken handed k =
+unfolding later closing GoesOn calls pieces lastRoom cutting after
+later-is [] l taken handed g k =
     let d = l .shown .decoder in
     let n = l .shown .count in
     let o = finishing d (l .room) in
@@ -150,15 +162,19 @@ later-is [] l taken handed k =
     ap (λ (t : List ℕ). scalarLines 0 handed ++ t) (text-is (o .answer .decoder) (n + o .answer .written) (o .answer .refusal) (linesOf n o ++ line (bytes "end") (count (n + o .answer .written))) (o .room) (l .out)) ∙
     behind handed n k o few (line (bytes "end") (count (n + o .answer .written))) ∙
     ap (λ (m : ℕ). scalarLines 0 (now handed n k o few) ++ line (bytes "end") (count m)) (counted handed n k o few)
-later-is (b ∷ bs) l taken handed k =
+later-is (b ∷ bs) l taken handed g k =
     let d = l .shown .decoder in
     let n = l .shown .count in
     let o = feeding d noTables b (l .room) in
     let few : o .answer .written ≤ length (o .room) = omega (arith, feed-few d noTables b (l .room), room-kept d .fed noTables b (l .room)) in
-    let l′ = goingOn d n b (l .room) (l .out) in
-    ap (λ (t : List ℕ). scalarLines 0 handed ++ (t ++ later l′ bs)) (text-is (o .answer .decoder) (n + o .answer .written) (o .answer .refusal) (linesOf n o) (o .room) (l .out)) ∙
+    let l′ = leave (o .answer .decoder) (n + o .answer .written) 0 (linesOf n o) (o .room) (l .out) in
+    let e : goingOn d n b (l .room) (l .out) ≡ l′ = went-on d n b (l .room) (l .out) (g .0) in
+    ap (λ (l : Leaves). scalarLines 0 handed ++ (text l ++ later l bs)) e ∙
+    ap (λ (t : List ℕ). scalarLines 0 handed ++ (t ++ later l′ bs))
+    (text-is (o .answer .decoder) (n + o .answer .written) 0 (linesOf n o) (o .room) (l .out)) ∙
     behind handed n k o few (later l′ bs) ∙
-    later-is bs l′ (noted (record { taken = taken; handed = handed; decoder = d }) b o .taken) (now handed n k o few) (counted handed n k o few)
+    later-is bs l′ (noted (record { taken = taken; handed = handed; decoder = d }) b o .taken) (now handed n k o few)
+    (subst (λ (l : Leaves). GoesOn l bs) e (g .1)) (counted handed n k o few)
 
 -- A feed in replacing mode that is accepted reports nothing.
 fed-on : (d : Decoder) (b room : List ℕ) → d .mode ≡ 0 → feedRefusal d noTables b room ≡ 0 →
@@ -166,21 +182,18 @@ fed-on : (d : Decoder) (b room : List ℕ) → d .mode ≡ 0 → feedRefusal d n
 unfolding feeding
 fed-on d b room m z = rw (eq-eqb (feedRefusal d noTables b room) 0 z, m) (refl, refl)
 
--- No further buffer is refused.
-GoesOn : Leaves → List (List ℕ) → Type 0
-GoesOn l [] = Unit
-GoesOn l (b ∷ bs) = let l′ = goingOn (l .shown .decoder) (l .shown .count) b (l .room) (l .out) in (l′ .shown .refusal ≡ 0) × GoesOn l′ bs
-
 goes-on : (bs : List (List ℕ)) (l : Leaves) (taken handed last : List ℕ) → l .shown .decoder .mode ≡ 0 →
     Accepts noTables (record { taken = taken; handed = handed; decoder = l .shown .decoder }) (pieces (l .shown .decoder) (l .room) bs) last → GoesOn l bs
-unfolding GoesOn goingOn pieces Accepts
+unfolding GoesOn pieces Accepts
 goes-on [] l taken handed last m a = tt
 goes-on (b ∷ bs) l taken handed last m a =
     let d = l .shown .decoder in
+    let n = l .shown .count in
     let o = feeding d noTables b (l .room) in
     let h = noted (record { taken = taken; handed = handed; decoder = d }) b o in
     let ok = fed-on d b (l .room) m (a .0) in
-    (ok .0, goes-on bs (goingOn d (l .shown .count) b (l .room) (l .out)) (h .taken) (h .handed) last (ok .1) (a .1 (rw (ok .0) refl)))
+    let l′ = leave (o .answer .decoder) (n + o .answer .written) 0 (linesOf n o) (o .room) (l .out) in
+    (ok .0, subst (λ (l : Leaves). GoesOn l bs) (sym (went-on d n b (l .room) (l .out) (ok .0))) (goes-on bs l′ (h .taken) (h .handed) last (ok .1) (a .1 (rw (ok .0) refl))))
 
 -- The steps behind a buffer print what comes later.
 rest-is : (full : ℕ) (b : List ℕ) (bs : List (List ℕ)) (l : Leaves) (step : ℕ) → eqb step 2 ≡ false → GoesOn l bs → Filled full b bs →
@@ -188,30 +201,48 @@ rest-is : (full : ℕ) (b : List ℕ) (bs : List (List ℕ)) (l : Leaves) (step 
 unfolding later byStep turning GoesOn Filled
 rest-is full b [] l step e g f = rw (e, lt-ltb (length b) full f) (append-nil _)
 rest-is full b (c ∷ bs) l step e g f =
-    let l′ = goingOn (l .shown .decoder) (l .shown .count) c (l .room) (l .out) in
+    let d = l .shown .decoder in
+    let n = l .shown .count in
+    let l′ = goingOn d n c (l .room) (l .out) in
+    let z : l′ .shown .refusal ≡ 0 = ap (λ (l : Leaves). l .shown .refusal) (went-on d n c (l .room) (l .out) (g .0)) in
     let behind : ℕ → List ℕ = λ r. ltb (nextStep 1 r (length c) full) 3 then byStep full (nextStep 1 r (length c) full) (l′ .shown) (l′ .room) (l′ .out) (bs ++ ([] ∷ [])) else [] in
     let k : full ≤ length b = omega (arith, f .0) in
-    rw (e, le-ltb (length b) full k) (ap (λ (r : ℕ). text l′ ++ behind r) (g .0) ∙ ap (λ (t : List ℕ). text l′ ++ t) (rest-is full c bs l′ 1 refl (g .1) (f .1)))
+    rw (e, le-ltb (length b) full k) (ap (λ (r : ℕ). text l′ ++ behind r) z ∙ ap (λ (t : List ℕ). text l′ ++ t) (rest-is full c bs l′ 1 refl (g .1) (f .1)))
+
+-- A buffer behind the limit: its line, and nothing more.
+past-limit : (d : Decoder) (n : ℕ) (b room out : List ℕ) → feedRefusal d noTables b room ≡ 14 →
+    goingOn d n b room out ≡ leave d 0 14 (refused 14) room out
+unfolding goingOn feeding
+past-limit d n b room out z = rw z
+
+too-much : (full : ℕ) (s : Shown) (room out b : List ℕ) (bs : List (List ℕ)) → feedRefusal (s .decoder) noTables b room ≡ 14 →
+    byStep full 1 s room out (b ∷ bs) ≡ bytes "refused\t14\n"
+unfolding byStep turning digits bytes
+too-much full s room out b bs z =
+    let from : Leaves → List ℕ = λ l. let next = nextStep 1 (l .shown .refusal) (length b) full in
+    text l ++ (ltb next 3 then byStep full next (l .shown) (l .room) (l .out) bs else []) in
+    ap from (past-limit (s .decoder) (s .count) b room out z) ∙ append-nil _ ∙ text-is (s .decoder) 0 14 (refused 14) room out
 
 -- The first feed, of an encoding that may be opened.
 module _ (e : ℕ) (o : openRefusal e 0 0 ≡ 0) (chunk room : List ℕ) where
   abbrev new : Decoder
   new = opening e 0 0 .decoder
 
-  new-is : new ≡ holding e 0 (newShift e 0) []
+  new-is : new ≡ holding e 0 0 0 (newShift e 0) []
   unfolding start
   new-is = ap (λ (h : History). h .decoder) (opened-is e 0 0 o)
 
   feed-accepted : feedRefusal new noTables chunk room ≡ 0 → feeding new noTables chunk room .answer .refusal ≡ 0
   feed-accepted z =
-      let z′ : feedRefusal (holding e 0 (newShift e 0) []) noTables chunk room ≡ 0 = rw new-is at z in
-      rw (new-is, feed-holding e 0 (newShift e 0) [] noTables chunk room (empty noTables (family e) (newShift e 0)) z′)
+      let z′ : feedRefusal (holding e 0 0 0 (newShift e 0) []) noTables chunk room ≡ 0 = rw new-is at z in
+      rw (new-is, feed-holding e 0 0 0 (newShift e 0) [] noTables chunk room (empty noTables (family e) (newShift e 0)) z′)
 
   feed-refused : fits (family e) noTables ≡ false → feeding new noTables chunk room .answer .refusal ≡ 4
   unfolding feeding feedRefusal
   feed-refused f = rw new-is (rw (rw new-is at (valid-opening e 0 0), f))
 
-module _ (room out first : List ℕ) (bs : List (List ℕ)) (h : 4099 ≤ length room) (c : length first < 256 → bs ≡ []) (s : Small (first ∷ bs)) where
+module _ (room out first : List ℕ) (bs : List (List ℕ)) (h : 4099 ≤ length room) (c : length first < 256 → bs ≡ []) (s : Small (first ∷ bs))
+    (u : length (afterLine (first ++ joined bs)) ≤ 4294967295) where
   abbrev F : Found
   F = found first room out
 
@@ -262,48 +293,61 @@ module _ (room out first : List ℕ) (bs : List (List ℕ)) (h : 4099 ≤ length
       last = lastRoom (O .answer .decoder) (O .room) bs
 
       module _ (f : fits (family (F .encoding)) noTables ≡ true) where
+        -- the bytes of all feeds
+        fed-bytes : joinedPieces ps ≡ afterLine (first ++ joined bs)
+        unfolding joinedPieces
+        fed-bytes = ap (λ (ys : List ℕ). afterLine first ++ ys) (pieces-joined (O .answer .decoder) (O .room) bs) ∙ sym (cut .1)
+
         accepts : Accepts noTables (start (F .encoding) 0 0) ps last
         unfolding Roomy Small
-        accepts = roomy noTables (F .encoding) 0 0 opens ps last f
+        accepts = roomy noTables (F .encoding) 0 0 opens ps last f (rw fed-bytes u)
             (omega (arith, s .0, after-few first), omega (arith, s .0, h, after-few first), pieces-roomy (O .answer .decoder) (O .room) bs (omega (arith, h, room-kept D .fed noTables (afterLine first) room)) (s .1))
 
         accepted : O .answer .refusal ≡ 0
         unfolding Accepts start
         accepted = feed-accepted (F .encoding) opens (afterLine first) room (accepts .0)
 
-        goes-on-listed : GoesOn (beginning first room out) bs
+        abbrev began : Leaves
+        began = leave (O .answer .decoder) (O .answer .written) 0 (line (bytes "encoding") (name (F .encoding)) ++ linesOf 0 O)
+            (O .room) out
+
+        goes-on-began : GoesOn began bs
         unfolding Accepts start
-        goes-on-listed =
+        goes-on-began =
             let d : D .mode ≡ 0 = ap (λ (d : Decoder). d .mode) (new-is (F .encoding) opens (afterLine first) room) in
             let n = noted (start (F .encoding) 0 0) (afterLine first) O in
-            let l = leave (O .answer .decoder) (O .answer .written) 0 (line (bytes "encoding") (name (F .encoding)) ++ linesOf 0 O) (O .room) out in
-            subst (λ (l : Leaves). GoesOn l bs) (sym (at-fed first room out few e accepted))
-            (goes-on bs l (n .taken) (n .handed) last (fed-on D (afterLine first) room d (accepts .0) .1) (accepts .1 (rw accepted refl)))
+            goes-on bs began (n .taken) (n .handed) last (fed-on D (afterLine first) room d (accepts .0) .1) (accepts .1 (rw accepted refl))
+
+        goes-on-listed : GoesOn (beginning first room out) bs
+        goes-on-listed = subst (λ (l : Leaves). GoesOn l bs) (sym (at-fed first room out few e accepted)) goes-on-began
 
         all : List ℕ
         all = shown (everything noTables (family (F .encoding)) (newShift (F .encoding) 0) (afterLine (first ++ joined bs)))
 
         -- what the calls hand out in all
         handed : after (start (F .encoding) 0 0) (cutting noTables ps last) .handed ≡ all
-        unfolding account wholeAccount dealt joinedPieces all
+        unfolding account wholeAccount dealt all
         handed = ap (λ (a : Account). a .handed) (cut-is-whole noTables (F .encoding) 0 0 opens ps last accepts) ∙
-            ap (λ (xs : List ℕ). shown (everything noTables (family (F .encoding)) (newShift (F .encoding) 0) xs)) (ap (λ (ys : List ℕ). afterLine first ++ ys) (pieces-joined (O .answer .decoder) (O .room) bs) ∙ sym (cut .1))
+            ap (λ (xs : List ℕ). shown (everything noTables (family (F .encoding)) (newShift (F .encoding) 0) xs)) fed-bytes
 
         -- the lines behind the first
-        lines : linesOf 0 O ++ later (leave (O .answer .decoder) (O .answer .written) 0 (line (bytes "encoding") (name (F .encoding)) ++ linesOf 0 O) (O .room) out) bs ≡ ended all
+        lines : linesOf 0 O ++ later began bs ≡ ended all
         unfolding start cutting after calls
         lines =
             let few′ : O .answer .written ≤ length (O .room) = omega (arith, feed-few D noTables (afterLine first) room, room-kept D .fed noTables (afterLine first) room) in
-            later-is bs (leave (O .answer .decoder) (O .answer .written) 0 (line (bytes "encoding") (name (F .encoding)) ++ linesOf 0 O) (O .room) out)
-            (noted (start (F .encoding) 0 0) (afterLine first) O .taken) (take (O .answer .written) (O .room)) (sym (length-take-le (O .answer .written) (O .room) few′)) ∙ ap ended handed
+            later-is bs began (noted (start (F .encoding) 0 0) (afterLine first) O .taken)
+            (take (O .answer .written) (O .room)) goes-on-began (sym (length-take-le (O .answer .written) (O .room) few′)) ∙
+            ap ended handed
 
         listed : program room out first bs ≡ printed (first ++ joined bs)
         unfolding program printed all
         listed =
             let us = line (bytes "encoding") (name (F .encoding)) in
-            let l = leave (O .answer .decoder) (O .answer .written) 0 (us ++ linesOf 0 O) (O .room) out in
-            ap whole-from (at-fed first room out few e accepted) ∙ ap (λ (t : List ℕ). t ++ later l bs) (text-is (O .answer .decoder) (O .answer .written) 0 (us ++ linesOf 0 O) (O .room) out) ∙
-            append-assoc us (linesOf 0 O) (later l bs) ∙ ap (λ (t : List ℕ). us ++ t) lines ∙ sym (rw (cut .0, le-ltb 255 (length (firstLine first)) few, ne-eqb (F .refusal) 1 e, f))
+            ap whole-from (at-fed first room out few e accepted) ∙
+            ap (λ (t : List ℕ). t ++ later began bs)
+            (text-is (O .answer .decoder) (O .answer .written) 0 (us ++ linesOf 0 O) (O .room) out) ∙
+            append-assoc us (linesOf 0 O) (later began bs) ∙ ap (λ (t : List ℕ). us ++ t) lines ∙
+            sym (rw (cut .0, le-ltb 255 (length (firstLine first)) few, ne-eqb (F .refusal) 1 e, f))
 
   abbrev number : Leaves → ℕ
   number l = l .shown .refusal
@@ -346,12 +390,12 @@ filled-first full b [] h f l = refl
 filled-first full b (c ∷ bs) h f l = absurd (omega (arith, h, l, f .0))
 
 steps-print : (full : ℕ) (s : Shown) (room out first : List ℕ) (bs : List (List ℕ)) → 4099 ≤ length room → 256 ≤ full → full ≤ 4096 → Filled full first bs →
-    byStep full 0 s room out (first ∷ bs ++ ([] ∷ [])) ≡ printed (first ++ joined bs)
-steps-print full s room out first bs h low high f =
+    length (afterLine (first ++ joined bs)) ≤ 4294967295 → byStep full 0 s room out (first ∷ bs ++ ([] ∷ [])) ≡ printed (first ++ joined bs)
+steps-print full s room out first bs h low high f u =
     let c = filled-first full first bs low f in
     let small = filled-small full first bs high f in
-    by-steps room out first bs h c small full s f ∙ all-cases room out first bs h c small
+    by-steps room out first bs h c small u full s f ∙ all-cases room out first bs h c small u
 
 pub prints : Prints
 unfolding printed digits scalarLines firstLine afterLine bytes name label table startOf trimmed same among find family traits fits everything decode reads ending oneError shown next singleByte cell windows1252 irregular countFrom
-prints = record { whole = all-cases; steps = steps-print; example = refl; missing = refl }
+prints = record { whole = all-cases; steps = steps-print; too-much = too-much; example = refl; missing = refl }

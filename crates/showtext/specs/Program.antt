@@ -55,12 +55,13 @@ beginning input room out =
     eqb (a .refusal) 0 then leave (a .decoder) (a .written) 0 (heading ++ linesOf 0 fed) (fed .room) out else
     leave d 0 (a .refusal) (refused (a .refusal)) (fed .room) out
 
--- A further buffer, after n scalars.
+-- A further buffer, after n scalars. Behind 4,294,967,295 bytes it is refused with 14.
 unfoldable pub goingOn : Decoder → ℕ → List ℕ → List ℕ → List ℕ → Leaves
 goingOn d n chunk room out =
     let fed = feeding d noTables chunk room in
     let a = fed .answer in
-    leave (a .decoder) (n + a .written) (a .refusal) (linesOf n fed) (fed .room) out
+    eqb (a .refusal) 0 then leave (a .decoder) (n + a .written) 0 (linesOf n fed) (fed .room) out else
+    leave d 0 (a .refusal) (refused (a .refusal)) (fed .room) out
 
 -- The end of input, after n scalars.
 unfoldable pub closing : Decoder → ℕ → List ℕ → List ℕ → Leaves

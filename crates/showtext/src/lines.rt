@@ -68,6 +68,21 @@ fn put_count(out: &mut [u8], at: usize, n: u64) -> usize
     put_digits(out, at, 10, 20, 19, n)
 }
 
+// A code point's hexadecimal digits; four for most, and those at once.
+fn put_hexadecimal(out: &mut [u8], at: usize, c: u32) -> usize
+    requires { ⌜ at + 8 ≤ length (now out) ⌝ }
+    ensures { λ r. ⌜ Put (now (out .entry)) at (digits 16 8 4 c) r (now (out .exit)) ⌝ }
+{
+    if 0x10000 <= c {
+        return put_digits(out, at, 16, 8, 4, c as u64);
+    }
+    out[at] = digit(c / 16 / 16 / 16 % 16);
+    out[at + 1] = digit(c / 16 / 16 % 16);
+    out[at + 2] = digit(c / 16 % 16);
+    out[at + 3] = digit(c % 16);
+    at + 4
+}
+
 // The line of a scalar and its count; the place behind it.
 fn put_scalar(out: &mut [u8], at: usize, n: u64, c: u32) -> usize
     requires { ⌜ at + 32 ≤ length (now out) ⌝ }
@@ -77,7 +92,7 @@ fn put_scalar(out: &mut [u8], at: usize, n: u64, c: u32) -> usize
     out[tab] = 0x09;
     out[tab + 1] = b'U';
     out[tab + 2] = b'+';
-    let end = put_digits(out, tab + 3, 16, 8, 4, c as u64);
+    let end = put_hexadecimal(out, tab + 3, c);
     out[end] = 0x0A;
     end + 1
 }

@@ -4,6 +4,7 @@ mod lines;
 
 use decoder::Answer;
 use decoder::Decoder;
+use labels_spec::Found;
 use libc::STDIN_FILENO;
 use libc::STDOUT_FILENO;
 use lines::put_encoding;
@@ -14,7 +15,9 @@ ghost use Prim.Native.Nat.{_+_, _*_, _≤_, _<_, _^_};
 ghost use lib.ListN.{length, take};
 ghost use Rattle.standard.specs.Encodings.{noTables};
 ghost use Rattle.decoder.specs.Calls.{feeding};
+ghost use Rattle.labels_spec.specs.Labels.{label};
 ghost use Rattle.showtext.specs.Output.{firstLine, afterLine, refused, scalarLines};
+ghost use Rattle.showtext.specs.Code.{labelRefusal, heading, feedingOn};
 ghost use Rattle.showtext.specs.Program.{Answers, Left, beginning, goingOn, closing, turning, nextStep};
 
 // The steps: the first buffer, a further one, the end of input. Then the program is over, or a read or a write failed.
@@ -51,11 +54,24 @@ fn first_line(input: &[u8]) -> usize
     i
 }
 
-// The bytes behind the first line of n bytes.
-fn after_line<'a>(input: &'a [u8], n: usize) -> &'a [u8]
-    requires { ⌜ n ≡ length (firstLine (now input)) ⌝ }
+// What the label call answers for the first line; one of more than 255 bytes is refused with 1.
+fn first_label(input: &[u8]) -> Found
+    ensures { λ r. ⌜ (r .encoding ≡ label (firstLine (now (input .entry))) .encoding) × (r .refusal ≡ labelRefusal (now (input .entry))) ⌝ }
+{
+    let n = first_line(input);
+    let mut found = labels::find_label(&input[0..n]);
+    if 255 < n {
+        found.refusal = 1;
+        return found;
+    }
+    found
+}
+
+// The bytes behind the first line.
+fn after_line<'a>(input: &'a [u8]) -> &'a [u8]
     ensures { λ r. ⌜ now r ≡ afterLine (now (input .entry)) ⌝ }
 {
+    let n = first_line(input);
     if n < input.len() {
         return &input[n + 1..];
     }
@@ -103,26 +119,37 @@ fn feed(decoder: Decoder, chunk: &[u8], room: &mut [u32]) -> Answer
     decoder.feed(chunk, empty, empty, room)
 }
 
+// The first bytes of a text: behind the line of the encoding's name, the lines of their scalars.
+fn begin_text(
+    decoder: Decoder,
+    encoding: u8,
+    chunk: &[u8],
+    room: &mut [u32],
+    out: &mut [u8],
+) -> Shown
+    requires { ⌜ 32 * length (now room) + 32 ≤ length (now out) ⌝ }
+    ensures { λ r. ⌜ Left (feedingOn (heading encoding) decoder 0 (now (chunk .entry)) (now (room .entry)) (now (out .entry)))
+        r (now (room .exit)) (now (out .exit)) ⌝ }
+{
+    let first = feed(decoder, chunk, room);
+    if first.refusal != 0 {
+        return refuse(decoder, first.refusal, out);
+    }
+    let at = put_encoding(out, encoding);
+    show(first, 0, room, out, at)
+}
+
 // The first buffer of the input.
 fn begin(input: &[u8], room: &mut [u32], out: &mut [u8]) -> Shown
     requires { ⌜ 32 * length (now room) + 32 ≤ length (now out) ⌝ }
     ensures { λ r. ⌜ Left (beginning (now (input .entry)) (now (room .entry)) (now (out .entry))) r (now (room .exit)) (now (out .exit)) ⌝ }
 {
-    let n = first_line(input);
-    let found = labels::find_label(&input[0..n]);
+    let found = first_label(input);
     let opened = Decoder::open(found.encoding, 0, 0);
-    if 255 < n {
-        return refuse(opened.decoder, 1, out);
-    }
     if found.refusal == 1 {
         return refuse(opened.decoder, 1, out);
     }
-    let fed = feed(opened.decoder, after_line(input, n), room);
-    if fed.refusal != 0 {
-        return refuse(opened.decoder, fed.refusal, out);
-    }
-    let at = put_encoding(out, found.encoding);
-    show(fed, 0, room, out, at)
+    begin_text(opened.decoder, found.encoding, after_line(input), room, out)
 }
 
 // A further buffer, after `count` scalars.
@@ -131,6 +158,9 @@ fn go_on(decoder: Decoder, count: u64, chunk: &[u8], room: &mut [u32], out: &mut
     ensures { λ r. ⌜ Left (goingOn decoder count (now (chunk .entry)) (now (room .entry)) (now (out .entry))) r (now (room .exit)) (now (out .exit)) ⌝ }
 {
     let fed = feed(decoder, chunk, room);
+    if fed.refusal != 0 {
+        return refuse(decoder, fed.refusal, out);
+    }
     show(fed, count, room, out, 0)
 }
 

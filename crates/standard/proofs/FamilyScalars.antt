@@ -43,7 +43,7 @@ abbrev pub Scalar : Out → Type 0
 Scalar o = T (scalars (given o))
 
 abbrev pub Gives : Next → Type 0
-Gives a = Front (λ s o. Scalar o) a
+Gives a = Front (λ w s o. Scalar o) a
 
 one : (c : ℕ) → T (isScalar c) → T (scalars (c ∷ []))
 unfolding every

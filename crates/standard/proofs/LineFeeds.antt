@@ -10,6 +10,7 @@ use lib.ListN.{length, take}
 use borrow.Author.Tests.{ltb-false, eqb-true, ne-eqb}
 use Rattle.standard.specs.Base.{_then_else_, within, separators, lineFeeds}
 use Rattle.standard.specs.Encodings.{Tables, Family, UTF-8, single-byte, windows-1252, GB18030, Big5, EUC-JP, ISO-2022-JP, Shift-JIS, EUC-KR, Replacement, UTF-16BE, UTF-16LE, x-user-defined}
+use Rattle.standard.specs.Standard.{dropMark}
 use Rattle.standard.specs.Sequence.{Shift, Out, text, error, Next, more, item, await, shift}
 use Rattle.standard.specs.Layouts.{leads, iso2022JpLayout}
 use Rattle.standard.specs.Sequences.Iso2022Jp.{iso2022Jp, byteOut, escapeEnd, escapeNext, leadNext}
@@ -39,6 +40,16 @@ line-feeds-length (x ∷ xs) = go (eqb x 0x0A) (line-feeds-length xs)
     go : (t : Bool) → lineFeeds xs ≤ length xs → (t then suc (lineFeeds xs) else lineFeeds xs) ≤ suc (length xs)
     go true h = omega arith
     go false h = omega arith
+
+-- a byte order mark is no line feed
+pub mark-line-feeds : (cs : List ℕ) → lineFeeds (dropMark cs) ≡ lineFeeds cs
+unfolding lineFeeds
+mark-line-feeds [] = refl
+mark-line-feeds (c ∷ cs) = go (eqb c 0xFEFF) refl
+  where
+    go : (t : Bool) → eqb c 0xFEFF ≡ t → lineFeeds (t then cs else c ∷ cs) ≡ (eqb c 0x0A then suc (lineFeeds cs) else lineFeeds cs)
+    go true e = rw (ne-eqb c 0x0A (λ z. omega (arith, eqb-true c 0xFEFF e)))
+    go false e = refl
 
 -- what stands before the first error has no more than all
 pub before-line-feeds : (is : List Item) → lineFeeds (before is) ≤ lineFeeds (shown is)

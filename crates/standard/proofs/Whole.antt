@@ -101,7 +101,7 @@ Solid (text []) = ⊥
 Solid (text (c ∷ cs)) = Unit
 
 abbrev Filled : Next → Type 0
-Filled a = Front (λ s o. Solid o) a
+Filled a = Front (λ w s o. Solid o) a
 
 utf8-filled : (xs : List ℕ) → Filled (utf8 xs)
 unfolding utf8

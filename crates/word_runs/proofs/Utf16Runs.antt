@@ -1,21 +1,24 @@
 -- The sequences of UTF-16 at a place, and its units in a row. Assumes nothing.
 use mathlib.Core.Path.{_≡_, refl, ap, subst, _∙_}
 use mathlib.Core.Bool.{Bool, true, false}
-use mathlib.Core.List.{List}
+use mathlib.Core.List.{List, [], _∷_}
 use mathlib.Core.Logic.{inl, inr}
 use Prim.Native.Nat.{ℕ, _+_, _*_, _≤_, _<_}
 use native.Mathlib.Omega.{arith}
 use native.Mathlib.Nat.{add-zero}
 use lib.ListN.{length, drop, getD, set}
+use Rattle.standard.specs.Base.{lineFeeds}
 use Rattle.standard.specs.Encodings.{Tables, noTables}
 use Rattle.standard.specs.Sequence.{Shift, Next, more, item, plain, scalar, bad}
 use Rattle.standard.specs.Next.{next, unmarked}
 use Rattle.standard.specs.Sequences.Utf16.{utf16, utf16Unit, utf16Pair, unit}
 use Rattle.standard.proofs.Tests.{under, above, in-range}
 use Rattle.runs.specs.Run.{patch, Runs, Gives}
-use Rattle.word_runs.specs.Units.{utf16Family, values, unitAt, NoSurrogate, oriented}
+use Rattle.word_runs.specs.Units.{utf16Family, values, unitAt, NoSurrogate, oriented, UnitRun}
+use Rattle.word_runs.specs.declared.utf_16.Reached.{Reached}
 use Rattle.runs.proofs.Fronts.{two-at}
-use Rattle.runs.proofs.Running.{Going, going-one, gives-scalar}
+use Rattle.runs.proofs.Running.{Going, gives-scalar}
+use Rattle.runs.proofs.Counting.{Counting, counting-on, counting-one, counting-runs}
 use Rattle.runs.proofs.Scalars.{gives-same}
 use Rattle.word_runs.proofs.Rows.{going-row}
 use Rattle.word_runs.proofs.Values.{values-length, values-same, values-at}
@@ -86,10 +89,30 @@ module _ (be : Bool) (m : ℕ) (chunk : List ℕ) (from i w o : ℕ) (room₀ ro
       clear : (j : ℕ) → j < n → Gives m (next noTables (utf16Family be) plain (drop (i + j * 2) chunk)) 2 plain (unitAt be chunk i j)
       clear j g = gives-clear m be chunk (i + j * 2) (omega arith) (subst NoSurrogate (same j g) (q j (omega (arith, count))))
 
+  -- with their line feeds
+  pub counting-put : {l k : ℕ} → Counting noTables (utf16Family be) m chunk from i plain plain w o l room₀ room → (n : ℕ) → length before ≡ n →
+      ((j : ℕ) → j < length before → (getD chunk (i + j * 2) 0 < 256) × (getD chunk (i + j * 2 + 1) 0 < 256)) → words ≡ values (unitAt false chunk i) (length before) →
+      ((j : ℕ) → j < length words → NoSurrogate (oriented be (getD words j 0))) → i + n * 2 ≤ length chunk →
+      room₁ ≡ patch o (values (λ (j : ℕ). oriented be (getD words j 0)) (length words)) room →
+      k ≡ lineFeeds (values (λ (j : ℕ). oriented be (getD words j 0)) (length words)) →
+      Counting noTables (utf16Family be) m chunk from (i + n * 2) plain plain w (o + n) (l + k) room₀ room₁
+  counting-put C n z p e q h r c =
+      let all : length words ≡ n = ap length e ∙ values-length (unitAt false chunk i) (length before) ∙ z in
+      let size = values-length (λ (j : ℕ). oriented be (getD words j 0)) (length words) in
+      counting-on C (values (λ (j : ℕ). oriented be (getD words j 0)) (length words)) (going-put (C .going) n z p e q h r)
+      (omega (arith, all, size)) (omega (arith, all, size, C .going .here .fits)) r c
+
 -- one sequence more
-pub going-step : (be : Bool) (m : ℕ) (chunk : List ℕ) (from i w o : ℕ) (room₀ room : List ℕ) → Going noTables (utf16Family be) m chunk from i plain plain w o room₀ room → {k c : ℕ} →
-    Gives m (utf16 be (drop i chunk)) k plain c → Going noTables (utf16Family be) m chunk from (i + k) plain plain w (o + 1) room₀ (set room o c)
-going-step be m chunk from i w o room₀ room G g = going-one G (gives-same (is-utf16 be (drop i chunk)) g)
+pub counting-step : (be : Bool) (m : ℕ) (chunk : List ℕ) (from i w o : ℕ) (room₀ room : List ℕ) {l n : ℕ} →
+    Counting noTables (utf16Family be) m chunk from i plain plain w o l room₀ room → {k c : ℕ} → Gives m (utf16 be (drop i chunk)) k plain c →
+    o + 1 ≤ length room → n ≡ lineFeeds (c ∷ []) → Counting noTables (utf16Family be) m chunk from (i + k) plain plain w (o + 1) (l + n) room₀ (set room o c)
+counting-step be m chunk from i w o room₀ room C g h e = counting-one C (gives-same (is-utf16 be (drop i chunk)) g) h e
+
+-- a part of a run from there on
+pub counting-units : {be : Bool} {m : ℕ} {chunk : List ℕ} {from i w o l : ℕ} {room₀ room room′ : List ℕ} →
+    Counting noTables (utf16Family be) m chunk from i plain plain w o l room₀ room → (r : Reached) → UnitRun be m chunk i o r room room′ →
+    Counting noTables (utf16Family be) m chunk from (r .at) plain plain w (r .written) (l + r .lines) room₀ room′
+counting-units C r u = counting-runs C (u .runs) (u .lines)
 
 -- UTF-16 does not look at the tables
 pub any-tables : (t : Tables) (be : Bool) → next t (utf16Family be) ≡ next noTables (utf16Family be)

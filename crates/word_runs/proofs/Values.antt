@@ -9,6 +9,8 @@ use lib.Dec.{eqb}
 use lib.ListN.{length, getD, set, length-append, List·getD-append}
 use lib.Seq.{getD-append-add}
 use borrow.Author.Tests.{eqb-true, eqb-false}
+use Rattle.standard.specs.Base.{lineFeeds}
+use Rattle.standard.proofs.LineFeeds.{line-feeds-append, line-feeds-length}
 use Rattle.runs.specs.Run.{patch}
 use Rattle.word_runs.specs.Units.{values}
 use Rattle.runs.proofs.Patches.{patch-sets, patch-length, patch-patch}
@@ -43,6 +45,14 @@ values-add f k zero = rw (add-zero k, append-nil (values f k))
 values-add f k (suc n) =
     let e : k + suc n ≡ suc (k + n) = omega arith in
     ap (values f) e ∙ ap (λ (l : List ℕ). l ++ (f (k + n) ∷ [])) (values-add f k n) ∙ append-assoc (values f k) (values (λ (j : ℕ). f (k + j)) n) (f (k + n) ∷ [])
+
+-- the line feeds of one value more, and of so many
+pub values-feeds : (f : ℕ → ℕ) (k : ℕ) → lineFeeds (values f (k + 1)) ≡ lineFeeds (values f k) + lineFeeds (f k ∷ [])
+unfolding values
+values-feeds f k = let e : k + 1 ≡ suc k = omega arith in rw e (line-feeds-append (values f k) (f k ∷ []))
+
+pub values-fewer : (f : ℕ → ℕ) (k : ℕ) → lineFeeds (values f k) ≤ k
+values-fewer f k = omega (arith, line-feeds-length (values f k), values-length f k)
 
 module _ (room : List ℕ) (w : ℕ) where
   -- one value more

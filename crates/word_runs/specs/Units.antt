@@ -1,14 +1,16 @@
 -- Code units of UTF-16 in a row. Contracts of functions inside the library cite these; no promise of a public call rests on them. Assumes nothing.
+use mathlib.Core.Path.{_≡_}
 use mathlib.Core.Bool.{Bool}
 use mathlib.Core.List.{List, [], _∷_, _++_}
-use Prim.Native.Nat.{ℕ, zero, suc, _+_, _*_, _/_, _%_, _<_}
+use Prim.Native.Nat.{ℕ, zero, suc, _+_, _-_, _*_, _/_, _%_, _<_}
 use mathlib.Core.Logic.{_⊎_}
 use lib.ListN.{getD}
-use Rattle.standard.specs.Base.{_then_else_}
+use Rattle.standard.specs.Base.{_then_else_, lineFeeds}
 use Rattle.standard.specs.Encodings.{Family, UTF-16BE, UTF-16LE, noTables}
 use Rattle.standard.specs.Sequence.{plain}
 use Rattle.standard.specs.Next.{next}
 use Rattle.standard.specs.Sequences.Utf16.{unit}
+use Rattle.line_feeds.specs.Parts.{part}
 use Rattle.runs.specs.Run.{Runs}
 use Rattle.word_runs.specs.declared.utf_16.Reached.{Reached}
 
@@ -33,6 +35,7 @@ NoSurrogate u = (u < 0xD800) ⊎ (0xDFFF < u)
 abbrev pub oriented : Bool → ℕ → ℕ
 oriented be w = be then w % 256 * 256 + w / 256 else w
 
--- The contract of a part of a run, from a place of the chunk and of the room to another.
-abbrev pub UnitRun : Bool → ℕ → List ℕ → ℕ → ℕ → Reached → List ℕ → List ℕ → Type 0
-UnitRun be m chunk from place r room room′ = Runs (next noTables (utf16Family be)) m chunk from (r .at) plain plain place (r .written) room room′
+-- The contract of a part of a run, from a place of the chunk and of the room to another, with the line feeds that it writes.
+pub record UnitRun (be : Bool) (m : ℕ) (chunk : List ℕ) (from place : ℕ) (r : Reached) (room room′ : List ℕ) : Type 0 where
+  pub runs : Runs (next noTables (utf16Family be)) m chunk from (r .at) plain plain place (r .written) room room′
+  pub lines : r .lines ≡ lineFeeds (part room′ place (r .written - place))

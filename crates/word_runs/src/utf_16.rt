@@ -1,16 +1,21 @@
 // UTF-16BE and UTF-16LE: blocks of units without surrogates, and else sequence by sequence.
 
 use crate::words::read_words;
+use line_feeds::one_scalar;
+use runs::Counted;
 use runs::Place;
 use runs::ready_plain;
 use sequences::utf_16::unit;
 ghost use mathlib.Core.Path.{_≡_};
+ghost use mathlib.Core.List.{_∷_, []};
 ghost use Prim.Native.Nat.{ℕ, _+_, _≤_, _<_};
 ghost use lib.ListN.{length, drop, getD};
+ghost use Rattle.standard.specs.Base.{lineFeeds};
 ghost use Rattle.standard.specs.Encodings.{Tables};
 ghost use Rattle.standard.specs.Sequence.{plain, bad};
 ghost use Rattle.standard.specs.Sequences.Utf16.{utf16, utf16Pair, unit};
-ghost use Rattle.runs.specs.Run.{Run, Ready, Gives, patch};
+ghost use Rattle.runs.specs.Run.{Ready, Gives, patch};
+ghost use Rattle.runs.specs.Counts.{Counts};
 ghost use Rattle.word_runs.specs.Units.{utf16Family, values, oriented, NoSurrogate, UnitRun};
 
 // A sequence of one scalar; width 0 says none.
@@ -19,10 +24,11 @@ struct Scalar {
     scalar: u32,
 }
 
-// A place in the chunk and in the room.
+// A place in the chunk and in the room, and the line feeds written up to there.
 struct Reached {
     at: usize,
     written: usize,
+    lines: usize,
 }
 
 // The unit of a word whose second byte is the upper one.
@@ -62,6 +68,32 @@ fn surrogates(be: bool, words: &[u16]) -> u16
     x
 }
 
+// 1 for a line feed, 0 for another unit.
+fn one(u: u16) -> u16
+    ensures { λ r. ⌜ r ≡ lineFeeds (u ∷ []) ⌝ }
+{
+    if u == 0x0A {
+        return 1;
+    }
+    0
+}
+
+// The line feeds among units.
+fn feeds(be: bool, words: &[u16]) -> u16
+    requires { ⌜ length (now words) ≤ 64 ⌝ }
+    ensures { λ r. ⌜ (r ≡ lineFeeds (values (λ (j : ℕ). oriented be (getD (now (words .entry)) j 0)) (length (now (words .entry)))))
+        × (r ≤ length (now (words .entry))) ⌝ }
+{
+    let n = words.len();
+    let mut count: u16 = 0;
+    let mut k: usize = 0;
+    while k < n {
+        count += one(oriented(be, words[k]));
+        k += 1;
+    }
+    count
+}
+
 // Units that are scalars, into the room.
 fn put_units(be: bool, words: &[u16], room: &mut [u32], o: usize)
     requires { ⌜ o + length (now words) ≤ length (now room) ⌝ }
@@ -91,16 +123,26 @@ fn blocks(
     let size = words.len();
     let mut i = from;
     let mut o = place;
+    let mut lines: usize = 0;
     while n - i >= size * 2 {
         read_words(chunk, i, words);
         if surrogates(be, words) != 0 {
-            return Reached { at: i, written: o };
+            return Reached {
+                at: i,
+                written: o,
+                lines,
+            };
         }
+        lines += feeds(be, words) as usize;
         put_units(be, words, room, o);
         i += size * 2;
         o += size;
     }
-    Reached { at: i, written: o }
+    Reached {
+        at: i,
+        written: o,
+        lines,
+    }
 }
 
 // Blocks of 64 units. With byte order and length known the compiler keeps a block in registers.
@@ -205,21 +247,35 @@ fn sequences(
     let n = chunk.len();
     let mut i = from;
     let mut o = place;
+    let mut lines: usize = 0;
     let mut k: usize = 0;
     while k < 8 {
         if n - i < 2 {
-            return Reached { at: i, written: o };
+            return Reached {
+                at: i,
+                written: o,
+                lines,
+            };
         }
         let q = sequence(be, mode, chunk, i);
         if q.width == 0 {
-            return Reached { at: i, written: o };
+            return Reached {
+                at: i,
+                written: o,
+                lines,
+            };
         }
         room[o] = q.scalar;
+        lines += one_scalar(q.scalar) as usize;
         i += q.width;
         o += 1;
         k += 1;
     }
-    Reached { at: i, written: o }
+    Reached {
+        at: i,
+        written: o,
+        lines,
+    }
 }
 
 // Blocks and sequences by turns, as far as they go.
@@ -229,29 +285,42 @@ fn units(be: bool, mode: u8, chunk: &[u8], from: usize, room: &mut [u32], place:
 {
     let mut i = from;
     let mut o = place;
+    let mut lines: usize = 0;
     loop {
         let b = long_blocks(be, chunk, i, room, o);
         let c = short_blocks(be, chunk, b.at, room, b.written);
         let p = sequences(be, mode, chunk, c.at, room, c.written);
+        lines = lines + b.lines + c.lines + p.lines;
         if p.at == i {
-            return p;
+            return Reached {
+                at: p.at,
+                written: p.written,
+                lines,
+            };
         }
         i = p.at;
         o = p.written;
     }
 }
 
-// A run of UTF-16BE or UTF-16LE, for any tables.
-pub fn utf_16_run(be: bool, mode: u8, chunk: &[u8], room: &mut [u32], p: Place) -> Place
-    ensures { λ r. ⌜ ((t : Tables) → Run t (utf16Family be) mode (now (chunk .entry)) p r (now (room .entry)) (now (room .exit))) ⌝ }
+// A run of UTF-16BE or UTF-16LE with its line feeds, for any tables.
+pub fn utf_16_run(be: bool, mode: u8, chunk: &[u8], room: &mut [u32], p: Place) -> Counted
+    ensures { λ r. ⌜ ((t : Tables) → Counts t (utf16Family be) mode (now (chunk .entry)) p r (now (room .entry)) (now (room .exit))) ⌝ }
 {
     if !ready_plain(chunk.len(), room.len(), p) {
-        return p;
+        return Counted {
+            at: p.at,
+            written: p.written,
+            lines: 0,
+            state: p.state,
+            flag: p.flag,
+        };
     }
     let r = units(be, mode, chunk, p.at, room, p.written);
-    Place {
+    Counted {
         at: r.at,
         written: r.written,
+        lines: r.lines,
         state: 0,
         flag: 0,
     }

@@ -90,6 +90,8 @@ fn answers(library: ffi::Answer, room: &[u32], reference: Answer) -> Result<Answ
         &reference.output,
         cell_before,
     )?;
+    numbers("place", library.place as usize, reference.place as usize)?;
+    numbers("line", library.line as usize, reference.line as usize)?;
     equal("record", library.decoder, reference.record)?;
     Ok(reference)
 }

@@ -58,6 +58,21 @@ fn fed_and_finished(record: Record, chunk: &[u8], tables: Tables) -> Result<Reco
     Ok(after)
 }
 
+/// Whether a text leaves the same record whole and cut. A report takes its whole chunk, so where it came before the cut
+/// the bytes taken are fewer.
+fn same_record(whole: Record, cut: Record, before_the_cut: Record) -> bool {
+    match before_the_cut.ended {
+        0 => whole == cut,
+        _ => {
+            whole
+                == Record {
+                    taken: whole.taken,
+                    ..cut
+                }
+        }
+    }
+}
+
 /// An encoding, a mode and a rule for the byte order mark.
 #[derive(Clone, Copy)]
 struct Setting {
@@ -127,7 +142,7 @@ impl Pairs<'_> {
             let whole = fed_and_finished(start, &[one, two], self.tables);
             let cut = fed(middle, &[two], self.tables);
             match (whole, cut) {
-                (Ok(whole), Ok(cut)) if whole == cut => {}
+                (Ok(whole), Ok(cut)) if same_record(whole, cut, middle) => {}
                 (Ok(whole), Ok(cut)) => {
                     let error =
                         format!("cut before the last byte, record {cut:02X?}, not {whole:02X?}");
@@ -285,7 +300,7 @@ fn compare_lead(start: Record, text: [u8; 4], tables: Tables) -> Result<(), Stri
     let lead = fed_and_finished(start, &text[..1], tables)?;
     let cut = fed(lead, &text[1..], tables)
         .map_err(|error| format!("cut behind the first byte, {error}"))?;
-    if whole != cut {
+    if !same_record(whole, cut, lead) {
         return Err(format!(
             "cut behind the first byte, record {cut:02X?}, not {whole:02X?}"
         ));
@@ -342,11 +357,15 @@ impl Records {
         }
     }
 
-    /// One byte in each place, with any number of bytes held.
+    /// One byte in each place, with any number of bytes held, which are taken too.
     fn one_byte(&mut self, record: Record) {
         for held in 0..5 {
             for &byte in HELD {
-                let record = Record { held, ..record };
+                let record = Record {
+                    held,
+                    taken: record.taken + u32::from(held),
+                    ..record
+                };
                 self.compare(Record {
                     first: byte,
                     ..record
@@ -366,6 +385,7 @@ impl Records {
     /// Every byte and pair of bytes held, and three from a choice.
     fn all_held(&mut self, record: Record) {
         let with = |held, first, second, third| Record {
+            taken: record.taken + u32::from(held),
             held,
             first,
             second,
@@ -388,6 +408,63 @@ impl Records {
     }
 }
 
+/// Totals: the bytes before those held, and the line feeds. With the first pair marks are still to be dropped and
+/// replacement has given no error; the second leads to every other shift.
+const TOTALS: [(u32, u32); 2] = [(0, 0), (8, 1)];
+
+/// Bytes taken at the edges: few, and the most.
+const TAKEN: [u32; 24] = [
+    0,
+    1,
+    2,
+    3,
+    4,
+    5,
+    6,
+    7,
+    8,
+    9,
+    10,
+    11,
+    12,
+    65535,
+    65536,
+    65537,
+    65538,
+    65539,
+    65540,
+    0x7FFF_FFFF,
+    0x8000_0000,
+    0xFFFF_FFFD,
+    0xFFFF_FFFE,
+    0xFFFF_FFFF,
+];
+
+impl Records {
+    /// Totals at the edges of what a record may have, with nothing and with one byte held.
+    fn totals(&mut self, record: Record) {
+        for taken in TAKEN {
+            let lines = (0..7)
+                .chain((0..7).map(|less| taken.saturating_sub(less)))
+                .chain((0..7).map(|more| (taken / 2).saturating_sub(3) + more))
+                .chain([0x8000_0000, 0xFFFF_FFFF]);
+            for lines in lines {
+                let record = Record {
+                    taken,
+                    lines,
+                    ..record
+                };
+                self.compare(record);
+                self.compare(Record {
+                    held: 1,
+                    first: if record.encoding == 33 { 0x1B } else { 0xC2 },
+                    ..record
+                });
+            }
+        }
+    }
+}
+
 /// Which records calls leave: refusal 5 for all others.
 pub fn records() -> Result<String, String> {
     let mut records = Records::default();
@@ -403,10 +480,21 @@ pub fn records() -> Result<String, String> {
                 ended: number / 45,
                 ..Record::default()
             };
-            records.one_byte(record);
             let states = if encoding == 33 { 4 } else { 1 };
-            if record.mode < 2 && record.state < states && record.flag < 2 && record.ended == 0 {
-                records.all_held(record);
+            let likely = record.mode < 2 && record.state < states && record.flag < 2;
+            for (taken, lines) in TOTALS {
+                let record = Record {
+                    taken,
+                    lines,
+                    ..record
+                };
+                records.one_byte(record);
+                if likely && record.ended == 0 {
+                    records.all_held(record);
+                }
+            }
+            if likely && record.ended < 2 {
+                records.totals(record);
             }
         }
     }

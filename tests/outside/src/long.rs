@@ -64,7 +64,10 @@ fn text(encoding: u8, length: usize, errors: bool, tables: Tables, random: &mut 
             0 | 1 => {
                 let longest = random.pick(&[2, 40, 40, 400]);
                 for _ in 0..1 + random.below(longest) {
-                    let byte = 0x20 + random.below(0x5F) as u8;
+                    let byte = match random.below(24) {
+                        0 => 0x0A,
+                        _ => 0x20 + random.below(0x5F) as u8,
+                    };
                     match encoding {
                         37 => bytes.extend([0, byte]),
                         38 => bytes.extend([byte, 0]),
@@ -113,7 +116,7 @@ fn pairs(first: u8) -> Vec<u8> {
     let mut bytes = Vec::new();
     for lead in first..=first + 15 {
         for trail in 0..=0xFF {
-            bytes.extend([lead, trail, b'\t']);
+            bytes.extend([lead, trail, [b'\t', b'\n'][usize::from(trail) % 2]]);
         }
     }
     bytes
@@ -128,7 +131,7 @@ fn all_bytes(length: usize) -> Vec<u8> {
 
 /// 200 units of UTF-16 that are scalars, and others from a place on.
 fn units(big: bool, others: &[u16], place: usize) -> Vec<u8> {
-    let scalars = [0x41, 0xD7FF, 0xE000, 0xFFFF, 0x3042];
+    let scalars = [0x41, 0xD7FF, 0xE000, 0xFFFF, 0x3042, 0x0A, 0x0A0A, 0x0A00];
     let mut units: Vec<u16> = scalars.into_iter().cycle().take(200).collect();
     units[place..place + others.len()].copy_from_slice(others);
     units

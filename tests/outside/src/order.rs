@@ -60,6 +60,10 @@ fn opened(encoding: u8, causes: &[u8]) -> Result<Record, String> {
     if causes.contains(&6) {
         record = compare::finish(record, 0)?.record;
     }
+    if causes.contains(&14) {
+        record.taken = u32::MAX - 1;
+        record.flag = 0;
+    }
     if causes.contains(&5) {
         record.third = 1;
     }
@@ -81,11 +85,15 @@ fn zeros(published: &Published, encoding: u8, causes: &[u8], which: usize) -> (V
 }
 
 fn feeds(published: &Published, calls: &mut Calls) -> Result<(), String> {
-    let order = [5, 6, 4, 8, 7, 11];
+    let order = [5, 6, 4, 8, 14, 7, 11];
     for encoding in 0..40 {
         for set in 0..1 << order.len() {
             let causes = causes(&order, set);
             if causes.contains(&11) && !has_errors(encoding) {
+                continue;
+            }
+            // The first byte of replacement ends it in refusing mode, so it takes no more than a chunk.
+            if causes.contains(&14) && encoding == 36 {
                 continue;
             }
             for which in 0..2 {

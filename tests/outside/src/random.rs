@@ -76,11 +76,11 @@ enum Call {
         tables: usize,
         flaw: usize,
         room: isize,
-        forge: Option<(u8, u8)>,
+        forge: Option<(u8, u32)>,
     },
     Finish {
         room: isize,
-        forge: Option<(u8, u8)>,
+        forge: Option<(u8, u32)>,
     },
     Encode {
         encoding: u8,
@@ -318,11 +318,11 @@ impl Lists {
         };
         let forge = random.one_in(8).then(|| {
             let value = match random.below(3) {
-                0 => random.below(4) as u8,
-                1 => random.pick(EDGES),
-                _ => random.number() as u8,
+                0 => random.below(4) as u32,
+                1 => random.pick(EDGES).into(),
+                _ => random.number() as u32,
             };
-            (random.below(9) as u8, value)
+            (random.below(15) as u8, value)
         });
         let tables = random.below(VARIANTS);
         let flaw = if random.one_in(12) {
@@ -390,6 +390,7 @@ struct Taken {
     mode: u8,
     bytes: usize,
     scalars: usize,
+    line_feeds: usize,
     bytes_below_30: Vec<u32>,
     scalars_below_30: Vec<u32>,
 }
@@ -399,6 +400,7 @@ impl Taken {
         let below = |number: &u32| *number < 0x30;
         self.bytes += chunk.len();
         self.scalars += output.len();
+        self.line_feeds += output.iter().filter(|&&scalar| scalar == 0x0A).count();
         self.bytes_below_30
             .extend(chunk.iter().map(|&byte| u32::from(byte)).filter(below));
         self.scalars_below_30
@@ -413,6 +415,9 @@ impl Taken {
         if record.held > 3 {
             return Err("demand 3: more than 3 bytes held".to_string());
         }
+        if record.taken as usize != self.bytes || record.lines as usize != self.line_feeds {
+            return Err("a total is no count over the whole history".to_string());
+        }
         Ok(())
     }
 }
@@ -425,10 +430,38 @@ pub struct Counts {
     forged: usize,
 }
 
-fn forged(record: Record, forge: Option<(u8, u8)>) -> Record {
+/// A record with one field altered; of the totals, which are judged together, one or both.
+fn forged(record: Record, forge: Option<(u8, u32)>) -> Record {
     let mut record = record;
     if let Some((field, value)) = forge {
         let place = match field {
+            9 => {
+                record.taken = record.taken.wrapping_add(value % 16).wrapping_sub(8);
+                return record;
+            }
+            10 => {
+                record.lines = record.lines.wrapping_add(value % 16).wrapping_sub(8);
+                return record;
+            }
+            11 => {
+                record.taken = value;
+                return record;
+            }
+            12 => {
+                record.taken = value;
+                record.lines = (value / 2).wrapping_add(value % 16).wrapping_sub(8);
+                return record;
+            }
+            13 => {
+                record.taken = u32::MAX - value % 80;
+                return record;
+            }
+            14 => {
+                record.taken = u32::MAX - value % 80;
+                record.lines =
+                    (record.taken - record.taken / (1 + value % 3)).wrapping_sub(value % 8);
+                return record;
+            }
             0 => &mut record.encoding,
             1 => &mut record.mode,
             2 => &mut record.state,
@@ -439,7 +472,7 @@ fn forged(record: Record, forge: Option<(u8, u8)>) -> Record {
             7 => &mut record.third,
             _ => &mut record.ended,
         };
-        *place = value;
+        *place = value as u8;
     }
     record
 }

@@ -673,10 +673,29 @@ struct Decoder {
     /// A byte order mark that comes now is dropped.
     drop_mark: bool,
     variables: Variables,
+    /// The bytes taken and the line feeds handed out since the opening.
+    taken: u64,
+    lines: u64,
+}
+
+/// What a run of the handler gives: the scalars, and where refusing mode met an error the bytes before its sequence.
+struct Run {
+    output: Vec<u32>,
+    error: Option<u64>,
 }
 
 fn has_mark(encoding: u8) -> bool {
     matches!(encoding, 0 | 37 | 38)
+}
+
+/// The bytes of a queue: end-of-stream stands at its end alone.
+fn bytes_of(queue: &Queue) -> u64 {
+    let ends = queue.iter().rev().take_while(|byte| byte.is_none()).count();
+    (queue.len() - ends) as u64
+}
+
+fn line_feeds(scalars: &[u32]) -> u64 {
+    scalars.iter().filter(|&&scalar| scalar == 0x0A).count() as u64
 }
 
 impl Decoder {
@@ -686,12 +705,13 @@ impl Decoder {
             mode,
             drop_mark: rule == 0 && has_mark(encoding),
             variables: Variables::new(encoding),
+            taken: 0,
+            lines: 0,
         }
     }
 
-    /// Runs the handler until the queue is empty or it has finished. The second part tells that refusing mode met an
-    /// error.
-    fn run(&mut self, mut queue: Queue, tables: Tables) -> (Vec<u32>, bool) {
+    /// Takes the bytes of the queue and runs the handler until it is empty or the handler has finished.
+    fn run(&mut self, mut queue: Queue, tables: Tables) -> Run {
         let tables = match self.encoding {
             21 => Tables {
                 first: WINDOWS_1252.get().expect("the index is read first"),
@@ -700,11 +720,21 @@ impl Decoder {
             _ => tables,
         };
         let mut output = Vec::new();
-        while let Some(byte) = queue.pop_front() {
+        self.taken += bytes_of(&queue);
+        let mut error = None;
+        loop {
+            let (before, left) = (self.variables, bytes_of(&queue));
+            let Some(byte) = queue.pop_front() else {
+                break;
+            };
             match self.variables.handler(&mut queue, byte, tables) {
                 Finished => break,
                 Continue => {}
-                Error if self.mode == 1 => return (output, true),
+                Error if self.mode == 1 => {
+                    // The sequence begins with the bytes held, which stand before those of the queue.
+                    error = Some(self.taken - left - before.held().len() as u64);
+                    break;
+                }
                 Error => self.push(&mut output, 0xFFFD),
                 One(code_point) => self.push(&mut output, code_point),
                 Two(one, two) => {
@@ -713,7 +743,8 @@ impl Decoder {
                 }
             }
         }
-        (output, false)
+        self.lines += line_feeds(&output);
+        Run { output, error }
     }
 
     fn push(&mut self, output: &mut Vec<u32>, code_point: u32) {
@@ -727,6 +758,8 @@ impl Decoder {
     /// The library's record of this decoder, with the library's numbers for the states.
     fn record(&self) -> Record {
         let mut record = Record {
+            taken: self.taken as u32,
+            lines: self.lines as u32,
             encoding: self.encoding,
             mode: self.mode,
             flag: u8::from(self.drop_mark),
@@ -755,6 +788,35 @@ impl Decoder {
         }
         record
     }
+
+    /// The record of a decoder that has ended.
+    fn ended(&self) -> Record {
+        Record {
+            taken: self.taken as u32,
+            lines: self.lines as u32,
+            ..ended(self.encoding, self.mode)
+        }
+    }
+
+    /// What a call answers that ran to this.
+    fn answer(&self, run: Run, record: Record) -> Answer {
+        match run.error {
+            None => Answer {
+                refusal: 0,
+                output: run.output,
+                place: 0,
+                line: 0,
+                record,
+            },
+            Some(place) => Answer {
+                refusal: 11,
+                output: run.output,
+                place,
+                line: 1 + self.lines,
+                record: self.ended(),
+            },
+        }
+    }
 }
 
 fn ended(encoding: u8, mode: u8) -> Record {
@@ -766,22 +828,136 @@ fn ended(encoding: u8, mode: u8) -> Record {
     }
 }
 
-/// Texts that leave a decoder holding nothing, in each of its states and with each of its flags.
-fn starts(encoding: u8) -> &'static [&'static [u8]] {
+/// A record without its totals.
+fn untotalled(record: Record) -> Record {
+    Record {
+        taken: 0,
+        lines: 0,
+        ..record
+    }
+}
+
+/// Tables in which the first pair is mapped, and little else.
+const FEW_MAPPED: Tables = Tables {
+    first: &[0x3000],
+    second: &[],
+};
+
+/// A new decoder that has read a text without an error that ends it.
+fn after(encoding: u8, mode: u8, rule: u8, text: &[u8]) -> Option<Decoder> {
+    let mut decoder = Decoder::new(encoding, mode, rule);
+    let queue = text.iter().map(|&byte| Some(byte)).collect();
+    let run = decoder.run(queue, FEW_MAPPED);
+    run.error.is_none().then_some(decoder)
+}
+
+/// A plain character and a line feed.
+fn characters(encoding: u8) -> [&'static [u8]; 2] {
     match encoding {
-        0 | 37 | 38 => &[b"", b"AA"],
-        33 => &[
-            b"",
-            b"\x1B(B",
-            b"\x1B(J",
-            b"\x1B(JA",
-            b"\x1B(I",
-            b"\x1B(I!",
-            b"\x1B$B",
-            b"\x1B$B!!",
-        ],
-        36 => &[b"", b"A"],
-        _ => &[b""],
+        37 => [b"\x00A", b"\x00\x0A"],
+        38 => [b"A\x00", b"\x0A\x00"],
+        _ => [b"A", b"\x0A"],
+    }
+}
+
+/// Bytes of which the short texts are made that lead to every shift.
+fn shifting(encoding: u8) -> &'static [u8] {
+    match encoding {
+        33 => b"\x0A\x1B$(BIJ!\x80",
+        _ => b"\x0AA",
+    }
+}
+
+/// A text that leaves a decoder holding nothing, found by search among all short ones.
+struct Way {
+    decoder: Decoder,
+    /// The bytes of a character that may stand before the text any number of times, and its line feeds if it is one.
+    /// `None` where the decoder is then another one.
+    character: Option<(u64, u64)>,
+}
+
+fn ways(encoding: u8, mode: u8) -> Vec<Way> {
+    let longest = if encoding == 33 { 5 } else { 2 };
+    let mut texts: Vec<Vec<u8>> = vec![Vec::new()];
+    let mut ways: Vec<Way> = Vec::new();
+    let mut next = 0;
+    while next < texts.len() {
+        let text = texts[next].clone();
+        next += 1;
+        if text.len() < longest {
+            for &byte in shifting(encoding) {
+                texts.push([&text[..], &[byte]].concat());
+            }
+        }
+        for rule in 0..2 {
+            let Some(decoder) = after(encoding, mode, rule, &text) else {
+                continue;
+            };
+            let record = decoder.record();
+            let same = |way: &Way| {
+                untotalled(way.decoder.record()) == untotalled(record)
+                    && leads_to(way, decoder.taken, decoder.lines)
+            };
+            if record.held != 0 || ways.iter().any(same) {
+                continue;
+            }
+            let before = |character: &[u8]| {
+                after(encoding, mode, rule, &[character, &text].concat())
+                    .filter(|longer| untotalled(longer.record()) == untotalled(record))
+            };
+            let [plain, line_feed] = characters(encoding).map(before);
+            let character = plain
+                .and(line_feed)
+                .map(|longer| (longer.taken - decoder.taken, longer.lines - decoder.lines));
+            ways.push(Way { decoder, character });
+        }
+    }
+    ways
+}
+
+/// Whether some text leaves a decoder holding nothing with these totals, by a way and characters before it.
+fn leads_to(way: &Way, taken: u64, lines: u64) -> bool {
+    let Some(more) = taken.checked_sub(way.decoder.taken) else {
+        return false;
+    };
+    let Some(more_lines) = lines.checked_sub(way.decoder.lines) else {
+        return false;
+    };
+    match way.character {
+        _ if more == 0 => more_lines == 0,
+        None => false,
+        Some((bytes, feeds)) => more % bytes == 0 && more_lines <= more / bytes * feeds,
+    }
+}
+
+/// What texts come to in an encoding and mode.
+struct Texts {
+    ways: Vec<Way>,
+    /// Some byte is held behind a way.
+    holds: bool,
+    /// Some byte is an error that ends a decoder at once.
+    fails: bool,
+}
+
+impl Texts {
+    fn new(encoding: u8, mode: u8) -> Texts {
+        let after_byte = |byte: u8| after(encoding, mode, 1, &[byte]);
+        Texts {
+            ways: ways(encoding, mode),
+            holds: (0..=255).any(|byte| after_byte(byte).is_some_and(|d| d.record().held == 1)),
+            fails: (0..=255).any(|byte| after_byte(byte).is_none()),
+        }
+    }
+
+    fn of(encoding: u8, mode: u8) -> &'static Texts {
+        static TEXTS: [OnceLock<Texts>; 80] = [const { OnceLock::new() }; 80];
+        let number = usize::from(encoding) * 2 + usize::from(mode);
+        TEXTS[number].get_or_init(|| Texts::new(encoding, mode))
+    }
+
+    /// Whether some text leaves a decoder holding nothing with these totals.
+    fn lead_to(&self, taken: u64, lines: u64) -> bool {
+        self.ways.iter().any(|way| leads_to(way, taken, lines))
     }
 }
 
@@ -790,25 +966,43 @@ enum Known {
     Ended,
 }
 
-/// The decoder of a record, where some calls leave it: those that feed one of the starts and then the bytes held.
+/// Whether some calls end a decoder with these totals: a finish with nothing or one byte held, or an error at once behind
+/// what was read, with the rest of its chunk.
+fn ends_with(record: Record) -> bool {
+    let texts = Texts::of(record.encoding, record.mode);
+    let (taken, lines) = (u64::from(record.taken), u64::from(record.lines));
+    let finished = |held: u64| taken >= held && texts.lead_to(taken - held, lines);
+    let reported =
+        |rest: u64| (1..=65536.min(taken)).contains(&rest) && texts.lead_to(taken - rest, lines);
+    finished(0)
+        || texts.holds && finished(1)
+        || texts.fails && [1, 2, 3, taken].into_iter().any(reported)
+}
+
+/// The decoder of a record, where some calls leave it: those that feed a way with characters before it and then the
+/// bytes held.
 fn decoder_of(record: Record) -> Option<Known> {
     if record.encoding > 39 || record.mode > 1 || record.held > 3 {
         return None;
     }
     if record.ended != 0 {
-        return (record == ended(record.encoding, record.mode)).then_some(Known::Ended);
+        let bare = untotalled(record) == ended(record.encoding, record.mode);
+        return (bare && ends_with(record)).then_some(Known::Ended);
     }
     let held = [record.first, record.second, record.third];
     let held = &held[..usize::from(record.held)];
-    for start in starts(record.encoding) {
-        let mut decoder = Decoder::new(record.encoding, record.mode, 0);
-        let queue = start.iter().chain(held).map(|&byte| Some(byte)).collect();
-        let tables = Tables {
-            first: &[0x3000],
-            second: &[],
+    let taken = u64::from(record.taken).checked_sub(held.len() as u64)?;
+    for way in &Texts::of(record.encoding, record.mode).ways {
+        if !leads_to(way, taken, record.lines.into()) {
+            continue;
+        }
+        let mut decoder = Decoder {
+            taken,
+            lines: record.lines.into(),
+            ..way.decoder
         };
-        let (_, error) = decoder.run(queue, tables);
-        if !error && decoder.record() == record {
+        let run = decoder.run(held.iter().map(|&byte| Some(byte)).collect(), FEW_MAPPED);
+        if run.error.is_none() && run.output.is_empty() && decoder.record() == record {
             return Some(Known::Open(decoder));
         }
     }
@@ -819,7 +1013,20 @@ fn decoder_of(record: Record) -> Option<Known> {
 pub struct Answer {
     pub refusal: u8,
     pub output: Vec<u32>,
+    pub place: u64,
+    pub line: u64,
     pub record: Record,
+}
+
+/// A refused call.
+fn refused(refusal: u8, record: Record) -> Answer {
+    Answer {
+        refusal,
+        output: Vec::new(),
+        place: 0,
+        line: 0,
+        record,
+    }
 }
 
 /// Whether the lent tables have the lengths that an encoding asks for.
@@ -839,75 +1046,47 @@ fn fits(encoding: u8, tables: Tables) -> bool {
 }
 
 pub fn open(encoding: u8, mode: u8, rule: u8) -> Answer {
-    let refusal = match (encoding, mode, rule) {
-        (40.., _, _) => 2,
-        (_, 2.., _) | (_, _, 2..) => 3,
-        _ => 0,
-    };
-    Answer {
-        refusal,
-        output: Vec::new(),
-        record: match refusal {
-            0 => Decoder::new(encoding, mode, rule).record(),
-            _ => ended(0, 0),
-        },
+    match (encoding, mode, rule) {
+        (40.., _, _) => refused(2, ended(0, 0)),
+        (_, 2.., _) | (_, _, 2..) => refused(3, ended(0, 0)),
+        _ => refused(0, Decoder::new(encoding, mode, rule).record()),
     }
 }
 
 pub fn feed(record: Record, chunk: &[u8], tables: Tables, room: usize) -> Answer {
-    let refused = |refusal| Answer {
-        refusal,
-        output: Vec::new(),
-        record,
-    };
     let mut decoder = match decoder_of(record) {
-        None => return refused(5),
-        Some(Known::Ended) => return refused(6),
+        None => return refused(5, record),
+        Some(Known::Ended) => return refused(6, record),
         Some(Known::Open(decoder)) => decoder,
     };
     if !fits(decoder.encoding, tables) {
-        return refused(4);
+        return refused(4, record);
     }
     if chunk.len() > 65536 {
-        return refused(8);
+        return refused(8, record);
+    }
+    if decoder.taken + chunk.len() as u64 > u64::from(u32::MAX) {
+        return refused(14, record);
     }
     if room < chunk.len() + decoder.variables.held().len() {
-        return refused(7);
+        return refused(7, record);
     }
-    let queue = chunk.iter().map(|&byte| Some(byte)).collect();
-    let (output, error) = decoder.run(queue, tables);
-    Answer {
-        refusal: if error { 11 } else { 0 },
-        output,
-        record: if error {
-            ended(decoder.encoding, decoder.mode)
-        } else {
-            decoder.record()
-        },
-    }
+    let run = decoder.run(chunk.iter().map(|&byte| Some(byte)).collect(), tables);
+    decoder.answer(run, decoder.record())
 }
 
 pub fn finish(record: Record, room: usize) -> Answer {
-    let refused = |refusal| Answer {
-        refusal,
-        output: Vec::new(),
-        record,
-    };
     let mut decoder = match decoder_of(record) {
-        None => return refused(5),
-        Some(Known::Ended) => return refused(6),
+        None => return refused(5, record),
+        Some(Known::Ended) => return refused(6, record),
         Some(Known::Open(decoder)) => decoder,
     };
     if room < decoder.variables.held().len() {
-        return refused(7);
+        return refused(7, record);
     }
     // End-of-stream is read until the handler has finished, at most twice. No step then reads a table.
-    let (output, error) = decoder.run(Queue::from([None, None]), NO_TABLES);
-    Answer {
-        refusal: if error { 11 } else { 0 },
-        output,
-        record: ended(decoder.encoding, decoder.mode),
-    }
+    let run = decoder.run(Queue::from([None, None]), NO_TABLES);
+    decoder.answer(run, decoder.ended())
 }
 
 /// What the writer answers; `output` is what stands at the front of the room.

@@ -1,8 +1,11 @@
-use Rattle.showtext.proofs.FirstLine.{first-few, after-more, after-none}
+use Rattle.showtext.proofs.FirstLine.{after-more, after-none}
 use native.Mathlib.Omega.{arith}
 use borrow.Author.Needs.{needs}
 use Rattle.showtext.proofs.after_line.Statement.{statement}
 use Rattle.showtext.proofs.after_line.Tie as tie
+
+first-line-requires : tie.Need-first-line-requires
+first-line-requires c κs = search needs
 
 add-result : tie.Need-add-result
 add-result c = search needs
@@ -17,30 +20,27 @@ part-result-end : tie.Need-part-result-end
 part-result-end c = search needs
 
 returns : tie.Need-returns
-returns c =
-    let args = c .before .before .args in
-    let at-pre = c .before .before .pre in
-    after-more (args .input .now) (args .n) at-pre
+returns c = let l = c .before .before in after-more (l .before .before .args .input .now) (l .first-line .result)
+    (l .first-line .ensures .0)
 
 sub-result-2 : tie.Need-sub-result-2
-sub-result-2 c = omega (arith, first-few ((c .before .args) .input .now), c .before .pre)
+sub-result-2 c = search needs
 
 part-result-start-2 : tie.Need-part-result-start-2
-part-result-start-2 c = omega (arith, first-few ((c .before .args) .input .now), c .before .pre)
+part-result-start-2 c = search needs
 
 part-result-end-2 : tie.Need-part-result-end-2
 part-result-end-2 c = search needs
 
 returns-2 : tie.Need-returns-2
-returns-2 c =
-    let args = c .before .before .args in
-    let at-pre = c .before .before .pre in
-    after-none (args .input .now) (args .n) at-pre (omega arith)
+returns-2 c = let l = c .before .before in after-none (l .before .before .args .input .now) (l .first-line .result)
+    (l .first-line .ensures .0) (omega arith)
 
 pub after-line-spec : {M : Type 1} → statement M
 after-line-spec =
     tie.close
     (tie.spec
+    first-line-requires
     add-result
     sub-result
     part-result-start

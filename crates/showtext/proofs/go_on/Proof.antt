@@ -1,4 +1,8 @@
-use Rattle.showtext.proofs.Buffers.{fed-fits, went-on}
+use Rattle.showtext.proofs.Buffers.{fed-fits, left-refused, left-fed}
+use Rattle.showtext.proofs.Texts.{nothing}
+use Rattle.showtext.specs.Program.{goingOn}
+use Rattle.showtext.specs.Code.{feedingOn}
+use mathlib.Core.List.{[]}
 use native.Mathlib.Omega.{arith}
 use borrow.Author.Needs.{needs}
 use Rattle.showtext.proofs.go_on.Statement.{statement}
@@ -6,21 +10,13 @@ use Rattle.showtext.proofs.go_on.Tie as tie
 
 -- from behind the feed to the start
 abbrev start : tie.After-feed → tie.Start
-start c = c .before .before .before .before .before
-
--- the answer of feed, from where the lines are put
-abbrev after-feed : tie.After-out → tie.After-feed
-after-feed c = c .before .before .before .before .before .before
+start f = f .before .before .before .before .before
 
 feed-requires : tie.Need-feed-requires
 feed-requires c κs = search needs
 
-show-requires : tie.Need-show-requires
-show-requires c κs =
-    let args = start (c .before .before .before .before) .args in
-    let at-pre = start (c .before .before .before .before) .pre in
-    let at-feed = c .before .before .before .before .feed in
-    let f = fed-fits (args .decoder) (args .chunk .now) (args .room .now) (at-feed .ensures .0) (at-feed .ensures .1) in (f .1, omega (arith, f .0, at-pre .0), omega (arith, f .0, at-pre .1))
+refuse-requires : tie.Need-refuse-requires
+refuse-requires c κs = search needs
 
 same-length : tie.Need-same-length
 same-length c = search needs
@@ -29,12 +25,49 @@ same-length-2 : tie.Need-same-length-2
 same-length-2 c = search needs
 
 returns : tie.Need-returns
+unfolding goingOn feedingOn
 returns c =
-    let args = start (after-feed (c .before)) .args in
-    let at-pre = start (after-feed (c .before)) .pre in
-    let at-feed = after-feed (c .before) .feed in
-    let at-show = c .before .before .show in
-    went-on (args .decoder) (args .count) (args .chunk .now) (args .room .now) (args .out .now) (at-feed .ensures .0) (at-feed .ensures .1) (at-show .ensures) (omega (arith, at-pre .0))
+    let here = c .before .before .before .before in
+    let f = here .before .before .before .before in
+    let a = start f .args in
+    left-refused [] (a .decoder) (a .count) (a .chunk .now) (a .room .now) (a .out .now) (omega arith) (start f .pre .0)
+    (f .feed .ensures .0) (f .feed .ensures .1)
+    (λ z. omega (arith, here .if1 .taken, z)) (c .before .before .refuse .ensures)
+
+show-requires : tie.Need-show-requires
+show-requires c κs =
+    let f = c .before .before .before .before .before .before in
+    let a = start f .args in
+    let pre = start f .pre in
+    let fits = fed-fits (a .decoder) (a .chunk .now) (a .room .now) (f .feed .ensures .0) (f .feed .ensures .1) in
+    (fits .1, omega (arith, fits .0, pre .0), omega (arith, fits .0, pre .1))
+
+same-length-3 : tie.Need-same-length-3
+same-length-3 c = search needs
+
+same-length-4 : tie.Need-same-length-4
+same-length-4 c = search needs
+
+returns-2 : tie.Need-returns-2
+unfolding goingOn feedingOn
+returns-2 c =
+    let here = c .before .before .before .before .before in
+    let f = here .before .before .before .before in
+    let a = start f .args in
+    left-fed [] (a .decoder) (a .count) (a .chunk .now) (a .room .now) (a .out .now) (omega arith) (start f .pre .0)
+    (f .feed .ensures .0) (f .feed .ensures .1)
+    (omega (arith, here .if1 .left)) nothing (c .before .before .show .ensures)
 
 pub go-on-spec : {M : Type 1} → statement M
-go-on-spec = tie.close (tie.spec feed-requires show-requires same-length same-length-2 returns)
+go-on-spec =
+    tie.close
+    (tie.spec
+    feed-requires
+    refuse-requires
+    same-length
+    same-length-2
+    returns
+    show-requires
+    same-length-3
+    same-length-4
+    returns-2)

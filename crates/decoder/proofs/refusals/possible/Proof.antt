@@ -1,51 +1,101 @@
 use borrow.Author.Tests.{eq-eqb, ne-eqb}
 use mathlib.Core.Path.{sym, _∙_}
 use lib.Dec.{eqb}
-use Rattle.standard.specs.Sequence.{shift}
-use Rattle.decoder.proofs.Numbers.{possible-is}
 use native.Mathlib.Omega.{arith}
 use borrow.Author.Needs.{needs}
+use Rattle.standard.specs.Sequence.{shift}
+use Rattle.decoder.proofs.Numbers.{possible-is}
 use Rattle.decoder.proofs.refusals.possible.Statement.{statement}
 use Rattle.decoder.proofs.refusals.possible.Tie as tie
 
+marking-requires : tie.Need-marking-requires
+marking-requires c κs = search needs
+
 returns : tie.Need-returns
 returns c =
-    let args = c .before .args in
-    sym (possible-is (args .encoding) (args .mode) (shift (args .state) (eqb (args .flag) 1)) ∙ rw (eq-eqb (args .encoding) 33 (omega arith)))
+    let args = c .before .before .args in
+    let is = possible-is (args .encoding) (args .mode) (shift (args .state) (eqb (args .flag) 1)) (args .c) (args .l) in
+    c .marking .ensures ∙ sym (is ∙ rw (eq-eqb (args .encoding) 0 (omega arith)))
+
+escaping-requires : tie.Need-escaping-requires
+escaping-requires c κs = search needs
 
 returns-2 : tie.Need-returns-2
 returns-2 c =
-    let args = c .before .before .args in
-    sym (possible-is (args .encoding) (args .mode) (shift (args .state) (eqb (args .flag) 1)) ∙ rw (ne-eqb (args .encoding) 33 (omega arith), ne-eqb (args .state) 0 (omega arith)))
+    let args = c .before .before .before .args in
+    let is = possible-is (args .encoding) (args .mode) (shift (args .state) (eqb (args .flag) 1)) (args .c) (args .l) in
+    c .escaping .ensures ∙ sym (is ∙ rw (ne-eqb (args .encoding) 0 (omega arith), eq-eqb (args .encoding) 33 (omega arith)))
+
+replaced-requires : tie.Need-replaced-requires
+replaced-requires c κs = search needs
 
 returns-3 : tie.Need-returns-3
 returns-3 c =
-    let args = c .before .before .before .args in
-    sym (possible-is (args .encoding) (args .mode) (shift (args .state) (eqb (args .flag) 1)) ∙ rw (ne-eqb (args .encoding) 33 (omega arith), eq-eqb (args .state) 0 (omega arith), ne-eqb (args .flag) 1 (omega arith)))
+    let args = c .before .before .before .before .args in
+    let is = possible-is (args .encoding) (args .mode) (shift (args .state) (eqb (args .flag) 1)) (args .c) (args .l) in
+    c .replaced .ensures ∙ sym (is ∙ rw (
+      ne-eqb (args .encoding) 0 (omega arith),
+      ne-eqb (args .encoding) 33 (omega arith),
+      eq-eqb (args .encoding) 36 (omega arith),
+    ))
 
-marked-requires : tie.Need-marked-requires
-marked-requires c κs = search needs
+paired-requires : tie.Need-paired-requires
+paired-requires c κs = search needs
 
 returns-4 : tie.Need-returns-4
 returns-4 c =
     let args = c .before .before .before .before .before .args in
-    let at-marked = c .before .marked in
-    sym (possible-is (args .encoding) (args .mode) (shift (args .state) (eqb (args .flag) 1)) ∙ rw (ne-eqb (args .encoding) 33 (omega arith), eq-eqb (args .state) 0 (omega arith), eq-eqb (args .flag) 1 (omega arith), sym (at-marked .ensures) ∙ c .if4 .taken))
+    let is = possible-is (args .encoding) (args .mode) (shift (args .state) (eqb (args .flag) 1)) (args .c) (args .l) in
+    c .paired .ensures ∙ sym (is ∙ rw (
+      ne-eqb (args .encoding) 0 (omega arith),
+      ne-eqb (args .encoding) 33 (omega arith),
+      ne-eqb (args .encoding) 36 (omega arith),
+      eq-eqb (args .encoding) 37 (omega arith),
+    ))
+
+paired-requires-2 : tie.Need-paired-requires-2
+paired-requires-2 c κs = search needs
 
 returns-5 : tie.Need-returns-5
 returns-5 c =
     let args = c .before .before .before .before .before .before .args in
-    let at-marked = c .before .before .marked in
-    let at-if4 = c .before .if4 in
-    sym (possible-is (args .encoding) (args .mode) (shift (args .state) (eqb (args .flag) 1)) ∙ rw (ne-eqb (args .encoding) 33 (omega arith), eq-eqb (args .state) 0 (omega arith), eq-eqb (args .flag) 1 (omega arith), sym (at-marked .ensures) ∙ at-if4 .left, eq-eqb (args .encoding) 36 (omega arith)))
+    let is = possible-is (args .encoding) (args .mode) (shift (args .state) (eqb (args .flag) 1)) (args .c) (args .l) in
+    c .paired2 .ensures ∙ sym (is ∙ rw (
+      ne-eqb (args .encoding) 0 (omega arith),
+      ne-eqb (args .encoding) 33 (omega arith),
+      ne-eqb (args .encoding) 36 (omega arith),
+      ne-eqb (args .encoding) 37 (omega arith),
+      eq-eqb (args .encoding) 38 (omega arith),
+    ))
+
+unshifted-requires : tie.Need-unshifted-requires
+unshifted-requires c κs = search needs
 
 returns-6 : tie.Need-returns-6
 returns-6 c =
     let args = c .before .before .before .before .before .before .args in
-    let at-marked = c .before .before .marked in
-    let at-if4 = c .before .if4 in
-    sym (possible-is (args .encoding) (args .mode) (shift (args .state) (eqb (args .flag) 1)) ∙ rw (ne-eqb (args .encoding) 33 (omega arith), eq-eqb (args .state) 0 (omega arith), eq-eqb (args .flag) 1 (omega arith), sym (at-marked .ensures) ∙ at-if4 .left, ne-eqb (args .encoding) 36 (omega arith)))
+    let is = possible-is (args .encoding) (args .mode) (shift (args .state) (eqb (args .flag) 1)) (args .c) (args .l) in
+    c .unshifted .ensures ∙ sym (is ∙ rw (
+      ne-eqb (args .encoding) 0 (omega arith),
+      ne-eqb (args .encoding) 33 (omega arith),
+      ne-eqb (args .encoding) 36 (omega arith),
+      ne-eqb (args .encoding) 37 (omega arith),
+      ne-eqb (args .encoding) 38 (omega arith),
+    ))
 
 pub possible-spec : {M : Type 1} → statement M
 possible-spec =
-    tie.close (tie.spec returns returns-2 returns-3 marked-requires returns-4 returns-5 returns-6)
+    tie.close
+    (tie.spec
+    marking-requires
+    returns
+    escaping-requires
+    returns-2
+    replaced-requires
+    returns-3
+    paired-requires
+    returns-4
+    paired-requires-2
+    returns-5
+    unshifted-requires
+    returns-6)

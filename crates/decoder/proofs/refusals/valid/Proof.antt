@@ -39,13 +39,15 @@ returns-6 c =
     let args = start (c .before .before .before .before .before .before) .args in
     let at-unused = c .before .before .unused in
     let at-if6 = c .before .if6 in
-    c .valid-rest .ensures ∙ sym (valid-rest (args .d) (omega arith) (omega arith) (omega arith) (omega arith) (omega arith) (sym (at-unused .ensures) ∙ at-if6 .taken))
+    c .valid-rest .ensures ∙ sym (valid-rest (args .d) (omega arith) (omega arith) (omega arith) (omega arith) (omega arith)
+    (sym (at-unused .ensures) ∙ at-if6 .taken))
 
 returns-7 : tie.Need-returns-7
 returns-7 c =
     let args = start (c .before .before .before .before .before) .args in
     let at-unused = c .before .unused in
-    sym (no-unused (args .d) (omega arith) (omega arith) (omega arith) (omega arith) (omega arith) (sym (at-unused .ensures) ∙ c .if6 .left))
+    sym (no-unused (args .d) (omega arith) (omega arith) (omega arith) (omega arith) (omega arith)
+    (sym (at-unused .ensures) ∙ c .if6 .left))
 
 pub valid-spec : {M : Type 1} → statement M
 valid-spec =

@@ -32,8 +32,8 @@ byte-at-requires-3 c κs = search needs
 bit-requires : tie.Need-bit-requires
 bit-requires c κs = search needs
 
-cast-t15 : tie.Need-cast-t15
-cast-t15 c = search needs
+cast-t16 : tie.Need-cast-t16
+cast-t16 c = search needs
 
 returns : tie.Need-returns
 returns c =
@@ -48,6 +48,7 @@ returns c =
     (args .state)
     (args .flag)
     (args .written)
+    (args .lines)
     (omega arith)
     (c .bit .result)
     _
@@ -73,5 +74,5 @@ holds-spec =
     add-byte-at-2
     byte-at-requires-3
     bit-requires
-    cast-t15
+    cast-t16
     returns)

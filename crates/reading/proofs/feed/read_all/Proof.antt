@@ -6,18 +6,19 @@ use lib.ListN.{length}
 use native.Mathlib.Omega.{arith}
 use borrow.Author.Needs.{needs}
 use Rattle.reading.specs.Reading.{Result}
-use Rattle.reading.proofs.Loop.{Args, Running, start-running, carried, turn-done, turn-few, turn-more, turn-width, turn-space, turn-report, turn-on, stops-no, stops-yes}
+use Rattle.reading.proofs.Loop.{Args, Running, start-running, carried, turn-done, turn-few, turn-more, turn-width, turn-space, turn-report, turn-fewer, turn-on, stops-no, stops-yes}
 use Rattle.reading.proofs.feed.read_all.Statement.{statement}
 use Rattle.reading.proofs.feed.read_all.Tie as tie
 
--- The invariant: what the call has to leave is what is still to be handed out from `at` on, into the room from `written` on.
+-- The invariant: what the call has to leave is what is still to be handed out from `at` on, into the room from `written` on,
+-- where `lines` line feeds are written.
 -- The bytes behind `at` fall at each turn, since a run goes on and a sequence has a byte or more.
 abbrev Inv-loop : tie.InvT-loop
-Inv-loop encoding mode held chunk t1 t2 room₀ state flag at₀ s₀ f₀ written₀ room at s f written =
-    Running (record { encoding = encoding; mode = mode; held = held; chunk = chunk; first = t1; second = t2; state = state; flag = flag }) room₀ room at s f written
+Inv-loop encoding mode held chunk t1 t2 room₀ state flag at₀ s₀ f₀ written₀ lines₀ room at s f written lines =
+    Running (record { encoding = encoding; mode = mode; held = held; chunk = chunk; first = t1; second = t2; state = state; flag = flag }) room₀ room at s f written lines
 
 abbrev μ-loop : tie.MeasureT-loop
-μ-loop encoding mode held chunk t1 t2 room₀ state flag at₀ s₀ f₀ written₀ room at s f written = held .count + length chunk - at
+μ-loop encoding mode held chunk t1 t2 room₀ state flag at₀ s₀ f₀ written₀ lines₀ room at s f written lines = held .count + length chunk - at
 
 -- how the loop was called, and its room at the start
 abbrev start : tie.At-loop Inv-loop μ-loop → tie.Start Inv-loop μ-loop
@@ -35,9 +36,21 @@ head c = c .before .before .before .before .before
 abbrev run : tie.After-struct-known Inv-loop μ-loop → tie.After-run-from Inv-loop μ-loop
 run c = c .before .before .before
 
-abbrev ran : (c : tie.After-struct-known Inv-loop μ-loop) → (room : List ℕ) ×
-    Running (called (head c)) (start (head c) .args .room .now) room (run c .run-from .result .at) (run c .run-from .result .state) (run c .run-from .result .flag) (run c .run-from .result .written)
-ran c = (_, carried {state′ = run c .run-from .result .state} {flag′ = run c .run-from .result .flag} (head c .loop .inv) (run c .run-from .ensures))
+abbrev Behind : tie.After-struct-known Inv-loop μ-loop → Type 0
+Behind c = (room : List ℕ) × Running (called (head c)) (start (head c) .args .room .now) room (run c .run-from .result .at)
+    (run c .run-from .result .state) (run c .run-from .result .flag) (run c .run-from .result .written)
+    (head c .loop .lines + run c .run-from .result .lines)
+
+abbrev carry : (c : tie.After-struct-known Inv-loop μ-loop) → Behind c
+carry c = (
+  _,
+  carried {state′ = run c .run-from .result .state} {flag′ = run c .run-from .result .flag} (head c .loop .inv)
+      (run c .run-from .ensures .run) (run c .run-from .ensures .lines),
+)
+
+-- the same once its line feeds are added
+abbrev ran : (c : tie.After-struct-known2 Inv-loop μ-loop) → Behind (c .before)
+ran c = carry (c .before)
 
 loop-holds : tie.Need-loop-holds Inv-loop μ-loop
 loop-holds c =
@@ -50,7 +63,10 @@ loop-holds c =
     (omega arith)
 
 run-from-requires : tie.Need-run-from-requires Inv-loop μ-loop
-run-from-requires c κs = let R = c .before .loop .inv in (R .few, R .short, R .place)
+run-from-requires c κs = let R = c .before .loop .inv in (R .few, R .short, R .place, R .space)
+
+add-lines : tie.Need-add-lines Inv-loop μ-loop
+add-lines c = let R = carry c .1 in omega (arith, R .fewer, R .space, R .size)
 
 cast-if1 : tie.Need-cast-if1 Inv-loop μ-loop
 cast-if1 c = search needs
@@ -73,10 +89,10 @@ sequence-at-requires : tie.Need-sequence-at-requires Inv-loop μ-loop
 sequence-at-requires c κs = let R = ran (c .before) .1 in (R .few, R .short, R .place)
 
 -- the sequence found behind the run
-abbrev found : tie.After-struct-known2 Inv-loop μ-loop → tie.After-sequence-at Inv-loop μ-loop
+abbrev found : tie.After-struct-known3 Inv-loop μ-loop → tie.After-sequence-at Inv-loop μ-loop
 found c = c .before
 
-abbrev behind : tie.After-struct-known2 Inv-loop μ-loop → tie.After-struct-known Inv-loop μ-loop
+abbrev behind : tie.After-struct-known3 Inv-loop μ-loop → tie.After-struct-known2 Inv-loop μ-loop
 behind c = c .before .before .before
 
 holds-requires-2 : tie.Need-holds-requires-2 Inv-loop μ-loop
@@ -101,7 +117,7 @@ ended-requires : tie.Need-ended-requires Inv-loop μ-loop
 ended-requires c κs = search needs
 
 -- a whole sequence
-abbrev whole : tie.After-stops Inv-loop μ-loop → tie.After-struct-known2 Inv-loop μ-loop
+abbrev whole : tie.After-stops Inv-loop μ-loop → tie.After-struct-known3 Inv-loop μ-loop
 whole c = c .before .before
 
 same-length-3 : tie.Need-same-length-3 Inv-loop μ-loop
@@ -124,16 +140,33 @@ put-requires c κs =
     let at-sequence = found (whole (on c)) .sequence-at in
     turn-space (ran (behind (whole (on c))) .1) (at-sequence .result) (at-sequence .ensures) (on c .before .if2 .left)
 
+feeds-requires : tie.Need-feeds-requires Inv-loop μ-loop
+feeds-requires c κs = search needs
+
+-- the sequence's scalars are written, and its line feeds counted
+abbrev turned : tie.After-feeds Inv-loop μ-loop → tie.After-put-arg Inv-loop μ-loop
+turned c = c .before .before .before .before
+
+add-lines-2 : tie.Need-add-lines-2 Inv-loop μ-loop
+add-lines-2 c =
+    let at-stops = on (turned c) in
+    let at-sequence = found (whole at-stops) .sequence-at in
+    let R = ran (behind (whole at-stops)) .1 in
+    let z = at-stops .before .if2 .left in
+    omega (
+      arith,
+      c .feeds .ensures,
+      turn-fewer R (at-sequence .result) (at-sequence .ensures) z,
+      turn-space R (at-sequence .result) (at-sequence .ensures) z,
+      R .size,
+    )
+
 cast-at : tie.Need-cast-at Inv-loop μ-loop
 cast-at c = search needs
 
--- the end of a turn
-abbrev turned : tie.After-struct-known3 Inv-loop μ-loop → tie.After-put-arg Inv-loop μ-loop
-turned c = c .before .before .before .before
-
 add-at : tie.Need-add-at Inv-loop μ-loop
 add-at c =
-    let at-stops = on (turned c) in
+    let at-stops = on (turned (c .before)) in
     let at-sequence = found (whole at-stops) .sequence-at in
     let R = ran (behind (whole at-stops)) .1 in
     let width = turn-width R (at-sequence .result) (at-sequence .ensures) (at-stops .before .if2 .left) in
@@ -141,19 +174,20 @@ add-at c =
 
 loop-less : tie.Need-loop-less Inv-loop μ-loop
 loop-less c =
-    let at-stops = on (turned c) in
+    let at-stops = on (turned (c .before)) in
     let at-sequence = found (whole at-stops) .sequence-at in
     let R = ran (behind (whole at-stops)) .1 in
     let width = turn-width R (at-sequence .result) (at-sequence .ensures) (at-stops .before .if2 .left) in
-    omega (arith, run (behind (whole at-stops)) .run-from .ensures .ahead, R .place, width)
+    omega (arith, run (behind (whole at-stops) .before) .run-from .ensures .run .ahead, R .place, width)
 
 loop-again : tie.Need-loop-again Inv-loop μ-loop
 loop-again c =
-    let at-put = c .before .before .before .put in
-    let at-stops = on (turned c) in
+    let at-feeds = c .before in
+    let at-put = at-feeds .before .before .before .put in
+    let at-stops = on (turned at-feeds) in
     let at-sequence = found (whole at-stops) .sequence-at in
-    let goes = stops-no _ _ (sym (at-stops .stops .ensures) ∙ turned c .before .if3 .left) in
-    rw (at-put .ensures .0, at-put .ensures .1) (turn-on (ran (behind (whole at-stops)) .1) (at-sequence .result) (at-sequence .ensures) (at-stops .before .if2 .left) goes)
+    let goes = stops-no _ _ (sym (at-stops .stops .ensures) ∙ turned at-feeds .before .if3 .left) in
+    rw (at-put .ensures .0, at-put .ensures .1, at-feeds .feeds .ensures) (turn-on (ran (behind (whole at-stops)) .1) (at-sequence .result) (at-sequence .ensures) (at-stops .before .if2 .left) goes)
 
 pub read-all-spec : {M : Type 1} → statement M
 read-all-spec =
@@ -163,6 +197,7 @@ read-all-spec =
     μ-loop
     loop-holds
     run-from-requires
+    add-lines
     cast-if1
     add-if1
     holds-requires
@@ -177,6 +212,8 @@ read-all-spec =
     same-length-3
     returns-3
     put-requires
+    feeds-requires
+    add-lines-2
     cast-at
     add-at
     loop-less

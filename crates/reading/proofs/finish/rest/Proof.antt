@@ -1,9 +1,12 @@
+use Prim.Native.Nat.{ℕ}
 use lib.ListN.{length-set}
 use mathlib.Core.List.{[], _∷_}
 use mathlib.Core.Path.{sym, ap, _∙_}
 use native.Mathlib.Omega.{arith}
 use borrow.Author.Needs.{needs}
-use Rattle.reading.specs.Reading.{Result}
+use Rattle.standard.specs.Base.{lineFeeds}
+use Rattle.standard.specs.Sequence.{plain}
+use Rattle.reading.specs.Reading.{Result, leaves}
 use Rattle.reading.proofs.Ends.{end-none, end-report, end-one, end-other, end-iso, from-front}
 use Rattle.reading.proofs.finish.rest.Statement.{statement}
 use Rattle.reading.proofs.finish.rest.Tie as tie
@@ -19,6 +22,7 @@ ended-requires : tie.Need-ended-requires
 ended-requires c κs = search needs
 
 returns : tie.Need-returns
+unfolding lineFeeds
 returns c =
     let a = start (c .before .before) .args in
     let e = end-none (a .encoding) (a .mode) (a .state) (a .flag) (a .held) (a .room .now) (omega arith) in
@@ -28,6 +32,7 @@ ended-requires-2 : tie.Need-ended-requires-2
 ended-requires-2 c κs = search needs
 
 returns-2 : tie.Need-returns-2
+unfolding lineFeeds
 returns-2 c =
     let a = start (c .before .before .before) .args in
     let e = end-report (a .encoding) (a .mode) (a .state) (a .flag) (a .held) (a .room .now) (omega arith) (omega arith) in
@@ -43,6 +48,7 @@ same-length : tie.Need-same-length
 same-length c = search needs
 
 returns-3 : tie.Need-returns-3
+unfolding lineFeeds
 returns-3 c =
     let a = first (c .before .before) .args in
     let e = end-one (a .encoding) (a .mode) (a .state) (a .flag) (a .held) (a .room .now) (omega arith) (omega arith) in
@@ -55,6 +61,7 @@ same-length-2 : tie.Need-same-length-2
 same-length-2 c = search needs
 
 returns-4 : tie.Need-returns-4
+unfolding lineFeeds
 returns-4 c =
     let a = first (c .before .before .before) .args in
     let e = end-other (a .encoding) (a .mode) (a .state) (a .flag) (a .held) (a .room .now) (omega arith) (omega arith) (omega arith) in
@@ -70,6 +77,12 @@ iso c = first (c .before .before .before)
 slice-write-room-2 : tie.Need-slice-write-room-2
 slice-write-room-2 c = rw (length-set (iso c .args .room .now) 0 0xFFFD) (omega (arith, iso c .pre, c .before .if4 .left))
 
+one-scalar-requires : tie.Need-one-scalar-requires
+one-scalar-requires c κs = search needs
+
+cast-ended : tie.Need-cast-ended
+cast-ended c = search needs
+
 ended-requires-5 : tie.Need-ended-requires-5
 ended-requires-5 c κs = search needs
 
@@ -77,12 +90,16 @@ same-length-3 : tie.Need-same-length-3
 same-length-3 c = search needs
 
 returns-5 : tie.Need-returns-5
+unfolding lineFeeds
 returns-5 c =
-    let at-last = c .before in
+    let at-lines = c .before in
+    let at-last = at-lines .before in
     let a = iso at-last .args in
     let last = at-last .last-scalar .result in
-    let e = end-iso (a .encoding) (a .mode) (a .state) (a .flag) (a .held) (a .room .now) last (omega arith) (omega arith) (omega arith) (omega arith) (at-last .last-scalar .ensures) in
-    (c .ended5 .ensures ∙ ap (λ (r : Result). r .left) (sym e), from-front (a .room .now) (0xFFFD ∷ last ∷ []) (omega (arith, iso at-last .pre)) ∙ ap (λ (r : Result). r .room) (sym e))
+    let e = end-iso (a .encoding) (a .mode) (a .state) (a .flag) (a .held) (a .room .now) last (omega arith) (omega arith) (omega arith) (omega arith) (at-last .last-scalar .ensures) in (
+      c .ended5 .ensures ∙ ap (λ (k : ℕ). leaves 0 2 0 k plain []) (at-lines .one-scalar .ensures) ∙ ap (λ (r : Result). r .left) (sym e),
+      from-front (a .room .now) (0xFFFD ∷ last ∷ []) (omega (arith, iso at-last .pre)) ∙ ap (λ (r : Result). r .room) (sym e),
+    )
 
 pub rest-spec : {M : Type 1} → statement M
 rest-spec =
@@ -101,6 +118,8 @@ rest-spec =
     returns-4
     last-scalar-requires
     slice-write-room-2
+    one-scalar-requires
+    cast-ended
     ended-requires-5
     same-length-3
     returns-5)

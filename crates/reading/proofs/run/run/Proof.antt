@@ -1,12 +1,13 @@
-use Rattle.runs.proofs.Running.{runs-none}
-use Rattle.standard.proofs.Families.{family-utf8, family-windows-1252, family-single-byte, family-iso-2022-jp, family-utf-16be, family-utf-16le}
-use Rattle.standard.specs.Encodings.{family, lent}
+use Rattle.standard.proofs.Families.{family-utf-16be, family-utf-16le}
+use Rattle.standard.specs.Encodings.{Tables, family, lent}
+use Rattle.runs.proofs.Counting.{counting-fewer}
+use Rattle.reading.proofs.Counting.{fed, both, counts-on}
 use native.Mathlib.Omega.{arith}
 use borrow.Author.Needs.{needs}
 use Rattle.reading.proofs.run.run.Statement.{statement}
 use Rattle.reading.proofs.run.run.Tie as tie
 
--- the start, from each test that fails
+-- the function's start, from each test that fails
 abbrev start : tie.After-slice-known → tie.Start
 start c = c .before .before .before .before
 
@@ -16,17 +17,21 @@ past-1 c = start (c .before)
 abbrev past-2 : tie.Else2 → tie.Start
 past-2 c = past-1 (c .before)
 
-abbrev past-3 : tie.Else3 → tie.Start
-past-3 c = past-2 (c .before)
+-- the function's start, the front and the run behind it, from where the line feeds are counted
+abbrev read : tie.After-feeds → tie.After-by-number
+read c = c .before .before .before .before
 
-abbrev past-5 : tie.Else5 → tie.Start
-past-5 c = past-3 (c .before .before)
+abbrev first : tie.After-feeds → tie.After-front
+first c = read c .before .before .before .before
 
-abbrev past-6 : tie.Else6 → tie.Start
-past-6 c = past-5 (c .before)
+abbrev begin : tie.After-feeds → tie.Start
+begin c = past-2 (first c .before .before)
 
-utf8-run-requires : tie.Need-utf8-run-requires
-utf8-run-requires c κs = search needs
+abbrev tables : tie.After-feeds → Tables
+tables c = lent (begin c .args .t1 .now) (begin c .args .t2 .now)
+
+utf-16-run-requires : tie.Need-utf-16-run-requires
+utf-16-run-requires c κs = search needs
 
 same-length : tie.Need-same-length
 same-length c = search needs
@@ -34,10 +39,10 @@ same-length c = search needs
 returns : tie.Need-returns
 returns c =
     let args = start (c .before .before .before .before .before) .args in
-    rw (family-utf8 (args .encoding) (omega arith)) (c .before .before .utf8-run .ensures (lent (args .t1 .now) (args .t2 .now)))
+    rw (family-utf-16be (args .encoding) (omega arith)) (c .before .before .utf-16-run .ensures (lent (args .t1 .now) (args .t2 .now)))
 
-windows-1252-run-requires : tie.Need-windows-1252-run-requires
-windows-1252-run-requires c κs = search needs
+utf-16-run-requires-2 : tie.Need-utf-16-run-requires-2
+utf-16-run-requires-2 c κs = search needs
 
 same-length-2 : tie.Need-same-length-2
 same-length-2 c = search needs
@@ -45,89 +50,48 @@ same-length-2 c = search needs
 returns-2 : tie.Need-returns-2
 returns-2 c =
     let args = past-1 (c .before .before .before .before .before) .args in
-    rw (family-windows-1252 (args .encoding) (omega arith)) (c .before .before .windows-1252-run .ensures (lent (args .t1 .now) (args .t2 .now)) (args .mode))
+    rw (family-utf-16le (args .encoding) (omega arith)) (c .before .before .utf-16-run2 .ensures (lent (args .t1 .now) (args .t2 .now)))
 
-single-byte-run-requires : tie.Need-single-byte-run-requires
-single-byte-run-requires c κs = search needs
+front-requires : tie.Need-front-requires
+front-requires c κs = search needs
+
+by-number-requires : tie.Need-by-number-requires
+by-number-requires c κs = search needs
+
+feeds-requires : tie.Need-feeds-requires
+feeds-requires c κs = search needs
+
+add-t23 : tie.Need-add-t23
+add-t23 c =
+    let at-feeds = c .before in
+    let args = begin at-feeds .args in
+    let all = both (args .p) (first at-feeds .front .result) (read at-feeds .by-number .result) (begin at-feeds .pre)
+    (first at-feeds .front .ensures (tables at-feeds) (args .mode)) (read at-feeds .by-number .ensures) (fed (tables at-feeds) (family (args .encoding)) (read at-feeds .by-number .ensures) (at-feeds .feeds .ensures)) in
+    omega (arith, counting-fewer all, all .going .here .fits)
 
 same-length-3 : tie.Need-same-length-3
 same-length-3 c = search needs
 
 returns-3 : tie.Need-returns-3
 returns-3 c =
-    let args = past-2 (c .before .before .before .before .before) .args in
-    rw (family-single-byte (args .encoding) (omega arith) (omega arith) (omega arith)) (c .before .before .single-byte-run .ensures)
-
-iso-2022-jp-run-requires : tie.Need-iso-2022-jp-run-requires
-iso-2022-jp-run-requires c κs = search needs
-
-same-length-4 : tie.Need-same-length-4
-same-length-4 c = search needs
-
-returns-4 : tie.Need-returns-4
-returns-4 c =
-    let args = past-3 (c .before .before .before .before .before) .args in
-    rw (family-iso-2022-jp (args .encoding) (omega arith)) (c .before .before .iso-2022-jp-run .ensures)
-
-pairs-run-requires : tie.Need-pairs-run-requires
-pairs-run-requires c κs = search needs
-
-same-length-5 : tie.Need-same-length-5
-same-length-5 c = search needs
-
-returns-5 : tie.Need-returns-5
-returns-5 c = c .before .before .pairs-run .ensures
-
-utf-16-run-requires : tie.Need-utf-16-run-requires
-utf-16-run-requires c κs = search needs
-
-same-length-6 : tie.Need-same-length-6
-same-length-6 c = search needs
-
-returns-6 : tie.Need-returns-6
-returns-6 c =
-    let args = past-5 (c .before .before .before .before .before) .args in
-    rw (family-utf-16be (args .encoding) (omega arith)) (c .before .before .utf-16-run .ensures (lent (args .t1 .now) (args .t2 .now)))
-
-utf-16-run-requires-2 : tie.Need-utf-16-run-requires-2
-utf-16-run-requires-2 c κs = search needs
-
-same-length-7 : tie.Need-same-length-7
-same-length-7 c = search needs
-
-returns-7 : tie.Need-returns-7
-returns-7 c =
-    let args = past-6 (c .before .before .before .before .before) .args in
-    rw (family-utf-16le (args .encoding) (omega arith)) (c .before .before .utf-16-run2 .ensures (lent (args .t1 .now) (args .t2 .now)))
-
-returns-8 : tie.Need-returns-8
-returns-8 c =
-    let args = past-6 (c .before) .args in
-    runs-none (lent (args .t1 .now) (args .t2 .now)) (family (args .encoding))
+    let at-feeds = c .before in
+    let args = begin at-feeds .args in
+    counts-on (args .p) (first at-feeds .front .result) (read at-feeds .by-number .result) (begin at-feeds .pre)
+    (first at-feeds .front .ensures (tables at-feeds) (args .mode)) (read at-feeds .by-number .ensures) (fed (tables at-feeds) (family (args .encoding)) (read at-feeds .by-number .ensures) (at-feeds .feeds .ensures))
 
 pub run-spec : {M : Type 1} → statement M
 run-spec =
     tie.close
     (tie.spec
-    utf8-run-requires
+    utf-16-run-requires
     same-length
     returns
-    windows-1252-run-requires
+    utf-16-run-requires-2
     same-length-2
     returns-2
-    single-byte-run-requires
+    front-requires
+    by-number-requires
+    feeds-requires
+    add-t23
     same-length-3
-    returns-3
-    iso-2022-jp-run-requires
-    same-length-4
-    returns-4
-    pairs-run-requires
-    same-length-5
-    returns-5
-    utf-16-run-requires
-    same-length-6
-    returns-6
-    utf-16-run-requires-2
-    same-length-7
-    returns-7
-    returns-8)
+    returns-3)

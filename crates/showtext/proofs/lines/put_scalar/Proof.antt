@@ -1,5 +1,4 @@
-use mathlib.Core.Path.{refl, _∙_}
-use mathlib.Core.Logic.{inr}
+use mathlib.Core.Path.{_∙_}
 use Rattle.showtext.proofs.Texts.{put-scalar}
 use Rattle.showtext.proofs.Numbers.{count-few, hexadecimal-few}
 use Prim.Native.Nat.{_+_, _≤_}
@@ -34,38 +33,36 @@ add-out-2 c = record { fits = omega (arith, left (c .before .before), c .before 
 slice-write-out-3 : tie.Need-slice-write-out-3
 slice-write-out-3 c = simp length-set (omega (arith, left (c .before .before)))
 
-add-put-digits : tie.Need-add-put-digits
-add-put-digits c = record { fits = omega (arith, left (c .before .before .before), c .before .before .before .put-count .kept .0) }
+add-put-hexadecimal : tie.Need-add-put-hexadecimal
+add-put-hexadecimal c = record { fits = omega (arith, left (c .before .before .before), c .before .before .before .put-count .kept .0) }
 
-put-digits-requires : tie.Need-put-digits-requires
-put-digits-requires c κs =
-    let args = start (c .before .before .before) .args in
-    (inr refl, simp length-set (omega (arith, left (c .before .before .before), hexadecimal-few (args .c))))
+put-hexadecimal-requires : tie.Need-put-hexadecimal-requires
+put-hexadecimal-requires c κs = simp length-set (omega (arith, left (c .before .before .before)))
 
 slice-write-out-4 : tie.Need-slice-write-out-4
 slice-write-out-4 c =
     let args = start (c .before .before .before .before .before .before) .args in
-    let at-put-digits = c .before .before .put-digits in
-    omega (arith, left (c .before .before .before .before .before .before), hexadecimal-few (args .c), at-put-digits .ensures .behind, simp length-set at (at-put-digits .kept .0))
+    let at-put-hexadecimal = c .before .before .put-hexadecimal in
+    omega (arith, left (c .before .before .before .before .before .before), hexadecimal-few (args .c), at-put-hexadecimal .ensures .behind, simp length-set at (at-put-hexadecimal .kept .0))
 
 add-result : tie.Need-add-result
 add-result c =
     let args = start (c .before .before .before .before .before .before) .args in
     let at-put-count = c .before .before .before .before .before .before .put-count in
-    record { fits = omega (arith, left (c .before .before .before .before .before .before), hexadecimal-few (args .c), at-put-count .kept .0, c .before .before .put-digits .ensures .behind) }
+    record { fits = omega (arith, left (c .before .before .before .before .before .before), hexadecimal-few (args .c), at-put-count .kept .0, c .before .before .put-hexadecimal .ensures .behind) }
 
 same-length : tie.Need-same-length
 same-length c =
     let at-put-count = c .before .before .before .before .before .before .put-count in
-    let at-put-digits = c .before .before .put-digits in
-    simp length-set (simp length-set at (at-put-digits .kept .0) ∙ at-put-count .kept .0)
+    let at-put-hexadecimal = c .before .before .put-hexadecimal in
+    simp length-set (simp length-set at (at-put-hexadecimal .kept .0) ∙ at-put-count .kept .0)
 
 returns : tie.Need-returns
 returns c =
     let args = start (c .before .before .before .before .before .before) .args in
     let at-put-count = c .before .before .before .before .before .before .put-count in
-    let at-put-digits = c .before .before .put-digits in
-    put-scalar (args .out .now) (args .at) (args .n) (args .c) (at-put-count .ensures) (at-put-digits .ensures)
+    let at-put-hexadecimal = c .before .before .put-hexadecimal in
+    put-scalar (args .out .now) (args .at) (args .n) (args .c) (at-put-count .ensures) (at-put-hexadecimal .ensures)
 
 pub put-scalar-spec : {M : Type 1} → statement M
 put-scalar-spec =
@@ -77,8 +74,8 @@ put-scalar-spec =
     slice-write-out-2
     add-out-2
     slice-write-out-3
-    add-put-digits
-    put-digits-requires
+    add-put-hexadecimal
+    put-hexadecimal-requires
     slice-write-out-4
     add-result
     same-length

@@ -1,0 +1,61 @@
+use borrow.Author.Tests.{eq-eqb, ne-eqb}
+use native.Mathlib.Omega.{arith}
+use Rattle.decoder.specs.Valid.{isoCost}
+use Rattle.decoder.proofs.refusals.iso_cost.Statement.{statement}
+use Rattle.decoder.proofs.refusals.iso_cost.Tie as tie
+
+returns : tie.Need-returns
+unfolding isoCost
+returns c =
+    let args = c .before .args in
+    rw (eq-eqb (args .flag) 1 (omega arith))
+
+returns-2 : tie.Need-returns-2
+unfolding isoCost
+returns-2 c =
+    let args = c .before .before .args in
+    rw (ne-eqb (args .flag) 1 (omega arith), eq-eqb (args .state) 0 (omega arith))
+
+returns-3 : tie.Need-returns-3
+unfolding isoCost
+returns-3 c =
+    let args = c .before .before .before .args in
+    rw (ne-eqb (args .flag) 1 (omega arith), ne-eqb (args .state) 0 (omega arith), eq-eqb (args .state) 1 (omega arith))
+
+returns-4 : tie.Need-returns-4
+unfolding isoCost
+returns-4 c =
+    let args = c .before .before .before .before .args in
+    rw (
+      ne-eqb (args .flag) 1 (omega arith),
+      ne-eqb (args .state) 0 (omega arith),
+      ne-eqb (args .state) 1 (omega arith),
+      eq-eqb (args .state) 2 (omega arith),
+    )
+
+returns-5 : tie.Need-returns-5
+unfolding isoCost
+returns-5 c =
+    let args = c .before .before .before .before .before .args in
+    rw (
+      ne-eqb (args .flag) 1 (omega arith),
+      ne-eqb (args .state) 0 (omega arith),
+      ne-eqb (args .state) 1 (omega arith),
+      ne-eqb (args .state) 2 (omega arith),
+      eq-eqb (args .mode) 0 (omega arith),
+    )
+
+returns-6 : tie.Need-returns-6
+unfolding isoCost
+returns-6 c =
+    let args = c .before .before .before .before .before .args in
+    rw (
+      ne-eqb (args .flag) 1 (omega arith),
+      ne-eqb (args .state) 0 (omega arith),
+      ne-eqb (args .state) 1 (omega arith),
+      ne-eqb (args .state) 2 (omega arith),
+      ne-eqb (args .mode) 0 (omega arith),
+    )
+
+pub iso-cost-spec : {M : Type 1} → statement M
+iso-cost-spec = tie.close (tie.spec returns returns-2 returns-3 returns-4 returns-5 returns-6)

@@ -1,0 +1,29 @@
+-- What functions within a step answer. A wrong line here would break a proof. Assumes nothing.
+use mathlib.Core.List.{List, _++_}
+use Prim.Native.Nat.{ℕ, _+_}
+use lib.Dec.{ltb, eqb}
+use lib.ListN.{length}
+use Rattle.standard.specs.Base.{_then_else_}
+use Rattle.standard.specs.Text.{bytes}
+use Rattle.standard.specs.Encodings.{noTables}
+use Rattle.labels_spec.specs.Labels.{label, name}
+use Rattle.decoder.specs.Calls.{feeding}
+use Rattle.decoder.specs.declared.Decoder.{Decoder}
+use Rattle.showtext.specs.Output.{firstLine, line, refused}
+use Rattle.showtext.specs.Program.{Leaves, leave, linesOf}
+
+-- The refusal of a first line, or 0.
+abbrev pub labelRefusal : List ℕ → ℕ
+labelRefusal input = ltb 255 (length (firstLine input)) then 1 else label (firstLine input) .refusal
+
+-- The line of an encoding's name.
+abbrev pub heading : ℕ → List ℕ
+heading e = line (bytes "encoding") (name e)
+
+-- A feed with empty tables: behind a heading the lines of its scalars, n having come before, or the line of its refusal.
+unfoldable pub feedingOn : List ℕ → Decoder → ℕ → List ℕ → List ℕ → List ℕ → Leaves
+feedingOn us d n chunk room out =
+    let fed = feeding d noTables chunk room in
+    let a = fed .answer in
+    eqb (a .refusal) 0 then leave (a .decoder) (n + a .written) 0 (us ++ linesOf n fed) (fed .room) out else
+    leave d 0 (a .refusal) (refused (a .refusal)) (fed .room) out
