@@ -21,6 +21,7 @@
  *         if (hamvukile_version() != HAMVUKILE_VERSION_NUMBER) return 1;
  *         hamvukile_found found = hamvukile_label((const uint8_t *)" Latin1", 7);
  *         if (found.refusal != 0) return 1;
+ *         if (hamvukile_check(found.encoding, text, 3, NULL, 0, NULL, 0).clean == 0) puts("with errors");
  *         hamvukile_answer answer = hamvukile_open(found.encoding, HAMVUKILE_REPLACING, HAMVUKILE_DROP_MARK);
  *         answer = hamvukile_feed(answer.decoder, text, 3, NULL, 0, NULL, 0, room, 3);
  *         if (answer.refusal != 0) return 1;
@@ -258,6 +259,22 @@ hamvukile_answer hamvukile_feed(hamvukile_decoder decoder, const uint8_t *chunk,
  * Refusals: HAMVUKILE_FORGED_DECODER, HAMVUKILE_ENDED_DECODER, HAMVUKILE_SMALL_ROOM, in this order; then, in refusing
  * mode, HAMVUKILE_MALFORMED. */
 hamvukile_answer hamvukile_finish(hamvukile_decoder decoder, uint32_t *room, size_t room_length);
+
+/* What `hamvukile_check` answers. */
+typedef struct {
+    uint32_t place;  /* where the text is not clean the bytes before the first byte of the sequence at fault; else 0 */
+    uint32_t line;   /* where it is not clean the line of that: one plus the line feeds (U+000A) before it; else 0 */
+    uint8_t refusal; /* 0 or a refusal */
+    uint8_t clean;   /* 1 where the text is clean; 0 where it is not, and where the call is refused */
+} hamvukile_checked;
+
+/* Is a text, of at most HAMVUKILE_MAX_CHUNK bytes, clean? It is where opening with HAMVUKILE_REFUSING and
+ * HAMVUKILE_DROP_MARK, a feed of the whole text and a finish give no HAMVUKILE_MALFORMED; else place and line are those
+ * that come with it. A U+FFFD that is text is no error, and an unfinished sequence at the end is one. The call is lent
+ * no room: it has one of 32 KB on the stack. Refusals: HAMVUKILE_UNKNOWN_ENCODING, HAMVUKILE_WRONG_TABLE,
+ * HAMVUKILE_TOO_LONG, in this order. */
+hamvukile_checked hamvukile_check(uint8_t encoding, const uint8_t *text, size_t length, const uint32_t *first,
+                                  size_t first_length, const uint32_t *second, size_t second_length);
 
 /* ---- Encoding -------------------------------------------------------------------------------------------------- */
 

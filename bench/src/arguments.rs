@@ -9,15 +9,17 @@ pub const HELP: &str = include_str!("../help.txt");
 pub enum Part {
     Decode,
     Short,
+    Check,
     Write,
     Empty,
     Labels,
     Indexes,
 }
 
-const PARTS: [(&str, Part); 6] = [
+const PARTS: [(&str, Part); 7] = [
     ("decode", Part::Decode),
     ("short", Part::Short),
+    ("check", Part::Check),
     ("write", Part::Write),
     ("empty", Part::Empty),
     ("labels", Part::Labels),

@@ -2,6 +2,7 @@
 
 mod arguments;
 mod calls;
+mod check;
 mod data;
 mod decode;
 mod decoders;
@@ -31,6 +32,9 @@ const SHORT: [&str; 8] = [
     "utf-16le-dense",
     "iso-2022-jp-dense",
 ];
+
+/// The longest lists of a check.
+const CHECKED: [usize; 4] = [512, 4096, 16384, 65536];
 
 /// The inputs that are written again.
 const WRITTEN: [&str; 8] = [
@@ -108,6 +112,28 @@ fn short_part(arguments: &Arguments, indexes: &Indexes, counts: &mut Counts) -> 
     Ok(())
 }
 
+fn check_part(arguments: &Arguments, indexes: &Indexes, counts: &mut Counts) -> Result<(), String> {
+    check::head(arguments.size);
+    for input in chosen(arguments)? {
+        if !input.valid() {
+            continue;
+        }
+        let text = inputs::make(&input, indexes, arguments.size);
+        for most in CHECKED {
+            check::measure(
+                &input.name,
+                input.encoding,
+                &text,
+                most,
+                indexes,
+                arguments.rounds,
+                counts,
+            );
+        }
+    }
+    Ok(())
+}
+
 fn write_part(arguments: &Arguments, indexes: &Indexes, counts: &mut Counts) -> Result<(), String> {
     table::head(&format!(
         "Writer: {} KiB to write in calls of {} scalars; the rates are of the bytes written",
@@ -150,6 +176,9 @@ fn run(arguments: &Arguments) -> Result<(), String> {
     }
     if arguments.has(Part::Short) {
         short_part(arguments, &indexes, &mut counts)?;
+    }
+    if arguments.has(Part::Check) {
+        check_part(arguments, &indexes, &mut counts)?;
     }
     if arguments.has(Part::Write) {
         write_part(arguments, &indexes, &mut counts)?;

@@ -210,6 +210,50 @@ static void places(void) {
     PLACE("replacement: the first byte", 36, "\nA", 0, 1);
 }
 
+static hamvukile_checked check_text(uint8_t encoding, tables t, const char *text, size_t n) {
+    return hamvukile_check(encoding, (const uint8_t *)text, n, t.first, t.first_length, t.second, t.second_length);
+}
+
+static void checked_as(const char *what, hamvukile_checked c, uint8_t refusal, uint8_t clean, uint32_t place, uint32_t line) {
+    check(what, c.refusal == refusal && c.clean == clean && c.place == place && c.line == line);
+}
+
+#define CLEAN(what, encoding, bytes) checked_as(what, check_text(encoding, tables_of(encoding), BYTES(bytes)), 0, 1, 0, 0)
+#define FAULT(what, encoding, bytes, at, line) checked_as(what, check_text(encoding, tables_of(encoding), BYTES(bytes)), 0, 0, at, line)
+#define REFUSED(what, encoding, t, n, refusal) checked_as(what, check_text(encoding, t, long_text, n), refusal, 0, 0, 0)
+
+/* Lists that are clean and lists that are not, short ones and long ones, and the refusals with their order. */
+static void lists(void) {
+    static char long_text[65537];
+    tables none = tables_of(0), wrong = tables_of(1);
+    int e;
+    for (e = 0; e <= HAMVUKILE_MAX_ENCODING; e++) CLEAN("clean: no bytes", (uint8_t)e, "");
+    CLEAN("clean: UTF-8", 0, "\xEF\xBB\xBF" "a\tb\n\xF0\x9F\x92\xA9\n");
+    CLEAN("clean: a U+FFFD that is text", 0, "a\xEF\xBF\xBD\n");
+    CLEAN("clean: a U+FFFD of UTF-16LE that is text", 38, "\xFD\xFF");
+    CLEAN("clean: windows-1252 has no errors", 21, "\x80\x81\xFF");
+    FAULT("a lone byte in the third line", 0, "a\nb\n\xFF\n", 4, 3);
+    FAULT("a dropped mark counts", 0, "\xEF\xBB\xBF\n\xE2\x82x", 4, 2);
+    FAULT("an unfinished sequence at the end", 0, "ab\n\xF0\x9F\x92", 3, 2);
+    FAULT("one byte of UTF-16BE at the end", 37, "\x00\x0A\x00", 2, 2);
+    FAULT("Shift_JIS: a bad trail", 34, "A\n\x82\n", 2, 2);
+    FAULT("ISO-2022-JP: the second of two escapes", 33, "\n\x1B(B\x1B(B", 4, 2);
+    FAULT("replacement: the first byte", 36, "\nA", 0, 1);
+    FAULT("an unmapped byte", 1, "a\x80", 1, 1);
+    memset(long_text, 'a', sizeof long_text);
+    long_text[10] = '\n';
+    REFUSED("clean: 2", 40, none, 1, HAMVUKILE_UNKNOWN_ENCODING);
+    REFUSED("clean: 4", 0, wrong, 1, HAMVUKILE_WRONG_TABLE);
+    REFUSED("clean: 8", 0, none, 65537, HAMVUKILE_TOO_LONG);
+    REFUSED("clean: 2 before 4 and 8", 40, wrong, 65537, HAMVUKILE_UNKNOWN_ENCODING);
+    REFUSED("clean: 4 before 8", 0, wrong, 65537, HAMVUKILE_WRONG_TABLE);
+    REFUSED("clean: 2 before 8", 255, none, 65537, HAMVUKILE_UNKNOWN_ENCODING);
+    checked_as("clean: 65,536 bytes", check_text(0, none, long_text, 65536), 0, 1, 0, 0);
+    long_text[65535] = '\xE2';
+    checked_as("an unfinished sequence behind 65,535 bytes", check_text(0, none, long_text, 65536), 0, 0, 65535, 2);
+    checked_as("clean: the bytes before it", check_text(0, none, long_text, 65535), 0, 1, 0, 0);
+}
+
 /* Sample 15, and what else a writer answers. */
 static void writing(void) {
     static const uint32_t han[] = { 0x4E00 }, text[] = { 0x41, 0x4E00 }, surrogate[] = { 0x4E00, 0xD800 };
@@ -374,7 +418,7 @@ static void constants(void) {
     check("the version", strcmp(version, HAMVUKILE_VERSION) == 0);
     check("the version's number", HAMVUKILE_VERSION_NUMBER == 10000 * HAMVUKILE_VERSION_MAJOR + 100 * HAMVUKILE_VERSION_MINOR + HAMVUKILE_VERSION_PATCH);
     check("the library's version", hamvukile_version() == HAMVUKILE_VERSION_NUMBER);
-    check("the sizes of the records", sizeof(hamvukile_decoder) == 20 && sizeof(hamvukile_answer) == 40);
+    check("the sizes of the records", sizeof(hamvukile_decoder) == 20 && sizeof(hamvukile_answer) == 40 && sizeof(hamvukile_checked) == 12);
 }
 
 /* A line, and what the call answers. */
@@ -416,6 +460,7 @@ int main(void) {
     part("sample readings 1 to 14 in every cut", samples);
     part("user rows of Shift_JIS in every cut", user_rows);
     part("places and lines of errors in every cut", places);
+    part("clean lists", lists);
     part("writing, with sample 15", writing);
     part("refusals, with sample 16", refusals);
     part("labels and names", labels);

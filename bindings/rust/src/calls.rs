@@ -1,6 +1,6 @@
 //! The calls of `include/hamvukile.h`, with slices for pointers and lengths. They answer as they do through C.
 
-use crate::ffi::{self, Answer, Decoder, Found, Line, Named, Written};
+use crate::ffi::{self, Answer, Checked, Decoder, Found, Line, Named, Written};
 
 #[inline]
 pub fn version() -> u32 {
@@ -60,6 +60,22 @@ pub fn feed(
 pub fn finish(decoder: Decoder, room: &mut [u32]) -> Answer {
     // SAFETY: the slice is valid for its length.
     unsafe { ffi::hamvukile_finish(decoder, room.as_mut_ptr(), room.len()) }
+}
+
+#[inline]
+pub fn check(encoding: u8, text: &[u8], first: &[u32], second: &[u32]) -> Checked {
+    // SAFETY: each slice is valid for its length.
+    unsafe {
+        ffi::hamvukile_check(
+            encoding,
+            text.as_ptr(),
+            text.len(),
+            first.as_ptr(),
+            first.len(),
+            second.as_ptr(),
+            second.len(),
+        )
+    }
 }
 
 #[inline]

@@ -47,6 +47,14 @@ pub struct Answer {
 }
 
 #[repr(C)]
+pub struct Checked {
+    pub place: u32,
+    pub line: u32,
+    pub refusal: u8,
+    pub clean: u8,
+}
+
+#[repr(C)]
 pub struct Written {
     pub written: usize,
     pub index: usize,
@@ -76,6 +84,15 @@ extern "C" {
         room_length: usize,
     ) -> Answer;
     pub fn hamvukile_finish(decoder: Decoder, room: *mut u32, room_length: usize) -> Answer;
+    pub fn hamvukile_check(
+        encoding: u8,
+        text: *const u8,
+        length: usize,
+        first: *const u32,
+        first_length: usize,
+        second: *const u32,
+        second_length: usize,
+    ) -> Checked;
     pub fn hamvukile_encode(
         encoding: u8,
         mode: u8,

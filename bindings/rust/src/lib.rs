@@ -24,7 +24,7 @@ mod ffi;
 use std::fmt;
 use std::ops::Deref;
 
-/// The longest chunk that [`Decoder::feed`] takes, in bytes.
+/// The longest chunk that [`Decoder::feed`] takes, and the longest text that [`check`] takes, in bytes.
 pub const MAX_CHUNK: usize = 65_536;
 /// The most scalars that [`encode`] takes.
 pub const MAX_SCALARS: usize = 16_384;
@@ -152,7 +152,8 @@ impl fmt::Display for Error {
         match (self.refusal, self.line) {
             (Refusal::Malformed, 0) => write!(f, "scalar {} cannot be written", self.index),
             (Refusal::Malformed, line) => {
-                write!(f, "malformed text in line {line}, at byte {}", self.place)
+                let place = self.place;
+                Fault { place, line }.fmt(f)
             }
             (refusal, _) => refusal.fmt(f),
         }
@@ -535,6 +536,51 @@ pub fn decode(
     let n = decoder.finish(&mut last)?;
     out.extend(last[..n].iter().map(scalar));
     Ok(out)
+}
+
+/// The first error of a text.
+#[derive(Clone, Copy, Debug, PartialEq, Eq)]
+#[non_exhaustive]
+pub struct Fault {
+    /// The bytes before the first byte of the sequence at fault.
+    pub place: u32,
+    /// The line that the sequence is in: one plus the line feeds before it.
+    pub line: u32,
+}
+
+impl fmt::Display for Fault {
+    fn fmt(&self, f: &mut fmt::Formatter<'_>) -> fmt::Result {
+        let Fault { place, line } = self;
+        write!(f, "malformed text in line {line}, at byte {place}")
+    }
+}
+
+impl std::error::Error for Fault {}
+
+/// Is a text, of at most [`MAX_CHUNK`] bytes, clean? `None` where a decoder that refuses errors and drops the mark takes
+/// all of it and its end; else the first error. A U+FFFD that is text is no error.
+///
+/// ```
+/// use hamvukile::{check, Encoding, Refusal, Tables};
+///
+/// let none = Tables::none();
+/// assert_eq!(check(Encoding::UTF_8, &none, b"a\nb\xEF\xBF\xBD\n"), Ok(None));
+/// let fault = check(Encoding::UTF_8, &none, b"a\nb\xFFc\n").unwrap().unwrap();
+/// assert_eq!((fault.place, fault.line), (3, 2));
+/// assert_eq!(fault.to_string(), "malformed text in line 2, at byte 3");
+/// // an unfinished sequence at the end
+/// assert!(check(Encoding::UTF_8, &none, b"a\xE2\x82").unwrap().is_some());
+/// assert_eq!(check(Encoding::BIG5, &none, b"a").unwrap_err().refusal, Refusal::WrongTable);
+/// ```
+pub fn check(encoding: Encoding, tables: &Tables<'_>, text: &[u8]) -> Result<Option<Fault>, Error> {
+    let answer = calls::check(encoding.0, text, tables.first, tables.second);
+    match answer.refusal {
+        0 => Ok((answer.clean == 0).then_some(Fault {
+            place: answer.place,
+            line: answer.line,
+        })),
+        n => Err(refused(n)),
+    }
 }
 
 fn scalar(c: &u32) -> char {

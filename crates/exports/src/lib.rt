@@ -5,7 +5,9 @@ ghost use Rattle.standard.specs.Encodings.{lent};
 ghost use Rattle.labels_spec.specs.Labels.{label, naming};
 ghost use Rattle.index_spec.specs.IndexCall.{indexLine};
 ghost use Rattle.decoder.specs.Calls.{opening, feeding, finishing};
+ghost use Rattle.clean.specs.Checking.{checking};
 ghost use Rattle.encoder_spec.specs.Writer.{writerCall};
+use clean::Checked;
 use decoder::Answer;
 use decoder::Decoder;
 use encoder_spec::Written;
@@ -75,6 +77,19 @@ pub extern "C" fn hamvukile_finish(decoder: Decoder, room: &mut [u32]) -> Answer
     ensures { λ r. ⌜ (r ≡ finishing decoder (now (room .entry)) .answer) × (now (room .exit) ≡ finishing decoder (now (room .entry)) .room) ⌝ }
 {
     decoder.finish(room)
+}
+
+// Is a list clean?
+#[no_mangle]
+pub extern "C" fn hamvukile_check(
+    encoding: u8,
+    bytes: &[u8],
+    first: &[u32],
+    second: &[u32],
+) -> Checked
+    ensures { λ r. ⌜ r ≡ checking encoding (lent (now (first .entry)) (now (second .entry))) (now (bytes .entry)) ⌝ }
+{
+    clean::check(encoding, bytes, first, second)
 }
 
 // Writing.

@@ -1,5 +1,5 @@
 -- The single-byte encodings, byte by byte and by a table. Assumes nothing.
-use mathlib.Core.Path.{_≡_, refl, ap, subst, _∙_}
+use mathlib.Core.Path.{_≡_, refl, sym, ap, subst, _∙_}
 use mathlib.Core.Bool.{Bool, true, false}
 use mathlib.Core.List.{List, [], _∷_}
 use Prim.Native.Nat.{ℕ, _+_, _-_, _%_, _≤_, _<_}
@@ -51,6 +51,10 @@ windows-gives m b xs h = gives-same (first-tells windows1252 b xs) (go (ltb b 0x
     go true q e d = rw e (gives-scalar m (single-ascii windows1252 b [] (ltb-true b 0x80 e)))
     go false true e d = rw (e, d) (gives-scalar m (windows-irregular b [] (ltb-false b 0x80 e) (ltb-true b 0xA0 d)))
     go false false e d = rw (e, d) (gives-scalar m (windows-itself b [] (ltb-false b 0xA0 d) h))
+
+-- what holds below a number, and of it
+pub below-one : (P : ℕ → Type 0) (k : ℕ) → ((j : ℕ) → j < k → P j) → P k → (j : ℕ) → j < k + 1 → P j
+below-one P k a p j l = split (eqb j k) (λ t. subst P (sym (eqb-true j k t)) p) (λ t. let z = eqb-false j k t in a j (omega arith))
 
 -- a table whose cells are its places, but so many from 128 on
 pub record Replaced (g : ℕ → ℕ) (k : ℕ) (table : List ℕ) : Type 0 where

@@ -26,6 +26,13 @@ pub record Through (v : ℕ → ℕ) (chunk : List ℕ) (from place : ℕ) (room
   pub bytes : (j : ℕ) → j < length chunk - from → getD chunk (from + j) 0 < 256
   pub wrote : room′ ≡ patch place (values (λ (j : ℕ). v (getD chunk (from + j) 0)) (length chunk - from)) room
 
+-- The first n cells of a table are scalars; those of the first n bytes from a place of the chunk on are.
+abbrev pub Gapless : List ℕ → ℕ → Type 0
+Gapless table n = (j : ℕ) → j < n → getD table j 0 ≡ 0x110000 → ⊥
+
+abbrev pub Sound : List ℕ → List ℕ → ℕ → ℕ → Type 0
+Sound table chunk from n = (j : ℕ) → j < n → getD chunk (from + j) 0 < 256 → getD table (getD chunk (from + j) 0) 0 ≡ 0x110000 → ⊥
+
 -- 256 numbers of 32 bits, and the same in the upper half of 64
 pub record Halves (low high : List ℕ) : Type 0 where
   pub small : (j : ℕ) → j < 256 → getD low j 0 < 4294967296

@@ -7,7 +7,8 @@ use runs::Place;
 use runs::ready_plain;
 ghost use mathlib.Core.Path.{_≡_};
 ghost use mathlib.Core.List.{_∷_, []};
-ghost use Prim.Native.Nat.{ℕ, _+_, _*_, _/_, _%_, _≤_, _<_};
+ghost use mathlib.Core.Bool.{true};
+ghost use Prim.Native.Nat.{ℕ, _+_, _-_, _*_, _/_, _%_, _≤_, _<_};
 ghost use lib.Dec.{ltb};
 ghost use lib.ListN.{length, getD};
 ghost use lib.Seq.{sets};
@@ -16,7 +17,7 @@ ghost use Rattle.standard.specs.Encodings.{Tables, lent, single-byte, windows-1
 ghost use Rattle.standard.specs.Indexes.{irregular};
 ghost use Rattle.runs.specs.Run.{Run, Ready, placed, patch};
 ghost use Rattle.word_runs.specs.Units.{values};
-ghost use Rattle.word_runs.specs.Bytes.{unmapped, byteScalar, windowsScalar, Halves, Same, byteOf, Through};
+ghost use Rattle.word_runs.specs.Bytes.{unmapped, byteScalar, windowsScalar, Halves, Same, byteOf, Through, Gapless, Sound};
 
 // One of two scalars, by whether a byte is ASCII.
 fn choose(b: u8, ascii: u32, other: u32) -> u32
@@ -252,6 +253,51 @@ fn windows_bytes(cells: &[u32], chunk: &[u8], from: usize, room: &mut [u32], pla
     }
 }
 
+// Is each cell of a table a scalar?
+fn gapless(table: &[u32]) -> bool
+    requires { ⌜ length (now table) ≡ 256 ⌝ }
+    ensures { λ r. ⌜ (r ≡ true → Gapless (now (table .entry)) 256) ⌝ }
+{
+    let mut b: usize = 0;
+    while b < 256 {
+        if table[b] == 0x110000 {
+            return false;
+        }
+        b += 1;
+    }
+    true
+}
+
+// Has each byte from a place on a scalar in a table?
+fn has_scalars(table: &[u32], chunk: &[u8], from: usize) -> bool
+    requires { ⌜ (length (now table) ≡ 256) × (from ≤ length (now chunk)) ⌝ }
+    ensures { λ r. ⌜ (r ≡ true → Sound (now (table .entry)) (now (chunk .entry)) from (length (now (chunk .entry)) - from)) ⌝ }
+{
+    let n = chunk.len() - from;
+    let mut k: usize = 0;
+    while k < n {
+        if table[place_of(chunk[from + k])] == 0x110000 {
+            return false;
+        }
+        k += 1;
+    }
+    true
+}
+
+// May each byte from a place on go through a table? In mode 1 none is unmapped.
+fn sound(mode: u8, table: &[u32], chunk: &[u8], from: usize) -> bool
+    requires { ⌜ (length (now table) ≡ 256) × (from ≤ length (now chunk)) ⌝ }
+    ensures { λ r. ⌜ (r ≡ true → mode ≡ 1 → Sound (now (table .entry)) (now (chunk .entry)) from (length (now (chunk .entry)) - from)) ⌝ }
+{
+    if mode != 1 {
+        return true;
+    }
+    if gapless(table) {
+        return true;
+    }
+    has_scalars(table, chunk, from)
+}
+
 // A run of a single-byte encoding, by a table where there are many bytes.
 fn single_byte_text(
     mode: u8,
@@ -265,15 +311,15 @@ fn single_byte_text(
     requires { ⌜ (128 ≤ length (now t1)) × (Ready (now chunk) from (now room) place) ⌝ }
     ensures { λ r. ⌜ Run (lent (now (t1 .entry)) (now (t2 .entry))) single-byte mode (now (chunk .entry)) (placed from place 0 0) r (now (room .entry)) (now (room .exit)) ⌝ }
 {
-    if mode == 1 {
-        return single_bytes(mode, chunk, t1, t2, from, room, place);
-    }
     let n = chunk.len() - from;
     if n < 512 {
         return single_bytes(mode, chunk, t1, t2, from, room, place);
     }
     let mut table = [0u32; 256];
     fill(mode, t1, &mut table);
+    if !sound(mode, &table, chunk, from) {
+        return single_bytes(mode, chunk, t1, t2, from, room, place);
+    }
     look_up(&table, chunk, from, room, place);
     Place {
         at: from + n,

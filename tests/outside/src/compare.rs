@@ -1,7 +1,7 @@
 //! Each call of the library beside the reference: answer, record and every cell of the room. What is expected is the
 //! reference's, what came is the library's.
 
-use crate::reference::{self, Answer, Encoded};
+use crate::reference::{self, Answer, Checked, Encoded};
 use std::fmt::Debug;
 use support::ffi::{self, Decoder as Record};
 use support::{calls, Tables};
@@ -122,6 +122,16 @@ pub fn finish(record: Record, room: usize) -> Result<Answer, String> {
     let mut cells: Vec<u32> = (0..room + BEHIND).map(cell_before).collect();
     let library = calls::finish(record, &mut cells[..room]);
     answers(library, &cells, reference::finish(record, room))
+}
+
+pub fn check(encoding: u8, text: &[u8], tables: Tables) -> Result<Checked, String> {
+    let library = calls::check(encoding, text, tables.first, tables.second);
+    let reference = reference::check(encoding, text, tables);
+    numbers("refusal", library.refusal.into(), reference.refusal.into())?;
+    numbers("clean", library.clean.into(), reference.clean.into())?;
+    numbers("place", library.place as usize, reference.place as usize)?;
+    numbers("line", library.line as usize, reference.line as usize)?;
+    Ok(reference)
 }
 
 pub fn encode(

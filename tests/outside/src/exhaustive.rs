@@ -237,8 +237,8 @@ struct Texts<'a> {
 }
 
 impl Texts<'_> {
-    /// All texts that go on from here: byte by byte, in one chunk, and with a finish. Behind a difference no longer
-    /// text is tried.
+    /// All texts that go on from here: byte by byte, in one chunk, and with a finish; in refusing mode checked, too.
+    /// Behind a difference no longer text is tried.
     fn walk(&mut self, record: Record) {
         if self.text.len() == longest(self.setting.encoding) {
             return;
@@ -258,6 +258,10 @@ impl Texts<'_> {
     }
 
     fn compare(&self, record: Record, byte: u8) -> Result<Record, String> {
+        if self.setting.mode == 1 {
+            compare::check(self.setting.encoding, &self.text, self.tables)
+                .map_err(|error| format!("checked, {error}"))?;
+        }
         let whole = fed(self.start, &self.text, self.tables)?;
         let after = fed_and_finished(record, &[byte], self.tables)
             .map_err(|error| format!("byte by byte, {error}"))?;
@@ -287,7 +291,7 @@ pub fn texts(published: &Published) -> Result<String, String> {
         compared += texts.compared;
     }
     differences.result(format!(
-        "{compared} short texts over few bytes, whole and byte by byte"
+        "{compared} short texts over few bytes, whole and byte by byte, and checked in refusing mode"
     ))
 }
 

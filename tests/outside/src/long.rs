@@ -188,6 +188,42 @@ pub fn borders(published: &Published) -> Result<String, String> {
     Ok(format!("{count} texts"))
 }
 
+/// Checked: a long good text, its fronts that end about the borders of the parts that a check feeds, and the text with a
+/// byte put in there.
+pub fn checks(published: &Published, seed: u64) -> Result<String, String> {
+    let mut random = Random::new(seed);
+    let mut count = 0;
+    for encoding in 0..40 {
+        let tables = published.tables(encoding);
+        let mut compared = |bytes: &[u8], what: String| {
+            count += 1;
+            compare::check(encoding, bytes, tables)
+                .map(|answer| answer.clean)
+                .map_err(|error| format!("{}, seed {seed}, {what}\n  {error}", name(encoding)))
+        };
+        let good = match encoding {
+            36 => Vec::new(),
+            _ => text(encoding, 20000, false, tables, &mut random),
+        };
+        compared(&good, "a good text".to_string())?;
+        let borders = [0, 512, 4096, 8192, 16384, good.len()];
+        for place in borders
+            .into_iter()
+            .flat_map(|border| border.max(5) - 5..border + 6)
+        {
+            if place > good.len() {
+                continue;
+            }
+            compared(&good[..place], format!("the first {place} bytes"))?;
+            for &byte in alphabet(encoding) {
+                let put_in = [&good[..place], &[byte], &good[place..]].concat();
+                compared(&put_in, format!("{byte:02X} put in at {place}"))?;
+            }
+        }
+    }
+    Ok(format!("{count} texts, seed {seed}"))
+}
+
 pub fn texts(published: &Published, seed: u64) -> Result<String, String> {
     let mut random = Random::new(seed);
     let lists = Lists::new(published, &mut random);

@@ -57,6 +57,7 @@ fn compare_all(number: usize, seed: u64) -> Result<(), String> {
 
 fn compare_random(tables: &data::Published, number: usize, seed: u64) -> Result<(), String> {
     show("long texts", || long::texts(tables, seed))?;
+    show("long texts checked", || long::checks(tables, seed))?;
     show("random calls", || random::calls(tables, number, seed))?;
     show("random index lines", || lines::lines(seed))
 }

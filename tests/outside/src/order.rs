@@ -182,6 +182,35 @@ fn opens(calls: &mut Calls) {
     }
 }
 
+fn checks(published: &Published, calls: &mut Calls) {
+    let order = [2, 4, 8];
+    for encoding in (0..=40).chain([255]) {
+        for set in 0..1 << order.len() {
+            let causes = causes(&order, set);
+            if causes.contains(&2) != (encoding > 39) {
+                continue;
+            }
+            for which in 0..2 {
+                for byte in [b'A', 0xFF] {
+                    let (first, second) = zeros(published, encoding, &causes, which);
+                    let length = 65536 + usize::from(causes.contains(&8));
+                    let tables = Tables {
+                        first: &first,
+                        second: &second,
+                    };
+                    let call = format!(
+                        "check {encoding}, {length} bytes {byte:02X}, tables of {} and {} cells",
+                        first.len(),
+                        second.len()
+                    );
+                    let answer = compare::check(encoding, &vec![byte; length], tables);
+                    calls.expect(&causes, call, answer.map(|answer| answer.refusal));
+                }
+            }
+        }
+    }
+}
+
 fn encodes(published: &Published, calls: &mut Calls) {
     let order = [2, 3, 9, 4, 8, 10, 7, 11];
     for encoding in (0..=40).chain([255]) {
@@ -240,9 +269,11 @@ pub fn refusals(published: &Published) -> Result<String, String> {
     let feeds = calls.compared - opens;
     finishes(published, &mut calls)?;
     let finishes = calls.compared - opens - feeds;
+    checks(published, &mut calls);
+    let checks = calls.compared - opens - feeds - finishes;
     encodes(published, &mut calls);
-    let encodes = calls.compared - opens - feeds - finishes;
+    let encodes = calls.compared - opens - feeds - finishes - checks;
     calls.differences.result(format!(
-        "{opens} openings, {feeds} feeds, {finishes} finishes, {encodes} encodings with combined causes"
+        "{opens} openings, {feeds} feeds, {finishes} finishes, {checks} checks, {encodes} encodings with combined causes"
     ))
 }

@@ -82,6 +82,12 @@ enum Call {
         room: isize,
         forge: Option<(u8, u32)>,
     },
+    Check {
+        encoding: u8,
+        text: Vec<u8>,
+        tables: usize,
+        flaw: usize,
+    },
     Encode {
         encoding: u8,
         mode: u8,
@@ -115,6 +121,19 @@ impl fmt::Display for Call {
                 )
             }
             Call::Finish { room, forge } => write!(to, "finish room {room:+} forged {forge:?}"),
+            Call::Check {
+                encoding,
+                text,
+                tables,
+                flaw,
+            } => {
+                let shown = &text[..text.len().min(40)];
+                let length = text.len();
+                write!(
+                    to,
+                    "check {encoding} {shown:02X?} ({length} bytes) tables {tables} flaw {flaw}"
+                )
+            }
             Call::Encode {
                 encoding,
                 mode,
@@ -248,6 +267,17 @@ impl Lists {
         bytes
     }
 
+    /// A text, seldom of about the most bytes that a call takes.
+    fn chunk(&self, encoding: u8, random: &mut Random) -> Vec<u8> {
+        let text = self.text(encoding, random);
+        if !random.one_in(3000) {
+            return text;
+        }
+        let length = 65535 + random.below(3);
+        let more = text.into_iter().chain([0x81, 0x41]);
+        more.cycle().take(length).collect()
+    }
+
     fn number(&self, encoding: u8, variant: usize, random: &mut Random) -> u32 {
         let table = self.tables(encoding, variant, 0).first;
         match random.below(8) {
@@ -333,6 +363,12 @@ impl Lists {
         match random.below(20) {
             0 => Call::Finish { room, forge },
             1 => self.open(random),
+            4 => Call::Check {
+                encoding,
+                text: self.chunk(encoding, random),
+                tables,
+                flaw,
+            },
             2 | 3 => {
                 let encoding = match random.below(12) {
                     0 => random.pick(&[29, 31, 33, 38, 40, 255]),
@@ -360,17 +396,7 @@ impl Lists {
                 }
             }
             _ => {
-                let mut chunk = self.text(encoding, random);
-                if random.one_in(3000) {
-                    let text = chunk.clone();
-                    let length = 65535 + random.below(3);
-                    chunk = text
-                        .into_iter()
-                        .chain([0x81, 0x41])
-                        .cycle()
-                        .take(length)
-                        .collect();
-                }
+                let chunk = self.chunk(encoding, random);
                 Call::Feed {
                     chunk,
                     tables,
@@ -527,6 +553,20 @@ impl Place<'_> {
                 let answer = compare::finish(record, room_of(record.held.into(), *room))?;
                 self.after(&[], answer, forge.is_some())
             }
+            Call::Check {
+                encoding,
+                text,
+                tables,
+                flaw,
+            } => {
+                let tables = self.lists.tables(*encoding, *tables, *flaw);
+                let copy = text.clone();
+                let answer = compare::check(*encoding, text, tables)?;
+                if copy != *text {
+                    return Err("the text is altered".to_string());
+                }
+                Ok(answer.refusal)
+            }
             Call::Encode {
                 encoding,
                 mode,
@@ -571,6 +611,7 @@ impl Lists {
                     counts.bytes += chunk.len();
                     counts.forged += usize::from(forge.is_some());
                 }
+                Call::Check { text, .. } => counts.bytes += text.len(),
                 Call::Finish { forge, .. } => counts.forged += usize::from(forge.is_some()),
                 _ => {}
             }
@@ -604,7 +645,7 @@ impl Call {
     /// The call, and the bytes or scalars that it is handed.
     fn size(&self) -> usize {
         1 + match self {
-            Call::Feed { chunk, .. } => chunk.len(),
+            Call::Feed { chunk: bytes, .. } | Call::Check { text: bytes, .. } => bytes.len(),
             Call::Encode { scalars, .. } => scalars.len(),
             Call::Open { .. } | Call::Finish { .. } => 0,
         }
@@ -613,15 +654,17 @@ impl Call {
     fn smallest(&self, fails: impl Fn(Call) -> bool) -> Call {
         let mut call = self.clone();
         match &mut call {
-            Call::Feed { chunk, .. } => {
-                let with = |bytes: &[u8]| {
+            Call::Feed { chunk: bytes, .. } | Call::Check { text: bytes, .. } => {
+                let with = |fewer: &[u8]| {
                     let mut call = self.clone();
-                    if let Call::Feed { chunk, .. } = &mut call {
-                        *chunk = bytes.to_vec();
+                    if let Call::Feed { chunk: bytes, .. } | Call::Check { text: bytes, .. } =
+                        &mut call
+                    {
+                        *bytes = fewer.to_vec();
                     }
                     call
                 };
-                *chunk = smallest(chunk, |bytes| fails(with(bytes)));
+                *bytes = smallest(bytes, |fewer| fails(with(fewer)));
             }
             Call::Encode { scalars, .. } => {
                 let with = |numbers: &[u32]| {

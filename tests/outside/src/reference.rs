@@ -1089,6 +1089,42 @@ pub fn finish(record: Record, room: usize) -> Answer {
     decoder.answer(run, decoder.ended())
 }
 
+/// What a check answers.
+pub struct Checked {
+    pub refusal: u8,
+    pub clean: bool,
+    pub place: u64,
+    pub line: u64,
+}
+
+/// Is a text clean? A new decoder in refusing mode drops the mark and reads all of it and its end.
+pub fn check(encoding: u8, text: &[u8], tables: Tables) -> Checked {
+    let answer = |refusal, clean, place, line| Checked {
+        refusal,
+        clean,
+        place,
+        line,
+    };
+    if encoding > 39 {
+        return answer(2, false, 0, 0);
+    }
+    if !fits(encoding, tables) {
+        return answer(4, false, 0, 0);
+    }
+    if text.len() > 65536 {
+        return answer(8, false, 0, 0);
+    }
+    let mut decoder = Decoder::new(encoding, 1, 0);
+    let bytes = text.iter().map(|&byte| Some(byte));
+    match decoder
+        .run(bytes.chain([None, None]).collect(), tables)
+        .error
+    {
+        None => answer(0, true, 0, 0),
+        Some(place) => answer(0, false, place, 1 + decoder.lines),
+    }
+}
+
 /// What the writer answers; `output` is what stands at the front of the room.
 pub struct Encoded {
     pub refusal: u8,
