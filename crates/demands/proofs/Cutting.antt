@@ -118,16 +118,15 @@ module _ (t : Tables) (e m : ℕ) (s₀ : Shift) where
     stops = λ o. absurd (omega arith);
   }
 
-  -- where no error was read, everything is shown, and the decoder stands where reading stands
-  follow-sound : (taken handed : List ℕ) (d : Decoder) → Stands e m d → Follows taken handed d → broken (readAll taken .items) ≡ false →
+  -- where no error is reported, everything is shown, and the decoder stands where reading stands
+  follow-sound : (taken handed : List ℕ) (d : Decoder) → Stands e m d → Follows taken handed d →
+      eqb m 1 && broken (readAll taken .items) ≡ false →
       (handed ≡ shown (readAll taken .items)) ×
       (d ≡ holding e m (length taken) (lineFeeds handed) (readAll taken .shift) (readAll taken .rest))
   follow-sound taken handed d (reads n l s xs w) i b =
       let p = here taken n l s xs (few e m s xs w) (i .tracks) in
       (i .shows refl .1, λ j. holding e m (i .counts .bytes j) (i .counts .feeds j) (sym p j .shift) (sym p j .rest))
-  follow-sound taken handed d (ended n l) i b =
-      let q : eqb m 1 && false ≡ true = rw b at (i .stops refl .0) in
-      absurd (subst T (sym (sym (and-false (eqb m 1)) ∙ q)) tt)
+  follow-sound taken handed d (ended n l) i b = absurd (subst T (sym (i .stops refl .0) ∙ b) tt)
 
 -- After feeds with one pair of tables, refused ones among them.
 pub feeds-follow : (t : Tables) (e m rule : ℕ) → openRefusal e m rule ≡ 0 → (cs : List Call) → AllFeeds t cs → let h = after (start e m rule) cs in Follows t e m (newShift e rule) (h .taken) (h .handed) (h .decoder)
@@ -137,7 +136,7 @@ feeds-follow t e m rule o cs a =
     (follow-new t e m (newShift e rule)))
 
 pub feeds-give : (t : Tables) (e m rule : ℕ) → openRefusal e m rule ≡ 0 → (cs : List Call) → AllFeeds t cs →
-    let h = after (start e m rule) cs in let r = readAll t e m (newShift e rule) (h .taken) in broken (r .items) ≡ false →
+    let h = after (start e m rule) cs in let r = readAll t e m (newShift e rule) (h .taken) in eqb m 1 && broken (r .items) ≡ false →
     (h .handed ≡ shown (r .items)) × (h .decoder ≡ holding e m (length (h .taken)) (lineFeeds (h .handed)) (r .shift) (r .rest))
 feeds-give t e m rule o cs a b =
     let h = after (start e m rule) cs in

@@ -12,3 +12,4 @@ pub mod Rooms
 pub mod Samples
 pub mod Orders
 pub mod Theorems
+pub mod Fields

@@ -1,6 +1,6 @@
 -- What a call does to a history, by cases, and the induction over every list of calls. Assumes nothing.
 use mathlib.Core.Path.{_≡_, refl, sym, ap, _∙_, subst}
-use mathlib.Core.Bool.{Bool, true, false, not, _&&_}
+use mathlib.Core.Bool.{Bool, true, false, not, _&&_, and-false}
 use mathlib.Core.List.{List, [], _∷_, _++_, append-nil}
 use Prim.Native.Nat.{ℕ, _+_, _-_, _≤_}
 use lib.Dec.{T, ltb, eqb}
@@ -8,8 +8,8 @@ use lib.ListN.{length, take, drop}
 use lib.Seq.{take-append-seam}
 use borrow.Author.Tests.{eqb-true}
 use Rattle.standard.specs.Base.{_then_else_, lineFeeds}
-use Rattle.standard.specs.Encodings.{family, Tables, noTables, fits}
-use Rattle.standard.specs.Sequence.{Shift, more}
+use Rattle.standard.specs.Encodings.{family, traits, Tables, noTables, fits}
+use Rattle.standard.specs.Sequence.{Shift, more, shift, plain}
 use Rattle.standard.specs.Next.{next}
 use Rattle.standard.specs.Decode.{Item, Read, decode, ending, shown, broken, before, reach}
 use Rattle.standard.proofs.FamilyLaws.{keeps, next-laws}
@@ -330,3 +330,7 @@ refused-opening e m rule h = rw h
 
 pub stands-new : (e m rule : ℕ) → Stands e m (holding e m 0 0 (newShift e rule) [])
 stands-new e m rule = reads 0 0 (newShift e rule) [] (empty noTables (family e) (newShift e rule))
+
+-- a new decoder that keeps the mark has no shift
+pub kept-new : (e : ℕ) → newShift e 1 ≡ plain
+kept-new e = ap (λ (b : Bool). shift 0 b) (and-false (traits (family e) .mark))

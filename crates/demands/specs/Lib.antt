@@ -3,3 +3,4 @@ pub mod Statements
 pub mod Whole
 pub mod Samples
 pub mod Orders
+pub mod Fields

@@ -1,6 +1,6 @@
 -- Reading back: what the writer's call wrote in refusing mode goes through the decoder's calls. Assumes nothing.
 use mathlib.Core.Path.{_≡_, refl, ap, _∙_}
-use mathlib.Core.Bool.{Bool, true, not, and-false}
+use mathlib.Core.Bool.{true, not, and-false}
 use mathlib.Core.List.{List, [], _++_, append-nil, map}
 use mathlib.Core.Option.{Option, some, none}
 use Prim.Native.Nat.{ℕ, suc, _≤_}
@@ -10,17 +10,18 @@ use lib.ListN.{length, drop}
 use lib.Seq.{take-append-seam}
 use borrow.Author.Tests.{ltb-false, le-ltb, not-false}
 use Rattle.standard.specs.Base.{lineFeeds, scalars}
-use Rattle.standard.specs.Encodings.{Family, family, traits, Tables, fits}
+use Rattle.standard.specs.Encodings.{Family, family, Tables, fits}
 use Rattle.standard.specs.Machine.{Result}
 use Rattle.standard.specs.Encoders.{encoder}
 use Rattle.standard.specs.Sequence.{shift, plain}
 use Rattle.standard.specs.Next.{next}
-use Rattle.standard.specs.Decode.{Read, decode, oneError, ending, shown, broken, everything}
+use Rattle.standard.specs.Decode.{Read, decode, oneError, ending, shown, everything}
 use Rattle.decoder.specs.Record.{holding, closed, newShift}
 use Rattle.decoder.specs.Calls.{openRefusal}
 use Rattle.demands.specs.Histories.{Call, after, start}
 use Rattle.demands.specs.Statements.{Piece, joined, cutting, account, Accepts, AllFeeds}
 use Rattle.demands.specs.Whole.{dealt, wholeAccount}
+use Rattle.demands.proofs.Steps.{kept-new}
 use Rattle.demands.proofs.Cutting.{cut-is-whole, feeds-give}
 use Rattle.encoder_spec.specs.Writer.{Writing, writing, Outcome, refuse, answerOf, write, writeBy, writerCall}
 use Rattle.encoder_spec.proofs.Encoders.{choose, Encodes, by-utf8, by-table, by-windows-1252, by-user, encodes}
@@ -75,10 +76,6 @@ call-good e t cs room = choose (Fine e t cs) (ltb 39 e) (λ h. refused 1 room) (
         choose (Fine e t cs) (ltb (length room) (length (writing encode 1 cs .bytes))) (λ _. refused 6 room) (λ _. wrote room encode n h (not-false (scalars cs) s)))))
         (λ _. refused 3 room)
 
--- a new decoder that keeps the mark
-kept : (e : ℕ) → newShift e 1 ≡ plain
-kept e = ap (λ (b : Bool). shift 0 b) (and-false (traits (family e) .mark))
-
 opens : (e m : ℕ) → e ≤ 39 → m ≤ 1 → openRefusal e m 1 ≡ 0
 unfolding openRefusal
 opens e m p q = rw (le-ltb 39 e p, le-ltb 1 m q)
@@ -86,13 +83,13 @@ opens e m p q = rw (le-ltb 39 e p, le-ltb 1 m q)
 -- Such bytes through the decoder's calls.
 module _ (e m : ℕ) (t : Tables) (cs bs : List ℕ) (m-number : m ≤ 1) (g : Good e t cs bs) where
   new-reads : (xs : List ℕ) → xs ≡ bs → decode (next t (family e)) (newShift e 1) xs ≡ readAll (g .encode) cs
-  new-reads xs q = rw (kept e, q) (g .reads)
+  new-reads xs q = rw (kept-new e, q) (g .reads)
 
   fed : (calls : List Call) → AllFeeds t calls → after (start e m 1) calls .taken ≡ bs →
       (after (start e m 1) calls .handed ≡ cs) × (after (start e m 1) calls .decoder ≡ holding e m (length bs) (lineFeeds cs) plain [])
   fed calls a q =
       let d = new-reads (after (start e m 1) calls .taken) q in
-      let f = feeds-give t e m 1 (opens e m (g .number) m-number) calls a (ap (λ (r : Read). broken (r .items)) d ∙ single-whole (g .encode) cs) in
+      let f = feeds-give t e m 1 (opens e m (g .number) m-number) calls a (rw (d, single-whole (g .encode) cs) (and-false (eqb m 1))) in
       let out = f .0 ∙ ap (λ (r : Read). shown (r .items)) d ∙ single-shown (g .encode) cs in
       (out, f .1 ∙ (λ i. holding e m (length (q i)) (lineFeeds (out i)) (d i .shift) (d i .rest)))
 

@@ -3,13 +3,14 @@
 //! Arguments, each with its default where it may be left out:
 //!
 //! - `[NUMBER [SEED]]`: every comparison; the number of random calls (1000000) and their seed (1).
-//! - `random [NUMBER [SEED]]`: the random calls and random index lines alone.
+//! - `random [NUMBER [SEED]]`: long texts, fields, random calls and random index lines alone.
 //! - `showtext PROGRAM [SEED]`: the program `showtext` beside the reference; the seed of its random inputs (1).
 
 mod compare;
 mod data;
 mod differences;
 mod exhaustive;
+mod fields;
 mod labels;
 mod lines;
 mod long;
@@ -58,6 +59,7 @@ fn compare_all(number: usize, seed: u64) -> Result<(), String> {
 fn compare_random(tables: &data::Published, number: usize, seed: u64) -> Result<(), String> {
     show("long texts", || long::texts(tables, seed))?;
     show("long texts checked", || long::checks(tables, seed))?;
+    show("fields", || fields::fields(tables, seed))?;
     show("random calls", || random::calls(tables, number, seed))?;
     show("random index lines", || lines::lines(seed))
 }

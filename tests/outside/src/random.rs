@@ -249,7 +249,7 @@ impl Lists {
         self.lent[usize::from(encoding.min(39))][variant].with(flaw)
     }
 
-    fn text(&self, encoding: u8, random: &mut Random) -> Vec<u8> {
+    pub fn text(&self, encoding: u8, random: &mut Random) -> Vec<u8> {
         let length = match random.below(12) {
             0 => 0,
             1 => random.below(60),
@@ -409,6 +409,11 @@ impl Lists {
     }
 }
 
+/// Is the encoding one of demand 3's first part?
+pub fn keeps_separators(encoding: u8) -> bool {
+    !matches!(encoding, 33 | 36 | 37 | 38)
+}
+
 /// The bytes taken and the scalars handed out since the last opening.
 #[derive(Default)]
 struct Taken {
@@ -431,7 +436,7 @@ impl Taken {
             .extend(chunk.iter().map(|&byte| u32::from(byte)).filter(below));
         self.scalars_below_30
             .extend(output.iter().copied().filter(below));
-        let all = self.mode == 0 && !matches!(self.encoding, 33 | 36 | 37 | 38);
+        let all = self.mode == 0 && keeps_separators(self.encoding);
         if all && self.bytes_below_30 != self.scalars_below_30 {
             return Err("demand 3: a byte below 30 is lost or invented".to_string());
         }
