@@ -271,7 +271,7 @@ typedef struct {
 /* Is a text, of at most HAMVUKILE_MAX_CHUNK bytes, clean? It is where opening with HAMVUKILE_REFUSING and
  * HAMVUKILE_DROP_MARK, a feed of the whole text and a finish give no HAMVUKILE_MALFORMED; else place and line are those
  * that come with it. A U+FFFD that is text is no error, and an unfinished sequence at the end is one. The call is lent
- * no room: it has one of 32 KB on the stack. Refusals: HAMVUKILE_UNKNOWN_ENCODING, HAMVUKILE_WRONG_TABLE,
+ * no room: it has one of 33 KB on the stack. Refusals: HAMVUKILE_UNKNOWN_ENCODING, HAMVUKILE_WRONG_TABLE,
  * HAMVUKILE_TOO_LONG, in this order. */
 hamvukile_checked hamvukile_check(uint8_t encoding, const uint8_t *text, size_t length, const uint32_t *first,
                                   size_t first_length, const uint32_t *second, size_t second_length);

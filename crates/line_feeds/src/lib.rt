@@ -18,7 +18,7 @@ fn one(b: u8) -> u8
 }
 
 // The line feeds among n bytes, at most 255, so that they fit a byte.
-pub fn in_few(bytes: &[u8], at: usize, n: usize) -> u8
+fn in_few(bytes: &[u8], at: usize, n: usize) -> u8
     requires { ⌜ (n ≤ 255) × (at + n ≤ length (now bytes)) ⌝ }
     ensures { λ r. ⌜ r ≡ lineFeeds (part (now (bytes .entry)) at n) ⌝ }
 {
@@ -41,6 +41,19 @@ fn in_many(bytes: &[u8], at: usize, n: usize) -> usize
         k += 192;
     }
     count + in_few(bytes, at + k, n - k) as usize
+}
+
+// The line feeds among the 192 bytes from a place on, or among all from there on where there are fewer.
+pub fn in_block(bytes: &[u8], at: usize) -> usize
+    ensures { λ r. ⌜ r ≡ lineFeeds (part (now (bytes .entry)) at 192) ⌝ }
+{
+    if bytes.len() <= at {
+        return 0;
+    }
+    if bytes.len() - at < 192 {
+        return in_few(bytes, at, bytes.len() - at) as usize;
+    }
+    in_few(bytes, at, 192) as usize
 }
 
 // The line feeds among the bytes from a place up to another; none where there are no such bytes.

@@ -2,7 +2,7 @@
 
 use crate::ready;
 use crate::wide;
-use line_feeds::in_few;
+use line_feeds::in_block;
 ghost use mathlib.Core.Path.{_≡_};
 ghost use Prim.Native.Nat.{ℕ, _+_, _≤_, _<_};
 ghost use lib.ListN.{length, getD};
@@ -182,8 +182,8 @@ pub struct Stretch {
     pub lines: usize,
 }
 
-// Copies bytes below 80 in blocks of 192, each tested, copied and counted while it is near. It may stop before another.
-pub fn count_ascii(chunk: &[u8], from: usize, room: &mut [u32], place: usize) -> Stretch
+// Copies bytes below 80 in blocks of 192, each tested, copied and counted while it is near.
+fn count_blocks(chunk: &[u8], from: usize, room: &mut [u32], place: usize) -> Stretch
     requires { ⌜ Ready (now chunk) from (now room) place ⌝ }
     ensures { λ r. ⌜ (Copied (now (chunk .entry)) from (r .length) place (now (room .entry)) (now (room .exit)))
         × (r .lines ≡ lineFeeds (part (now (chunk .entry)) from (r .length))) ⌝ }
@@ -195,8 +195,22 @@ pub fn count_ascii(chunk: &[u8], from: usize, room: &mut [u32], place: usize) ->
         if copy_block(chunk, from + k, room, place + k) == 0 {
             return Stretch { length: k, lines };
         }
-        lines += in_few(chunk, from + k, 192) as usize;
+        lines += in_block(chunk, from + k);
         k += 192;
     }
     Stretch { length: k, lines }
+}
+
+// Copies a long stretch of bytes below 80 from a place on, with its line feeds. It may stop before another, and copies none where no run can begin.
+pub fn count_ascii(chunk: &[u8], from: usize, room: &mut [u32], place: usize) -> Stretch
+    ensures { λ r. ⌜ (Copied (now (chunk .entry)) from (r .length) place (now (room .entry)) (now (room .exit)))
+        × (r .lines ≡ lineFeeds (part (now (chunk .entry)) from (r .length))) ⌝ }
+{
+    if !ready(chunk.len(), from, room.len(), place) {
+        return Stretch {
+            length: 0,
+            lines: 0,
+        };
+    }
+    count_blocks(chunk, from, room, place)
 }
