@@ -26,7 +26,7 @@
  *         answer = hamvukile_feed(answer.decoder, text, 3, NULL, 0, NULL, 0, room, 3);
  *         if (answer.refusal != 0) return 1;
  *         for (size_t i = 0; i < answer.written; i++) printf("U+%04lX\n", (unsigned long)room[i]);
- *         answer = hamvukile_finish(answer.decoder, room, 3);
+ *         answer = hamvukile_finish(answer.decoder, NULL, 0, NULL, 0, room, 3);
  *         return answer.refusal;
  *     }
  *
@@ -44,14 +44,14 @@ extern "C" {
 
 /* ---- Version --------------------------------------------------------------------------------------------------- */
 
-#define HAMVUKILE_VERSION "0.2.0"
+#define HAMVUKILE_VERSION "0.3.0"
 #define HAMVUKILE_VERSION_MAJOR 0
-#define HAMVUKILE_VERSION_MINOR 2
+#define HAMVUKILE_VERSION_MINOR 3
 #define HAMVUKILE_VERSION_PATCH 0
 
 /* The version as one number: 10,000 times major, 100 times minor, and patch. Records and calls of another version may
  * differ, so a program that finds another number than this in the library has been linked with the wrong one. */
-#define HAMVUKILE_VERSION_NUMBER 200
+#define HAMVUKILE_VERSION_NUMBER 300
 
 /* The version of the library. */
 uint32_t hamvukile_version(void);
@@ -63,7 +63,7 @@ enum {
     HAMVUKILE_ACCEPTED = 0,           /* not refused */
     HAMVUKILE_UNKNOWN_LABEL = 1,      /* the standard's table has no such label */
     HAMVUKILE_UNKNOWN_ENCODING = 2,   /* the encoding number is above 39 */
-    HAMVUKILE_UNKNOWN_MODE = 3,       /* the mode, or the rule for the byte order mark, is above 1 */
+    HAMVUKILE_UNKNOWN_MODE = 3,       /* the mode is above 1, or the rule for the byte order mark above 2 */
     HAMVUKILE_WRONG_TABLE = 4,        /* a lent table has not the length that the encoding asks for */
     HAMVUKILE_FORGED_DECODER = 5,     /* no opening and no feed leave a decoder with these fields */
     HAMVUKILE_ENDED_DECODER = 6,      /* the decoder has ended: by a finish, by HAMVUKILE_MALFORMED, or since its opening was refused */
@@ -85,10 +85,12 @@ enum {
     HAMVUKILE_REFUSING = 1   /* both: the first error ends the call with HAMVUKILE_MALFORMED */
 };
 
-/* What happens to a U+FEFF at the very front of UTF-8 or UTF-16. */
+/* What happens to a byte order mark, U+FEFF, at the very front of the text. */
 enum {
-    HAMVUKILE_DROP_MARK = 0,
-    HAMVUKILE_KEEP_MARK = 1
+    HAMVUKILE_DROP_MARK = 0,  /* it is dropped, where the encoding is UTF-8 or UTF-16 */
+    HAMVUKILE_KEEP_MARK = 1,  /* it is a character like any other */
+    HAMVUKILE_CHOOSE_MARK = 2 /* it is dropped and chooses the encoding that reads: EF BB BF UTF-8, FE FF UTF-16BE, FF FE
+                                 UTF-16LE; without one the encoding of the opening reads. A mark behind it is kept */
 };
 
 /* Limits. */
@@ -217,17 +219,19 @@ hamvukile_line hamvukile_index_line(const uint8_t *line, size_t length, uint32_t
 
 /* A decoder between calls: a value to keep and to hand back as it is. */
 typedef struct {
-    uint32_t taken; /* the bytes taken since the opening, a dropped mark and the bytes held among them */
-    uint32_t lines; /* the line feeds (U+000A) handed out since the opening */
-    uint8_t encoding;
+    uint32_t taken;   /* the bytes taken since the opening, a dropped mark and the bytes held among them */
+    uint32_t lines;   /* the line feeds (U+000A) handed out since the opening */
+    uint8_t encoding; /* the encoding of the opening */
     uint8_t mode;
+    uint8_t stage;    /* 0 the encoding of the opening reads; 1 a mark at the front is still to choose; 2, 3, 4 a mark chose
+                         UTF-8, UTF-16BE, UTF-16LE */
     uint8_t state;
     uint8_t flag;
-    uint8_t held; /* how many bytes it holds: the unfinished last ones of those fed */
+    uint8_t held;     /* how many bytes it holds: the unfinished last ones of those fed */
     uint8_t first;
     uint8_t second;
     uint8_t third;
-    uint8_t ended; /* 1 once it has ended */
+    uint8_t ended;    /* 1 once it has ended */
 } hamvukile_decoder;
 
 /* What opening, feed and finish answer. */
@@ -247,18 +251,21 @@ hamvukile_answer hamvukile_open(uint8_t encoding, uint8_t mode, uint8_t rule);
 
 /* Decodes a chunk: takes all of it, writes the scalars to the front of the room, and changes nothing behind them.
  * The room needs as many cells as the chunk has bytes and the decoder holds: chunk_length + decoder.held.
- * Text may be cut into chunks anywhere: the scalars are the same. The tables may be other ones in each call; they are
- * checked, and read, in this one. Refusals: HAMVUKILE_FORGED_DECODER, HAMVUKILE_ENDED_DECODER, HAMVUKILE_WRONG_TABLE,
- * HAMVUKILE_TOO_LONG, HAMVUKILE_TOO_MUCH, HAMVUKILE_SMALL_ROOM, in this order; then, in refusing mode,
- * HAMVUKILE_MALFORMED. Place and line of an error are the same however the text is cut. */
+ * Text may be cut into chunks anywhere: the scalars are the same. The tables are those of the encoding of the opening,
+ * whatever a mark has chosen, and may be other ones in each call; they are checked, and read, in this one. With
+ * HAMVUKILE_CHOOSE_MARK at most two bytes wait for the choice; they count as held. Refusals: HAMVUKILE_FORGED_DECODER,
+ * HAMVUKILE_ENDED_DECODER, HAMVUKILE_WRONG_TABLE, HAMVUKILE_TOO_LONG, HAMVUKILE_TOO_MUCH, HAMVUKILE_SMALL_ROOM, in this
+ * order; then, in refusing mode, HAMVUKILE_MALFORMED. Place and line of an error are the same however the text is cut. */
 hamvukile_answer hamvukile_feed(hamvukile_decoder decoder, const uint8_t *chunk, size_t chunk_length,
                                 const uint32_t *first, size_t first_length, const uint32_t *second,
                                 size_t second_length, uint32_t *room, size_t room_length);
 
 /* The end of the text: writes what the bytes held give, and ends the decoder. The room needs decoder.held cells.
- * Refusals: HAMVUKILE_FORGED_DECODER, HAMVUKILE_ENDED_DECODER, HAMVUKILE_SMALL_ROOM, in this order; then, in refusing
- * mode, HAMVUKILE_MALFORMED. */
-hamvukile_answer hamvukile_finish(hamvukile_decoder decoder, uint32_t *room, size_t room_length);
+ * The tables are those of a feed. They are checked, and read, only while the choice of HAMVUKILE_CHOOSE_MARK is still
+ * to come (decoder.stage 1); else any will do. Refusals: HAMVUKILE_FORGED_DECODER, HAMVUKILE_ENDED_DECODER,
+ * HAMVUKILE_WRONG_TABLE, HAMVUKILE_SMALL_ROOM, in this order; then, in refusing mode, HAMVUKILE_MALFORMED. */
+hamvukile_answer hamvukile_finish(hamvukile_decoder decoder, const uint32_t *first, size_t first_length,
+                                  const uint32_t *second, size_t second_length, uint32_t *room, size_t room_length);
 
 /* What `hamvukile_check` answers. */
 typedef struct {

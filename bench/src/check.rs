@@ -50,7 +50,8 @@ fn fed(encoding: Encoding, tables: Tables, list: &[u8], room: &mut [u32]) -> boo
     let (refusing, drop_mark) = (1, 0);
     let answer = calls::open(encoding.number(), refusing, drop_mark);
     let answer = calls::feed(answer.decoder, list, tables.first, tables.second, room);
-    answer.refusal == 0 && calls::finish(answer.decoder, room).refusal == 0
+    answer.refusal == 0
+        && calls::finish(answer.decoder, tables.first, tables.second, room).refusal == 0
 }
 
 pub fn head(size: usize) {

@@ -49,7 +49,7 @@ impl Decoder for Ours<'_> {
     }
 
     fn finish(&mut self, room: &mut [u32]) -> usize {
-        let answer = calls::finish(self.decoder, room);
+        let answer = calls::finish(self.decoder, self.tables.first, self.tables.second, room);
         assert_eq!(answer.refusal, 0);
         self.decoder = answer.decoder;
         answer.written

@@ -19,7 +19,7 @@ static void check(const char *what, int same) {
 
 /* Are two decoders the same, field by field? */
 static int same_decoder(hamvukile_decoder a, hamvukile_decoder b) {
-    return a.taken == b.taken && a.lines == b.lines && a.encoding == b.encoding && a.mode == b.mode && a.state == b.state && a.flag == b.flag
+    return a.taken == b.taken && a.lines == b.lines && a.encoding == b.encoding && a.mode == b.mode && a.stage == b.stage && a.state == b.state && a.flag == b.flag
         && a.held == b.held && a.first == b.first && a.second == b.second && a.third == b.third && a.ended == b.ended;
 }
 
@@ -48,6 +48,10 @@ static hamvukile_answer feed(hamvukile_decoder d, const uint8_t *chunk, size_t n
     return hamvukile_feed(d, chunk, n, t.first, t.first_length, t.second, t.second_length, room, room_length);
 }
 
+static hamvukile_answer finish(hamvukile_decoder d, tables t, uint32_t *room, size_t room_length) {
+    return hamvukile_finish(d, t.first, t.first_length, t.second, t.second_length, room, room_length);
+}
+
 /* Reads a text that is cut behind byte i where bit i of `cuts` is set; the number of scalars, or -1 if a call was refused or wrote behind them. */
 static int decode(uint8_t encoding, uint8_t rule, tables t, const uint8_t *text, size_t n, unsigned cuts, uint32_t *out) {
     int total = 0, fed = 0;
@@ -58,7 +62,7 @@ static int decode(uint8_t encoding, uint8_t rule, tables t, const uint8_t *text,
         size_t i, end = at;
         for (i = 0; i < 64; i++) room[i] = UNTOUCHED;
         if (fed && at == n) {
-            a = hamvukile_finish(a.decoder, room, a.decoder.held);
+            a = finish(a.decoder, t, room, a.decoder.held);
         } else {
             while (end < n && (end == at || !(cuts >> (end - 1) & 1))) end++;
             a = feed(a.decoder, text + at, end - at, t, room, end - at + a.decoder.held);
@@ -107,7 +111,7 @@ static void samples(void) {
     ranges.second = pair;
     ranges.second_length = 2;
     for (e = 0; e <= HAMVUKILE_MAX_ENCODING; e++) {
-        hamvukile_answer a = hamvukile_finish(hamvukile_open((uint8_t)e, HAMVUKILE_REPLACING, HAMVUKILE_DROP_MARK).decoder, NULL, 0);
+        hamvukile_answer a = finish(hamvukile_open((uint8_t)e, HAMVUKILE_REPLACING, HAMVUKILE_DROP_MARK).decoder, tables_of(0), NULL, 0);
         check("1: no chunk", a.refusal == 0 && a.written == 0 && a.decoder.ended == 1);
         sample("1: a chunk of no bytes", (uint8_t)e, HAMVUKILE_DROP_MARK, tables_of((uint8_t)e), "", 0, pair, 0);
     }
@@ -176,7 +180,7 @@ static void report_at(const char *what, uint8_t encoding, const char *bytes, siz
             uint32_t before = a.decoder.taken;
             size_t i;
             if (from == n) {
-                a = hamvukile_finish(a.decoder, room, a.decoder.held);
+                a = finish(a.decoder, tables_of(encoding), room, a.decoder.held);
                 end = from;
             } else {
                 for (end = from + 1; end < n && !(cuts >> (end - 1) & 1); end++) {}
@@ -300,14 +304,14 @@ static void refusals(void) {
     check("16: a chunk of 65,537 bytes", b.refusal == HAMVUKILE_TOO_LONG);
     b = feed(a.decoder, chunk, 0, tables_of(1), room, 0);
     check("4: a table that is not asked for", b.refusal == HAMVUKILE_WRONG_TABLE);
-    a = hamvukile_open(40, 2, 2);
+    a = hamvukile_open(40, 2, 3);
     check("2: encoding 40", a.refusal == HAMVUKILE_UNKNOWN_ENCODING && a.decoder.encoding == 0 && a.decoder.ended == 1);
     check("3: mode 2", hamvukile_open(0, 2, 0).refusal == HAMVUKILE_UNKNOWN_MODE);
-    check("3: rule 2", hamvukile_open(0, 0, 2).refusal == HAMVUKILE_UNKNOWN_MODE);
+    check("3: rule 3", hamvukile_open(0, 0, 3).refusal == HAMVUKILE_UNKNOWN_MODE);
     check("6: after a refused opening", feed(a.decoder, chunk, 1, none, room, 1).refusal == HAMVUKILE_ENDED_DECODER);
     forged = hamvukile_open(0, 0, 0).decoder;
     forged.first = 1;
-    b = hamvukile_finish(forged, room, 3);
+    b = finish(forged, none, room, 3);
     check("5: a stale byte", b.refusal == HAMVUKILE_FORGED_DECODER && same_decoder(forged, b.decoder));
     forged = hamvukile_open(0, 0, HAMVUKILE_KEEP_MARK).decoder;
     forged.taken = HAMVUKILE_MAX_TAKEN - 1;
@@ -318,17 +322,63 @@ static void refusals(void) {
     check("14: same decoder", same_decoder(feed(b.decoder, chunk, 1, none, room, 1).decoder, b.decoder));
     check("8 before 14", feed(b.decoder, chunk, 65537, none, room, 65537).refusal == HAMVUKILE_TOO_LONG);
     check("an empty chunk behind them", feed(b.decoder, chunk, 0, none, room, 0).refusal == 0);
-    check("a finish behind them", hamvukile_finish(b.decoder, room, 0).refusal == 0);
+    check("a finish behind them", finish(b.decoder, none, room, 0).refusal == 0);
     forged.lines = HAMVUKILE_MAX_TAKEN;
     check("5: more line feeds than bytes", feed(forged, chunk, 1, none, room, 1).refusal == HAMVUKILE_FORGED_DECODER);
     forged = hamvukile_open(HAMVUKILE_UTF_16LE, 0, HAMVUKILE_KEEP_MARK).decoder;
     forged.taken = 3;
-    check("5: an odd number of bytes, none held, in UTF-16", hamvukile_finish(forged, room, 3).refusal == HAMVUKILE_FORGED_DECODER);
+    check("5: an odd number of bytes, none held, in UTF-16", finish(forged, none, room, 3).refusal == HAMVUKILE_FORGED_DECODER);
     a = hamvukile_open(0, HAMVUKILE_REFUSING, HAMVUKILE_DROP_MARK);
     room[1] = UNTOUCHED;
     a = feed(a.decoder, (const uint8_t *)"A\xFF" "B", 3, none, room, 3);
     check("11: A FF B", a.refusal == HAMVUKILE_MALFORMED && a.written == 1 && a.place == 1 && a.line == 1 && room[0] == 0x41 && room[1] == UNTOUCHED && a.decoder.ended == 1 && a.decoder.taken == 3);
     check("6: after report 11", feed(a.decoder, chunk, 1, none, room, 1).refusal == HAMVUKILE_ENDED_DECODER);
+}
+
+/* A mark that chooses, in every cut; the tables of the opening's encoding at a feed, and at a finish before the choice. */
+#define CHOICE(what, encoding, bytes, ...) sample(what, encoding, HAMVUKILE_CHOOSE_MARK, tables_of(encoding), BYTES(bytes), SCALARS(__VA_ARGS__))
+
+static void choices(void) {
+    static const uint8_t mark[] = { 0xEF, 0xBB, 0xBF };
+    tables none = tables_of(0), jis = tables_of(HAMVUKILE_SHIFT_JIS);
+    uint32_t room[8];
+    hamvukile_answer a, b;
+    CHOICE("UTF-16LE under windows-1252", 21, "\xFF\xFE" "A\0\n\0", 0x41, 0x0A);
+    CHOICE("UTF-16BE under Shift_JIS", 34, "\xFE\xFF\0A", 0x41);
+    CHOICE("UTF-8 under UTF-16LE", 38, "\xEF\xBB\xBF\xC3\xA9", 0xE9);
+    CHOICE("UTF-8 under replacement", 36, "\xEF\xBB\xBF" "A", 0x41);
+    CHOICE("a second mark stays", 21, "\xEF\xBB\xBF\xEF\xBB\xBF", 0xFEFF);
+    CHOICE("another mark behind it stays", 0, "\xFF\xFE\xFF\xFE", 0xFEFF);
+    CHOICE("FF alone", 21, "\xFF", 0xFF);
+    CHOICE("FF FF", 21, "\xFF\xFF", 0xFF, 0xFF);
+    CHOICE("EF BB at the end of windows-1252", 21, "\xEF\xBB", 0xEF, 0xBB);
+    CHOICE("EF BB at the end of UTF-8", 0, "\xEF\xBB", 0xFFFD);
+    CHOICE("EF BB and no BF", 0, "\xEF\xBB\x09", 0xFFFD, 0x09);
+    CHOICE("a mark that is not at the front", 0, "A\xEF\xBB\xBF", 0x41, 0xFEFF);
+    a = hamvukile_open(HAMVUKILE_SHIFT_JIS, HAMVUKILE_REPLACING, HAMVUKILE_CHOOSE_MARK);
+    check("the choice is to come", a.refusal == 0 && a.decoder.stage == 1 && a.decoder.held == 0);
+    b = finish(a.decoder, none, room, 0);
+    check("4: a finish before the choice", b.refusal == HAMVUKILE_WRONG_TABLE && same_decoder(a.decoder, b.decoder));
+    check("a finish before the choice", finish(a.decoder, jis, room, 0).refusal == 0);
+    a = feed(a.decoder, mark, 2, jis, room, 2);
+    check("two bytes wait", a.refusal == 0 && a.written == 0 && a.decoder.stage == 1 && a.decoder.held == 2);
+    check("4 before 7", finish(a.decoder, none, room, 0).refusal == HAMVUKILE_WRONG_TABLE);
+    check("7: room for them", finish(a.decoder, jis, room, 1).refusal == HAMVUKILE_SMALL_ROOM);
+    check("7: room for them and the chunk", feed(a.decoder, mark + 2, 1, jis, room, 2).refusal == HAMVUKILE_SMALL_ROOM);
+    a = feed(a.decoder, mark + 2, 1, jis, room, 3);
+    check("the mark chose UTF-8", a.refusal == 0 && a.written == 0 && a.decoder.stage == 2 && a.decoder.held == 0 && a.decoder.taken == 3);
+    check("4: the tables of the opening's encoding", feed(a.decoder, mark, 1, none, room, 1).refusal == HAMVUKILE_WRONG_TABLE);
+    b = feed(a.decoder, mark, 1, jis, room, 1);
+    check("a finish behind the choice looks at no tables", b.refusal == 0 && finish(b.decoder, none, room, 1).refusal == 0);
+    b = a;
+    b.decoder.flag = 1;
+    check("5: a second mark to be dropped", finish(b.decoder, jis, room, 0).refusal == HAMVUKILE_FORGED_DECODER);
+    b = a;
+    b.decoder.stage = 5;
+    check("5: stage 5", finish(b.decoder, jis, room, 0).refusal == HAMVUKILE_FORGED_DECODER);
+    b = a;
+    b.decoder.taken = 2;
+    check("5: fewer bytes than the mark has", finish(b.decoder, jis, room, 0).refusal == HAMVUKILE_FORGED_DECODER);
 }
 
 /* Labels and names. */
@@ -462,6 +512,7 @@ int main(void) {
     part("places and lines of errors in every cut", places);
     part("clean lists", lists);
     part("writing, with sample 15", writing);
+    part("marks that choose in every cut", choices);
     part("refusals, with sample 16", refusals);
     part("labels and names", labels);
     part("constants of the header", constants);

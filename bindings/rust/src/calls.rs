@@ -57,9 +57,19 @@ pub fn feed(
 }
 
 #[inline]
-pub fn finish(decoder: Decoder, room: &mut [u32]) -> Answer {
-    // SAFETY: the slice is valid for its length.
-    unsafe { ffi::hamvukile_finish(decoder, room.as_mut_ptr(), room.len()) }
+pub fn finish(decoder: Decoder, first: &[u32], second: &[u32], room: &mut [u32]) -> Answer {
+    // SAFETY: each slice is valid for its length; the room, borrowed mutably, overlaps no other.
+    unsafe {
+        ffi::hamvukile_finish(
+            decoder,
+            first.as_ptr(),
+            first.len(),
+            second.as_ptr(),
+            second.len(),
+            room.as_mut_ptr(),
+            room.len(),
+        )
+    }
 }
 
 #[inline]

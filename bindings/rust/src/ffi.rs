@@ -28,6 +28,7 @@ pub struct Decoder {
     pub lines: u32,
     pub encoding: u8,
     pub mode: u8,
+    pub stage: u8,
     pub state: u8,
     pub flag: u8,
     pub held: u8,
@@ -83,7 +84,15 @@ extern "C" {
         room: *mut u32,
         room_length: usize,
     ) -> Answer;
-    pub fn hamvukile_finish(decoder: Decoder, room: *mut u32, room_length: usize) -> Answer;
+    pub fn hamvukile_finish(
+        decoder: Decoder,
+        first: *const u32,
+        first_length: usize,
+        second: *const u32,
+        second_length: usize,
+        room: *mut u32,
+        room_length: usize,
+    ) -> Answer;
     pub fn hamvukile_check(
         encoding: u8,
         text: *const u8,

@@ -14,7 +14,7 @@
 //! let n = decoder.feed(b"\x80\x09A", &Tables::none(), &mut room).unwrap();
 //! assert_eq!(room[..n], [0x20AC, 0x09, 0x41]);
 //! let mut last = [0; 3];
-//! assert_eq!(decoder.finish(&mut last), Ok(0));
+//! assert_eq!(decoder.finish(&Tables::none(), &mut last), Ok(0));
 //! ```
 #![warn(missing_docs)]
 
@@ -41,7 +41,7 @@ const MAX_NAME: usize = 14;
 /// The version of the library that is linked: 10,000 times major, 100 times minor, and patch.
 ///
 /// ```
-/// assert_eq!(hamvukile::version(), 200); // 0.2.0
+/// assert_eq!(hamvukile::version(), 300); // 0.3.0
 /// ```
 pub fn version() -> u32 {
     calls::version()
@@ -56,7 +56,7 @@ pub enum Refusal {
     UnknownLabel = 1,
     /// The encoding number is above 39.
     UnknownEncoding = 2,
-    /// The mode, or the rule for the byte order mark, is above 1.
+    /// The mode is above 1, or the rule for the byte order mark above 2.
     UnknownMode = 3,
     /// A lent table has not the length that the encoding asks for.
     WrongTable = 4,
@@ -114,7 +114,7 @@ impl fmt::Display for Refusal {
         f.write_str(match self {
             Refusal::UnknownLabel => "unknown label",
             Refusal::UnknownEncoding => "encoding number above 39",
-            Refusal::UnknownMode => "mode or rule above 1",
+            Refusal::UnknownMode => "mode above 1 or rule above 2",
             Refusal::WrongTable => "a lent table has not the length that the encoding asks for",
             Refusal::ForgedDecoder => "not a decoder that calls leave",
             Refusal::EndedDecoder => "the decoder has ended",
@@ -403,14 +403,26 @@ pub enum OnError {
     Refuse = 1,
 }
 
-/// What a decoder does with a U+FEFF at the very front of UTF-8 or UTF-16.
+/// What a decoder does with a byte order mark, U+FEFF, at the very front of the text.
+///
+/// ```
+/// use hamvukile::{decode, Encoding, Mark, Tables};
+///
+/// let text = b"\xFF\xFEh\0i\0";
+/// let read = |mark| decode(Encoding::WINDOWS_1252, mark, &Tables::none(), text).unwrap();
+/// assert_eq!(read(Mark::Choose), "hi");
+/// assert_eq!(read(Mark::Drop), "\u{FF}\u{FE}h\0i\0");
+/// ```
 #[derive(Clone, Copy, Debug, PartialEq, Eq)]
 #[non_exhaustive]
 pub enum Mark {
-    /// It drops it.
+    /// It drops it, where the encoding is UTF-8 or UTF-16.
     Drop = 0,
     /// It keeps it.
     Keep = 1,
+    /// It drops it, and reads with the encoding that it stands for: EF BB BF is UTF-8, FE FF UTF-16BE, FF FE UTF-16LE.
+    /// Without one it reads with its own encoding. A mark behind it is kept.
+    Choose = 2,
 }
 
 /// A decoder: it owns its state. Text may be cut into chunks anywhere.
@@ -460,6 +472,29 @@ impl Decoder {
         }
     }
 
+    /// The encoding that reads: its own, or the one that a mark chose. `None` while the choice is still to come
+    /// ([`Mark::Choose`]), and once it has ended.
+    ///
+    /// ```
+    /// use hamvukile::{Decoder, Encoding, Mark, OnError, Tables};
+    ///
+    /// let mut decoder = Decoder::new(Encoding::WINDOWS_1252, OnError::Replace, Mark::Choose);
+    /// let mut room = [0; 4];
+    /// decoder.feed(b"\xFE", &Tables::none(), &mut room).unwrap();
+    /// assert_eq!((decoder.encoding(), decoder.held()), (None, 1));
+    /// decoder.feed(b"\xFF", &Tables::none(), &mut room).unwrap();
+    /// assert_eq!((decoder.encoding(), decoder.held()), (Some(Encoding::UTF_16BE), 0));
+    /// ```
+    pub fn encoding(&self) -> Option<Encoding> {
+        match (self.state.ended, self.state.stage) {
+            (0, 0) => Some(Encoding(self.state.encoding)),
+            (0, 2) => Some(Encoding::UTF_8),
+            (0, 3) => Some(Encoding::UTF_16BE),
+            (0, 4) => Some(Encoding::UTF_16LE),
+            _ => None,
+        }
+    }
+
     /// How many bytes it holds: the unfinished last ones of those fed.
     pub fn held(&self) -> usize {
         self.state.held.into()
@@ -486,7 +521,8 @@ impl Decoder {
     }
 
     /// Takes the whole chunk, at most [`MAX_CHUNK`] bytes, and writes the scalars to the front of the room, which has at
-    /// least [`Decoder::room_for`] cells. Returns how many; the cells behind them do not change.
+    /// least [`Decoder::room_for`] cells. Returns how many; the cells behind them do not change. The tables are those of
+    /// the encoding that it was made with, whatever a mark has chosen.
     pub fn feed(
         &mut self,
         chunk: &[u8],
@@ -498,9 +534,16 @@ impl Decoder {
         decoded(&answer)
     }
 
-    /// The end of the text: writes what the bytes held give, and returns how many scalars.
-    pub fn finish(self, room: &mut [u32; MAX_HELD]) -> Result<usize, Error> {
-        decoded(&calls::finish(self.state, room))
+    /// The end of the text: writes what the bytes held give, and returns how many scalars. The decoder has ended then.
+    /// The tables are those of a feed; they are looked at only while a mark is still to choose.
+    pub fn finish(
+        &mut self,
+        tables: &Tables<'_>,
+        room: &mut [u32; MAX_HELD],
+    ) -> Result<usize, Error> {
+        let answer = calls::finish(self.state, tables.first, tables.second, room);
+        self.state = answer.decoder;
+        decoded(&answer)
     }
 }
 
@@ -533,7 +576,7 @@ pub fn decode(
             None => break,
         }
     }
-    let n = decoder.finish(&mut last)?;
+    let n = decoder.finish(tables, &mut last)?;
     out.extend(last[..n].iter().map(scalar));
     Ok(out)
 }
@@ -702,7 +745,8 @@ mod tests {
                 .feed(&text[cut..], &Tables::none(), &mut room[a..])
                 .unwrap();
             assert_eq!(room[..a + b], [0x61, 0xe9, 0x20ac, 0x1f4a9]);
-            assert_eq!(decoder.finish(&mut [0; MAX_HELD]), Ok(0));
+            assert_eq!(decoder.finish(&Tables::none(), &mut [0; MAX_HELD]), Ok(0));
+            assert!(decoder.is_ended());
         }
     }
 
@@ -718,6 +762,40 @@ mod tests {
             decoder,
             Decoder::new(Encoding::UTF_8, OnError::Replace, Mark::Drop)
         );
+    }
+
+    #[test]
+    fn a_mark_chooses_however_it_is_cut() {
+        let text = b"\xEF\xBB\xBF\xEF\xBB\xBF\xC3\xA9";
+        for cut in 0..=text.len() {
+            let mut decoder = Decoder::new(Encoding::WINDOWS_1252, OnError::Refuse, Mark::Choose);
+            let mut room = [0; 16];
+            let a = decoder
+                .feed(&text[..cut], &Tables::none(), &mut room)
+                .unwrap();
+            let b = decoder
+                .feed(&text[cut..], &Tables::none(), &mut room[a..])
+                .unwrap();
+            assert_eq!(room[..a + b], [0xFEFF, 0xE9]);
+            assert_eq!(decoder.encoding(), Some(Encoding::UTF_8));
+            assert_eq!(decoder.finish(&Tables::none(), &mut [0; MAX_HELD]), Ok(0));
+            assert_eq!(decoder.encoding(), None);
+        }
+    }
+
+    #[test]
+    fn tables_are_looked_at_in_a_finish_before_the_choice() {
+        let kept = Decoder::new(Encoding::BIG5, OnError::Replace, Mark::Keep);
+        let choosing = Decoder::new(Encoding::BIG5, OnError::Replace, Mark::Choose);
+        let mut room = [0; MAX_HELD];
+        assert_eq!(kept.clone().finish(&Tables::none(), &mut room), Ok(0));
+        let mut decoder = choosing.clone();
+        let error = decoder.finish(&Tables::none(), &mut room).unwrap_err();
+        assert_eq!(error.refusal, Refusal::WrongTable);
+        assert_eq!(decoder, choosing);
+        let index = vec![0; 19_782];
+        let tables = Tables::big5(index.as_slice().try_into().unwrap());
+        assert_eq!(decoder.finish(&tables, &mut room), Ok(0));
     }
 
     #[test]

@@ -14,8 +14,10 @@ use Rattle.standard.specs.Items.{Item, shown, broken, before, reach}
 use Rattle.standard.specs.Decode.{everything}
 use Rattle.standard.specs.Machine.{fatal, Ran}
 use Rattle.standard.specs.Standard.{standard, isError, dropMark, standardPlace}
+use Rattle.standard.specs.Choice.{reader}
 use Rattle.standard.proofs.LineFeeds.{mark-line-feeds}
-use Rattle.decoder.specs.Record.{newShift}
+use Rattle.standard.proofs.Sniffing.{all-read}
+use Rattle.decoder.specs.Record.{newShift, newSpot}
 use Rattle.decoder.specs.Calls.{openRefusal}
 use Rattle.demands.specs.Histories.{start}
 use Rattle.demands.specs.Statements.{Account, Piece, joined, cutting, Accepts, Roomy, drops, accountOf, standardAccount}
@@ -46,8 +48,8 @@ accepted e t xs h = go (ltb 39 e) (fits (family e) t) (ltb 65536 (length xs)) re
 
 -- the answer is what the reports of the whole tell
 by-whole : (e : ℕ) (t : Tables) (xs : List ℕ) → checkRefusal e t xs ≡ 0 → checking e t xs ≡ told (wholeAccount t e 1 0 xs .reports)
-unfolding checking wholeAccount dealt
-by-whole e t xs h = rw h (go (broken is))
+unfolding checking wholeAccount dealt reader
+by-whole e t xs h = rw (h, all-read t e (newSpot e 0) xs refl) (go (broken is))
   where
     is : List Item
     is = everything t (family e) (newShift e 0) xs
@@ -93,6 +95,10 @@ checks e t xs h = record { by-calls = calls; one-feed = one; by-standard = machi
         (rw (append-nil xs) (omega (arith, a .few))) (a .few, r, l)
 
     machine : Bytes xs → some (checking e t xs) ≡ toldBy (standardPlace t (family e) xs) (standard t (family e) fatal xs)
-    machine b = ap some (by-whole e t xs h) ∙
-        told-standard e (drops e 0) (standardPlace t (family e) xs) (standard t (family e) fatal xs) (wholeAccount t e 1 0 xs)
-        (whole-is-standard t e 1 0 xs b)
+    machine b =
+        let place = standardPlace t (family e) xs in
+        let all = standard t (family e) fatal xs in
+        let none : 0 + place ≡ place = omega arith in
+        ap some (by-whole e t xs h) ∙
+        told-standard e (drops e 0) (0 + place) all (wholeAccount t e 1 0 xs) (whole-is-standard t e 1 0 xs b) ∙
+        ap (λ (n : ℕ). toldBy n all) none

@@ -74,18 +74,18 @@ module _ (t : Tables) (answer : Checked) (d : Decoder) (chunk room rest : List �
 
 -- the finish: nothing is left
 module _ (t : Tables) (answer : Checked) (d : Decoder) (room : List ℕ) (w : Walked t answer [] d) (fits : 3 ≤ length room)
-    (a : Answer) (k : a ≡ finishing d room .answer) where
-  end-is : finishing (w .history .decoder) room .answer ≡ a
-  end-is = ap (λ (d : Decoder). finishing d room .answer) (w .stands) ∙ sym k
+    (a : Answer) (k : a ≡ finishing d t room .answer) where
+  end-is : finishing (w .history .decoder) t room .answer ≡ a
+  end-is = ap (λ (d : Decoder). finishing d t room .answer) (w .stands) ∙ sym k
 
   pub walked-end-fault : a .refusal ≡ 11 → answer ≡ faulty (a .place) (a .line)
   unfolding reports cutting joined Roomy
   walked-end-fault q =
-      let one : eqb (finishing (w .history .decoder) room .answer .refusal) 11 ≡ true = rw (end-is, q) in
+      let one : eqb (finishing (w .history .decoder) t room .answer .refusal) 11 ≡ true = rw (end-is, q) in
       w .tells [] room refl fits ∙ rw one (ap (λ (a : Answer). faulty (a .place) (a .line)) end-is)
 
   pub walked-clean : (a .refusal ≡ 11 → ⊥) → answer ≡ clean
   unfolding reports cutting joined Roomy
   walked-clean n =
-      let none : eqb (finishing (w .history .decoder) room .answer .refusal) 11 ≡ false = rw end-is (ne-eqb (a .refusal) 11 n) in
+      let none : eqb (finishing (w .history .decoder) t room .answer .refusal) 11 ≡ false = rw end-is (ne-eqb (a .refusal) 11 n) in
       w .tells [] room refl fits ∙ rw none

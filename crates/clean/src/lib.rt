@@ -82,7 +82,7 @@ fn walk(encoding: u8, bytes: &[u8], t1: &[u32], t2: &[u32], room: &mut [u32]) ->
         decoder = fed.decoder;
         at = end;
     }
-    let last = decoder.finish(room);
+    let last = decoder.finish(t1, t2, room);
     if last.refusal == 11 {
         return faulty(last.place, last.line);
     }

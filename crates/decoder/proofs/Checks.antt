@@ -11,20 +11,22 @@ use Rattle.standard.specs.Base.{_then_else_, lineFeeds}
 use Rattle.standard.specs.Encodings.{Family, family, Tables, noTables, fits}
 use Rattle.standard.specs.Sequence.{Shift, Next, more, item, shift, plain}
 use Rattle.standard.specs.Next.{next}
-use Rattle.standard.specs.Items.{Read, shown, broken, before, reach}
+use Rattle.standard.specs.Items.{shown, broken, before, reach}
+use Rattle.standard.specs.Choice.{Choice, waiting, label, marked, choose, reader, Spot, spot, Parsed, isMore, isWaiting, rests}
 use Rattle.standard.proofs.Tests.{split}
 use Rattle.standard.proofs.AnyTables.{more-any}
-use Rattle.standard.proofs.Reading.{empty}
+use Rattle.standard.proofs.Stages.{at-mark, not-one, none-rest}
 use Rattle.sequences.specs.Code.{nextOf, outOf, front}
 use Rattle.sequences.specs.declared.Sequence.{Sequence}
-use Rattle.reading.specs.Reading.{Result, refused, wrote, readChunk}
+use Rattle.reading.specs.Reading.{chosenOf, Result, refused, wrote, readChunk}
 use Rattle.reading.specs.Reading.{readEnd as readingEnd}
+use Rattle.reading.specs.declared.choice.Chosen.{Chosen}
 use Rattle.reading.specs.declared.Left.{Left}
-use Rattle.decoder.specs.Record.{shiftOf, heldOf, new, closed}
-use Rattle.decoder.specs.Valid.{possible, endedTotals, isMore, unused, validRest, valid}
+use Rattle.decoder.specs.Record.{shiftOf, spotOf, heldOf, new, closed}
+use Rattle.decoder.specs.Valid.{possibleAt, endedTotals, unused, validRest, valid}
 use Rattle.decoder.specs.Calls.{openRefusal, opening, Outcome, refuse, write, report}
 use Rattle.decoder.specs.Calls.{readOn, feedRefusal, feeding, readEnd, finishRefusal, finishing}
-use Rattle.decoder.specs.Code.{accepting, refusing, heldIn, stillToTake, recordRefusal, Answers, fed, finished}
+use Rattle.decoder.specs.Code.{accepting, refusing, heldIn, stillToTake, recordRefusal, misfit, Answers, fed, finished}
 use Rattle.decoder.specs.declared.Decoder.{Decoder}
 use Rattle.decoder.specs.declared.Answer.{Answer}
 use Rattle.decoder.proofs.Parts.{parts}
@@ -54,19 +56,37 @@ front-held (suc (suc (suc zero))) a b c h = refl
 front-held (suc (suc (suc (suc n)))) a b c h = absurd (omega arith)
 
 -- no byte held
-pub none-started : (d : Decoder) → d .held ≡ 0 → true ≡ isMore (next noTables (family (d .encoding)) (shiftOf d) (heldOf d))
+pub none-started : (d : Decoder) → d .held ≡ 0 → true ≡ rests (d .encoding) (spotOf d) (heldOf d)
 none-started d h =
-    let f = family (d .encoding) in
-    sym (ap (λ (n : ℕ). isMore (next noTables f (shiftOf d) (take n (d .first ∷ d .second ∷ d .third ∷ [])))) h ∙
-    ap isMore (empty noTables f (shiftOf d)))
+    let e = d .encoding in
+    let p = spotOf d in
+    sym (ap (λ (n : ℕ). rests e p (take n (d .first ∷ d .second ∷ d .third ∷ []))) h ∙ none-rest e p)
 
-pub started-is : (d : Decoder) (t : Tables) (q : Sequence) → d .held ≤ 3 →
-    nextOf q ≡ next t (family (d .encoding)) (shift (d .state) (eqb (d .flag) 1)) (front (d .held) (d .first) (d .second) (d .third) 0) →
-    eqb (q .width) 0 ≡ isMore (next noTables (family (d .encoding)) (shiftOf d) (heldOf d))
-started-is d t q h e =
-    let f = family (d .encoding) in
-    sym (more-of q) ∙ ap isMore (e ∙ ap (next t f (shiftOf d)) (front-held (d .held) (d .first) (d .second) (d .third) h)) ∙
-    more-same t noTables f (shiftOf d) (heldOf d)
+-- bytes that wait for the choice
+waits : (xs : List ℕ) → eqb (chosenOf (choose xs) .stage) 1 ≡ isWaiting (choose xs)
+waits xs = go (choose xs) refl
+  where
+    go : (c : Choice) → choose xs ≡ c → eqb (chosenOf c .stage) 1 ≡ isWaiting c
+    go waiting e = refl
+    go label e = refl
+    go (marked w g) e = not-one g (at-mark xs e .low)
+
+pub waits-is : (d : Decoder) (c : Chosen) → d .stage ≡ 1 → c ≡ chosenOf (choose (heldOf d)) →
+    eqb (c .stage) 1 ≡ rests (d .encoding) (spotOf d) (heldOf d)
+unfolding rests
+waits-is d c g e = ap (λ (c : Chosen). eqb (c .stage) 1) e ∙ waits (heldOf d) ∙ sym (rw (eq-eqb (d .stage) 1 g))
+
+-- bytes of a sequence, by the encoding r that reads
+pub started-is : (d : Decoder) (t : Tables) (r : ℕ) (q : Sequence) →
+    (d .stage ≡ 1 → ⊥) → r ≡ reader (d .encoding) (d .stage) → d .held ≤ 3 →
+    nextOf q ≡ next t (family r) (shift (d .state) (eqb (d .flag) 1)) (front (d .held) (d .first) (d .second) (d .third) 0) →
+    eqb (q .width) 0 ≡ rests (d .encoding) (spotOf d) (heldOf d)
+unfolding rests
+started-is d t r q n e h k =
+    let s = shiftOf d in
+    sym (more-of q) ∙ ap isMore (k ∙ ap (next t (family r) s) (front-held (d .held) (d .first) (d .second) (d .third) h)) ∙
+    more-same t noTables (family r) s (heldOf d) ∙
+    sym (rw (ne-eqb (d .stage) 1 n) (ap (λ (r : ℕ). isMore (next noTables (family r) s (heldOf d))) (sym e)))
 
 -- the bytes that are not in use
 module _ (d : Decoder) where
@@ -85,13 +105,12 @@ module _ (d : Decoder) where
 
   -- the test of a record that has ended, and of one that has not
   pub rest-open : (d .ended ≡ 1 → ⊥) → validRest d ≡ leb (d .held) (d .taken) &&
-      possible (family (d .encoding)) (d .mode) (shiftOf d) (d .taken - d .held) (d .lines) &&
-      isMore (next noTables (family (d .encoding)) (shiftOf d) (heldOf d))
+      possibleAt (d .encoding) (d .mode) (spotOf d) (d .taken - d .held) (d .lines) && rests (d .encoding) (spotOf d) (heldOf d)
   unfolding validRest
   rest-open n = rw (ne-eqb (d .ended) 1 n)
 
-  pub rest-ended : d .ended ≡ 1 → validRest d ≡ eqb (d .held) 0 && eqb (d .state) 0 && eqb (d .flag) 0 &&
-      endedTotals (family (d .encoding)) (d .mode) (d .taken) (d .lines)
+  pub rest-ended : d .ended ≡ 1 → validRest d ≡ eqb (d .held) 0 && eqb (d .stage) 0 && eqb (d .state) 0 && eqb (d .flag) 0 &&
+      endedTotals (family (d .encoding)) (d .taken) (d .lines)
   unfolding validRest
   rest-ended n = rw (eq-eqb (d .ended) 1 n)
 
@@ -165,23 +184,24 @@ record-refused d room o n = go (valid d) (eqb (d .ended) 1)
     go true false z = absurd (z refl)
 
 -- what reading leaves, by the test for a report
-unfoldable pub handed-by : Read → List ℕ → Bool → Result
+unfoldable pub handed-by : Parsed → List ℕ → Bool → Result
 handed-by x room b =
-    b then wrote 11 (reach (x .items)) (before (x .items)) plain [] room else wrote 0 0 (shown (x .items)) (x .shift) (x .rest) room
+    b then wrote 11 (reach (x .items)) (before (x .items)) (spot 0 plain) [] room else
+    wrote 0 0 (shown (x .items)) (x .spot) (x .rest) room
 
 -- The answer of a call after which n bytes are taken: what it hands out, and its refusals.
-module _ (d : Decoder) (n : ℕ) (after : ℕ → Shift → List ℕ → Decoder) where
-  out-by : Read → List ℕ → Bool → Outcome
+module _ (d : Decoder) (n : ℕ) (after : ℕ → Spot → List ℕ → Decoder) where
+  out-by : Parsed → List ℕ → Bool → Outcome
   out-by x room b =
       let k = d .lines + lineFeeds (before (x .items)) in
       b then report (d .taken - d .held + reach (x .items)) (1 + k) (before (x .items)) (closed (d .encoding) (d .mode) n k) room else
-      write (shown (x .items)) (after (d .lines + lineFeeds (shown (x .items))) (x .shift) (x .rest)) room
+      write (shown (x .items)) (after (d .lines + lineFeeds (shown (x .items))) (x .spot) (x .rest)) room
 
-  handed-agree : (x : Read) (room : List ℕ) {l : Left} {a : Answer} {room′ : List ℕ} → Answers d n after l a → (b : Bool) →
+  handed-agree : (x : Parsed) (room : List ℕ) {l : Left} {a : Answer} {room′ : List ℕ} → Answers d n after l a → (b : Bool) →
       l ≡ handed-by x room b .left → room′ ≡ handed-by x room b .room → (a ≡ out-by x room b .answer) × (room′ ≡ out-by x room b .room)
   unfolding handed-by out-by
   handed-agree x room A true p q = (A .reported (length (before (x .items))) (reach (x .items)) (lineFeeds (before (x .items))) p, q)
-  handed-agree x room A false p q = (A .read (length (shown (x .items))) (lineFeeds (shown (x .items))) (x .shift) (x .rest) p, q)
+  handed-agree x room A false p q = (A .read (length (shown (x .items))) (lineFeeds (shown (x .items))) (x .spot) (x .rest) p, q)
 
   refuses : (k : ℕ) {l : Left} {a : Answer} → Answers d n after l a → eqb k 0 ≡ false → eqb k 11 ≡ false → l .refusal ≡ k → a ≡ refusing k d
   refuses k A y z e =
@@ -203,15 +223,15 @@ module _ (d : Decoder) (t : Tables) (chunk room : List ℕ) where
   abbrev pub fed-bytes : ℕ
   fed-bytes = d .taken + length chunk
 
-  abbrev pub fed-after : ℕ → Shift → List ℕ → Decoder
+  abbrev pub fed-after : ℕ → Spot → List ℕ → Decoder
   fed-after = fed d fed-bytes
 
   -- what reading leaves, and the call, by the tests behind those of the record and the tables
   unfoldable pub left-by : (c f r b : Bool) → Result
   left-by c f r b =
-      c then refused 8 (d .state) (d .flag) (heldIn d) room else
-      f then refused 14 (d .state) (d .flag) (heldIn d) room else
-      r then refused 7 (d .state) (d .flag) (heldIn d) room else handed-by (readOn d t chunk) room b
+      c then refused 8 (d .stage) (d .state) (d .flag) (heldIn d) room else
+      f then refused 14 (d .stage) (d .state) (d .flag) (heldIn d) room else
+      r then refused 7 (d .stage) (d .state) (d .flag) (heldIn d) room else handed-by (readOn d t chunk) room b
 
   call-by : (c f r b : Bool) → Outcome
   call-by c f r b =
@@ -232,7 +252,7 @@ module _ (d : Decoder) (t : Tables) (chunk room : List ℕ) where
     feed-tables f = let g = record-good d good in rw (g .0, g .1, f)
 
     abbrev pub chunk-read : Result
-    chunk-read = readChunk (d .encoding) (d .mode) (d .state) (d .flag) (heldIn d) (stillToTake d) t chunk room
+    chunk-read = readChunk (d .encoding) (d .mode) (d .stage) (d .state) (d .flag) (heldIn d) (stillToTake d) t chunk room
 
     -- what reading leaves, by those tests
     pub chunk-by : d .taken ≤ 4294967295 → chunk-read ≡ left-by (ltb 65536 (length chunk)) (ltb 4294967295 fed-bytes)
@@ -251,18 +271,18 @@ module _ (d : Decoder) (t : Tables) (chunk room : List ℕ) where
         rw (g .0, g .1, f) (agree A (ltb 65536 (length chunk)) (ltb 4294967295 fed-bytes) (ltb (length room) (length chunk + d .held))
         (eqb (d .mode) 1 && broken (readOn d t chunk .items)) (p ∙ ap (λ (y : Result). y .left) e) (q ∙ ap (λ (y : Result). y .room) e))
 
--- A finish: refused for the record, refused for the room, and ended.
-module _ (d : Decoder) (room : List ℕ) where
-  pub finish-record : (recordRefusal d ≡ 0 → ⊥) → finishing d room ≡ refuse (recordRefusal d) d room
+-- A finish: refused for the record, refused for the tables while the choice is to come, refused for the room, and ended.
+module _ (d : Decoder) (t : Tables) (room : List ℕ) where
+  pub finish-record : (recordRefusal d ≡ 0 → ⊥) → finishing d t room ≡ refuse (recordRefusal d) d room
   unfolding finishing finishRefusal
   finish-record z = record-refused d room _ _ z
 
-  abbrev pub end : Read
-  end = record { items = readEnd d; shift = plain; rest = [] }
+  abbrev pub end : Parsed
+  end = record { items = readEnd d t; spot = spot 0 plain; rest = [] }
 
   unfoldable pub end-by : (r b : Bool) → Result
   end-by r b =
-      r then refused 7 (d .state) (d .flag) (heldIn d) room else handed-by end room b
+      r then refused 7 (d .stage) (d .state) (d .flag) (heldIn d) room else handed-by end room b
 
   finish-by : (r b : Bool) → Outcome
   finish-by r b =
@@ -276,19 +296,23 @@ module _ (d : Decoder) (room : List ℕ) where
   ends-agree A false b p q = handed-agree d (d .taken) (finished d) end room A b p q
 
   module _ (good : recordRefusal d ≡ 0) where
-    abbrev pub end-read : Result
-    end-read = readingEnd (d .encoding) (d .mode) (d .state) (d .flag) (heldIn d) room
+    pub finish-tables : misfit d t ≡ true → finishing d t room ≡ refuse 4 d room
+    unfolding finishing finishRefusal
+    finish-tables f = let g = record-good d good in rw (g .0, g .1, f)
 
-    pub end-is : end-read ≡ end-by (ltb (length room) (d .held)) (eqb (d .mode) 1 && broken (readEnd d))
+    abbrev pub end-read : Result
+    end-read = readingEnd (d .encoding) (d .mode) (d .stage) (d .state) (d .flag) (heldIn d) t room
+
+    pub end-is : end-read ≡ end-by (ltb (length room) (d .held)) (eqb (d .mode) 1 && broken (readEnd d t))
     unfolding readingEnd end-by handed-by
     end-is = rw (le-ltb 3 (d .held) (parts d (record-good d good .0) .held))
 
-    pub finish-read : {l : Left} {a : Answer} {room′ : List ℕ} → Answers d (d .taken) (finished d) l a →
-        l ≡ end-read .left → room′ ≡ end-read .room → (a ≡ finishing d room .answer) × (room′ ≡ finishing d room .room)
+    pub finish-read : misfit d t ≡ false → {l : Left} {a : Answer} {room′ : List ℕ} → Answers d (d .taken) (finished d) l a →
+        l ≡ end-read .left → room′ ≡ end-read .room → (a ≡ finishing d t room .answer) × (room′ ≡ finishing d t room .room)
     unfolding finishing finishRefusal finish-by out-by
-    finish-read A p q =
+    finish-read f A p q =
         let g = record-good d good in
-        rw (g .0, g .1) (ends-agree A (ltb (length room) (d .held)) (eqb (d .mode) 1 && broken (readEnd d))
+        rw (g .0, g .1, f) (ends-agree A (ltb (length room) (d .held)) (eqb (d .mode) 1 && broken (readEnd d t))
         (p ∙ ap (λ (y : Result). y .left) end-is) (q ∙ ap (λ (y : Result). y .room) end-is))
 
 -- opening
@@ -297,10 +321,10 @@ module _ (e m rule : ℕ) where
   unfolding opening openRefusal
   open-2 h = rw (lt-ltb 39 e h)
 
-  pub open-3 : e ≤ 39 → ltb 1 m || ltb 1 rule ≡ true → opening e m rule ≡ refusing 3 (closed 0 0 0 0)
+  pub open-3 : e ≤ 39 → ltb 1 m || ltb 2 rule ≡ true → opening e m rule ≡ refusing 3 (closed 0 0 0 0)
   unfolding opening openRefusal
   open-3 h k = rw (le-ltb 39 e h, k)
 
-  pub open-0 : e ≤ 39 → m ≤ 1 → rule ≤ 1 → opening e m rule ≡ accepting 0 (new e m rule)
+  pub open-0 : e ≤ 39 → m ≤ 1 → rule ≤ 2 → opening e m rule ≡ accepting 0 (new e m rule)
   unfolding opening openRefusal
-  open-0 h l r = rw (le-ltb 39 e h, le-ltb 1 m l, le-ltb 1 rule r)
+  open-0 h l r = rw (le-ltb 39 e h, le-ltb 1 m l, le-ltb 2 rule r)

@@ -1,7 +1,7 @@
 -- What the code tells from an encoding number, by its tests. Assumes nothing.
 use mathlib.Core.Path.{_≡_, refl, sym, _∙_}
-use mathlib.Core.Bool.{Bool, true, false, _&&_, _||_}
-use Prim.Native.Nat.{ℕ, _*_, _/_, _%_, _≤_, _<_}
+use mathlib.Core.Bool.{Bool, true, false, _&&_, _||_, or-false}
+use Prim.Native.Nat.{ℕ, _+_, _-_, _*_, _/_, _%_, _≤_, _<_}
 use native.Mathlib.Nat.{div-add-mod', mod-lt}
 use native.Mathlib.Omega.{arith}
 use lib.Dec.{leb, eqb, lit≤}
@@ -12,15 +12,45 @@ use Rattle.standard.specs.Sequence.{Shift}
 use Rattle.standard.proofs.Tests.{split}
 use Rattle.standard.proofs.Families.{by-family}
 use Rattle.decoder.specs.Valid.{unshifted, marking, paired, replaced, escaping, possible, endedTotals}
+use Rattle.decoder.specs.Code.{utf16, mostLines}
+
+-- a number with the test of most encodings
+record Plain (e : ℕ) : Type 0 where
+  n0 : eqb e 0 ≡ false
+  n33 : eqb e 33 ≡ false
+  n36 : eqb e 36 ≡ false
+  n37-38 : utf16 e ≡ false
+
+plain-low : (e : ℕ) → 1 ≤ e → e ≤ 30 → Plain e
+plain-low e l u = record {
+  n0 = ne-eqb e 0 (λ z. omega arith);
+  n33 = ne-eqb e 33 (λ z. omega arith);
+  n36 = ne-eqb e 36 (λ z. omega arith);
+  n37-38 = rw (ne-eqb e 37 (λ z. omega arith), ne-eqb e 38 (λ z. omega arith));
+}
+
+plain-high : (e : ℕ) → 39 ≤ e → Plain e
+plain-high e l = record {
+  n0 = ne-eqb e 0 (λ z. omega arith);
+  n33 = ne-eqb e 33 (λ z. omega arith);
+  n36 = ne-eqb e 36 (λ z. omega arith);
+  n37-38 = rw (ne-eqb e 37 (λ z. omega arith), ne-eqb e 38 (λ z. omega arith));
+}
 
 -- whether rule "drop" applies
-pub marked-is : (e : ℕ) → traits (family e) .mark ≡ (eqb e 0 then true else eqb e 37 then true else eqb e 38)
+abbrev drops : ℕ → Bool
+drops e = eqb e 0 then true else utf16 e
+
+drops-plain : (e : ℕ) → Plain e → false ≡ drops e
+drops-plain e p = rw (p .n0, p .n37-38)
+
+pub marked-is : (e : ℕ) → traits (family e) .mark ≡ drops e
 unfolding traits
-marked-is e = by-family (λ f. traits f .mark ≡ (eqb e 0 then true else eqb e 37 then true else eqb e 38)) e (record {
+marked-is e = by-family (λ f. traits f .mark ≡ drops e) e (record {
   c0 = λ h. rw h;
   c21 = λ h. rw h;
-  c1-28 = λ l u n. rw (ne-eqb e 0 (λ z. omega arith), ne-eqb e 37 (λ z. omega arith), ne-eqb e 38 (λ z. omega arith));
-  c29-30 = λ l u. rw (ne-eqb e 0 (λ z. omega arith), ne-eqb e 37 (λ z. omega arith), ne-eqb e 38 (λ z. omega arith));
+  c1-28 = λ a b n. drops-plain e (plain-low e a (omega arith));
+  c29-30 = λ a b. drops-plain e (plain-low e (omega arith) b);
   c31 = λ h. rw h;
   c32 = λ h. rw h;
   c33 = λ h. rw h;
@@ -29,34 +59,8 @@ marked-is e = by-family (λ f. traits f .mark ≡ (eqb e 0 then true else eqb e 
   c36 = λ h. rw h;
   c37 = λ h. rw h;
   c38 = λ h. rw h;
-  c39 = λ l. rw (ne-eqb e 0 (λ z. omega arith), ne-eqb e 37 (λ z. omega arith), ne-eqb e 38 (λ z. omega arith));
+  c39 = λ a. drops-plain e (plain-high e a);
 })
-
--- a number with the test of most encodings
-record Plain (e : ℕ) : Type 0 where
-  n0 : eqb e 0 ≡ false
-  n33 : eqb e 33 ≡ false
-  n36 : eqb e 36 ≡ false
-  n37 : eqb e 37 ≡ false
-  n38 : eqb e 38 ≡ false
-
-plain-low : (e : ℕ) → 1 ≤ e → e ≤ 30 → Plain e
-plain-low e l u = record {
-  n0 = ne-eqb e 0 (λ z. omega arith);
-  n33 = ne-eqb e 33 (λ z. omega arith);
-  n36 = ne-eqb e 36 (λ z. omega arith);
-  n37 = ne-eqb e 37 (λ z. omega arith);
-  n38 = ne-eqb e 38 (λ z. omega arith);
-}
-
-plain-high : (e : ℕ) → 39 ≤ e → Plain e
-plain-high e l = record {
-  n0 = ne-eqb e 0 (λ z. omega arith);
-  n33 = ne-eqb e 33 (λ z. omega arith);
-  n36 = ne-eqb e 36 (λ z. omega arith);
-  n37 = ne-eqb e 37 (λ z. omega arith);
-  n38 = ne-eqb e 38 (λ z. omega arith);
-}
 
 -- the shifts that are possible
 abbrev poss : ℕ → ℕ → Shift → ℕ → ℕ → Bool
@@ -64,11 +68,10 @@ poss e m s c l =
     eqb e 0 then marking s c l else
     eqb e 33 then escaping m s c l else
     eqb e 36 then replaced m s c l else
-    eqb e 37 then paired s c l else
-    eqb e 38 then paired s c l else unshifted s c l
+    utf16 e then paired s c l else unshifted s c l
 
 poss-plain : (e m : ℕ) (s : Shift) (c l : ℕ) → Plain e → unshifted s c l ≡ poss e m s c l
-poss-plain e m s c l p = rw (p .n0, p .n33, p .n36, p .n37, p .n38)
+poss-plain e m s c l p = rw (p .n0, p .n33, p .n36, p .n37-38)
 
 pub possible-is : (e m : ℕ) (s : Shift) (c l : ℕ) → possible (family e) m s c l ≡ poss e m s c l
 unfolding possible
@@ -86,34 +89,6 @@ possible-is e m s c l = by-family (λ f. possible f m s c l ≡ poss e m s c l) 
   c37 = λ h. rw h;
   c38 = λ h. rw h;
   c39 = λ a. poss-plain e m s c l (plain-high e a);
-})
-
--- the totals of a decoder that has ended
-abbrev totals : ℕ → ℕ → ℕ → ℕ → Bool
-totals e m n l =
-    eqb e 36 then eqb l 0 && (eqb m 0 || leb n 65536) else
-    eqb e 37 then leb (2 * l) n else
-    eqb e 38 then leb (2 * l) n else leb l n
-
-totals-plain : (e m n l : ℕ) → Plain e → leb l n ≡ totals e m n l
-totals-plain e m n l p = rw (p .n36, p .n37, p .n38)
-
-pub totals-is : (e m n l : ℕ) → endedTotals (family e) m n l ≡ totals e m n l
-unfolding endedTotals
-totals-is e m n l = by-family (λ f. endedTotals f m n l ≡ totals e m n l) e (record {
-  c0 = λ h. rw h;
-  c21 = λ h. rw h;
-  c1-28 = λ a b x. totals-plain e m n l (plain-low e a (omega arith));
-  c29-30 = λ a b. totals-plain e m n l (plain-low e (omega arith) b);
-  c31 = λ h. rw h;
-  c32 = λ h. rw h;
-  c33 = λ h. rw h;
-  c34 = λ h. rw h;
-  c35 = λ h. rw h;
-  c36 = λ h. rw h;
-  c37 = λ h. rw h;
-  c38 = λ h. rw h;
-  c39 = λ a. totals-plain e m n l (plain-high e a);
 })
 
 two : 0 < 2
@@ -137,3 +112,46 @@ by-pairs s c l e = rw (eq-eqb (c % 2) 0 e, half c l, half-none c e) (go (eqb (s 
     go : (t x : Bool) → t && x ≡ (t && true) && x
     go true x = refl
     go false x = refl
+
+-- The totals of a decoder that has ended: no more line feeds than the label's encoding gives, or three bytes more than line feeds.
+abbrev totals : ℕ → ℕ → ℕ → Bool
+totals e n l = leb l (mostLines e n) || leb (l + 3) n
+
+-- UTF-8 behind its mark adds nothing where a line feed takes a byte
+no-more : (n l : ℕ) → leb l n ≡ leb l n || leb (l + 3) n
+no-more n l = split (leb (l + 3) n)
+    (λ h. rw (le-leb l n (omega (arith, leb-true (l + 3) n h))))
+    (λ h. rw (h, or-false (leb l n)))
+
+pub none-at-most : (l : ℕ) → leb l 0 ≡ eqb l 0
+none-at-most l = split (eqb l 0)
+    (λ h. le-leb l 0 (omega (arith, eqb-true l 0 h)) ∙ sym h)
+    (λ h. lt-leb l 0 (omega (arith, eqb-false l 0 h)) ∙ sym h)
+
+totals-plain : (e n l : ℕ) → Plain e → leb l n ≡ totals e n l
+unfolding mostLines
+totals-plain e n l p = rw (p .n36, p .n37-38) (no-more n l)
+
+pub totals-is : (e n l : ℕ) → endedTotals (family e) n l ≡ totals e n l
+unfolding endedTotals mostLines
+totals-is e n l = by-family (λ f. endedTotals f n l ≡ totals e n l) e (record {
+  c0 = λ h. rw h (no-more n l);
+  c21 = λ h. rw h (no-more n l);
+  c1-28 = λ a b x. totals-plain e n l (plain-low e a (omega arith));
+  c29-30 = λ a b. totals-plain e n l (plain-low e (omega arith) b);
+  c31 = λ h. rw h (no-more n l);
+  c32 = λ h. rw h (no-more n l);
+  c33 = λ h. rw h (no-more n l);
+  c34 = λ h. rw h (no-more n l);
+  c35 = λ h. rw h (no-more n l);
+  c36 = λ h. rw (h, none-at-most l);
+  c37 = λ h. rw (h, half n l);
+  c38 = λ h. rw (h, half n l);
+  c39 = λ a. totals-plain e n l (plain-high e a);
+})
+
+-- three bytes more than line feeds
+pub behind-mark : (n l : ℕ) → 3 ≤ n → leb l (n - 3) ≡ leb (l + 3) n
+behind-mark n l h = split (leb (l + 3) n)
+    (λ e. le-leb l (n - 3) (omega (arith, leb-true (l + 3) n e)) ∙ sym e)
+    (λ e. lt-leb l (n - 3) (omega (arith, leb-false (l + 3) n e)) ∙ sym e)

@@ -4,25 +4,27 @@ use mathlib.Core.Bool.{Bool, true, false, _&&_, not}
 use mathlib.Core.List.{List, [], _∷_, _++_}
 use Prim.Native.Nat.{ℕ, _+_, _-_, _*_, _%_, _≤_}
 use native.Mathlib.Omega.{arith}
-use lib.Dec.{ltb, leb, eqb}
-use lib.ListN.{length, length-append}
+use lib.Dec.{T, ltb, leb, eqb, lit≤}
+use lib.ListN.{length, drop, length-append}
 use lib.Seq.{length-take-le}
 use borrow.Author.Tests.{ltb-false, leb-true, eqb-true, eqb-false}
 use Rattle.standard.specs.Base.{_then_else_, lineFeeds}
 use Rattle.standard.specs.Encodings.{Family, UTF-8, single-byte, windows-1252, GB18030, Big5, EUC-JP, ISO-2022-JP}
 use Rattle.standard.specs.Encodings.{Shift-JIS, EUC-KR, Replacement, UTF-16BE, UTF-16LE, x-user-defined, family, Tables, noTables}
-use Rattle.standard.specs.Sequence.{Shift}
+use Rattle.standard.specs.Sequence.{Shift, text, plain}
 use Rattle.standard.specs.Next.{next}
-use Rattle.standard.specs.Items.{Item, Read, shown, broken, widths}
+use Rattle.standard.specs.Items.{Item, span, shown, broken, before, widths, reach}
+use Rattle.standard.specs.Decode.{decode, ending, everything}
+use Rattle.standard.specs.Choice.{Choice, waiting, label, marked, choose, reader, markWidth, rests}
+use Rattle.standard.specs.Choice.{Spot, Parsed, lift, chosen, readFrom, endFrom}
 use Rattle.standard.proofs.Tests.{and-left, and-right}
-use Rattle.standard.proofs.FamilyLaws.{keeps, next-laws}
-use Rattle.standard.proofs.Reading.{reading, ending-is}
 use Rattle.standard.proofs.LineFeeds.{line-feeds-length}
-use Rattle.standard.proofs.Bounds.{Bounded, decode-bounded, ending-bounded, error-small}
+use Rattle.standard.proofs.Bounds.{Bounded, decode-bounded, ending-bounded, everything-bounded, error-small}
+use Rattle.standard.proofs.Stages.{Rests, parsing, ended-from}
 use Rattle.reading.specs.Reading.{Result}
 use Rattle.reading.specs.declared.Left.{Left}
-use Rattle.decoder.specs.Record.{shiftOf, heldOf}
-use Rattle.decoder.specs.Valid.{unshifted, marking, paired, replaced, isoCost, isoLeast, escaping, possible, isMore}
+use Rattle.decoder.specs.Record.{spotOf, heldOf}
+use Rattle.decoder.specs.Valid.{unshifted, marking, paired, replaced, isoCost, isoLeast, escaping, possible, possibleAt}
 use Rattle.decoder.specs.Calls.{readOn, readEnd}
 use Rattle.decoder.specs.Code.{recordRefusal, Small, Takes}
 use Rattle.decoder.specs.declared.Decoder.{Decoder}
@@ -69,26 +71,87 @@ module _ (s : Shift) (c l : ℕ) where
   possible-lines UTF-16LE m e = paired-lines e
   possible-lines x-user-defined m e = unshifted-lines e
 
--- the totals of a decoder that is not refused
+-- the same at a spot: a mark only adds bytes
+pub possible-at-lines : (e m : ℕ) (p : Spot) (c l : ℕ) → possibleAt e m p c l ≡ true → l ≤ c
+unfolding possibleAt
+possible-at-lines e m p c l = go (eqb (p .stage) 0) (eqb (p .stage) 1)
+  where
+    g : ℕ
+    g = p .stage
+
+    s : Shift
+    s = p .shift
+
+    go : (x y : Bool) →
+        (x then possible (family e) m s c l else
+        y then eqb (s .state) 0 && not (s .flag) && eqb c 0 && eqb l 0 else
+        leb g 4 && not (s .flag) && leb (markWidth g) c && possible (family (reader e g)) m s (c - markWidth g) l) ≡ true → l ≤ c
+    go true y h = possible-lines s c l (family e) m h
+    go false true h = omega (arith, eqb-true l 0 (and-right (eqb (s .state) 0 && not (s .flag) && eqb c 0) (eqb l 0) h))
+    go false false h =
+        let n = c - markWidth g in
+        omega (arith, possible-lines s n l (family (reader e g)) m (and-right (leb g 4 && not (s .flag) && leb (markWidth g) c) _ h))
+
+-- what is known of a decoder that is not refused
 pub record Counted (d : Decoder) : Type 0 where
   pub held : d .held ≤ d .taken
   pub lines : d .lines ≤ d .taken - d .held
   pub bytes : length (heldOf d) ≡ d .held
+  pub rest : Rests (d .encoding) (spotOf d) (heldOf d)
 
 pub counted : (d : Decoder) → recordRefusal d ≡ 0 → Counted d
 counted d good =
     let g = record-good d good in
     let P = parts d (g .0) in
-    let f = family (d .encoding) in
+    let e = d .encoding in
+    let p = spotOf d in
     let a = leb (d .held) (d .taken) in
-    let b = possible f (d .mode) (shiftOf d) (d .taken - d .held) (d .lines) in
+    let b = possibleAt e (d .mode) p (d .taken - d .held) (d .lines) in
+    let r = rests e p (heldOf d) in
     let whole = sym (rest-open d (eqb-false (d .ended) 1 (g .1))) ∙ P .rest in
-    let v = and-left (a && b) (isMore (next noTables f (shiftOf d) (heldOf d))) whole in
+    let v = and-left (a && b) r whole in
     record {
       held = leb-true (d .held) (d .taken) (and-left a b v);
-      lines = possible-lines (shiftOf d) (d .taken - d .held) (d .lines) f (d .mode) (and-right a b v);
+      lines = possible-at-lines e (d .mode) p (d .taken - d .held) (d .lines) (and-right a b v);
       bytes = length-take-le (d .held) (d .first ∷ d .second ∷ d .third ∷ []) (P .held);
+      rest = and-right (a && b) r whole;
     }
+
+-- Before an error there are no more line feeds than bytes, and it has a byte of its own: from every spot. An eaten mark only adds bytes.
+mark-bounded : (w : ℕ) (is : List Item) → Bounded is → Bounded (span w (text []) ∷ is)
+unfolding before reach widths broken
+mark-bounded w is b = record { feeds = omega (arith, b .feeds); own-byte = λ q. omega (arith, b .own-byte q) }
+
+nothing-bounded : Bounded []
+unfolding before reach broken lineFeeds
+nothing-bounded = record { feeds = lit≤ tt; own-byte = λ q. absurd (subst T (sym q) tt) }
+
+read-bounded : (t : Tables) (e : ℕ) (p : Spot) (xs : List ℕ) → Bounded (readFrom t e p xs .items)
+unfolding chosen readFrom
+read-bounded t e p xs = go (eqb (p .stage) 1)
+  where
+    choice : (c : Choice) → Bounded (chosen t e xs c .items)
+    choice waiting = nothing-bounded
+    choice label = decode-bounded t (family e) plain xs
+    choice (marked w g) = mark-bounded w _ (decode-bounded t (family (reader e g)) plain (drop w xs))
+
+    f : Family
+    f = family (reader e (p .stage))
+
+    go : (b : Bool) → Bounded ((b then chosen t e xs (choose xs) else lift (p .stage) (decode (next t f) (p .shift) xs)) .items)
+    go true = choice (choose xs)
+    go false = decode-bounded t f (p .shift) xs
+
+end-bounded : (t : Tables) (e : ℕ) (p : Spot) (xs : List ℕ) → Bounded (endFrom t e p xs)
+unfolding endFrom
+end-bounded t e p xs = go (eqb (p .stage) 1)
+  where
+    f : Family
+    f = family (reader e (p .stage))
+
+    go : (b : Bool) → Bounded (b then everything t (family e) plain xs else ending noTables f (p .shift) xs)
+    go true = everything-bounded t (family e) plain xs
+    go false = ending-bounded noTables f (p .shift) xs
 
 -- What is read fits the bytes taken: n after the call.
 record Within (d : Decoder) (n : ℕ) (is : List Item) : Type 0 where
@@ -96,7 +159,7 @@ record Within (d : Decoder) (n : ℕ) (is : List Item) : Type 0 where
   wide : d .taken - d .held + widths is ≤ n
   few : lineFeeds (shown is) ≤ widths is
 
-small-handed : (d : Decoder) → Counted d → (n : ℕ) (x : Read) (room : List ℕ) → Within d n (x .items) → (b : Bool) →
+small-handed : (d : Decoder) → Counted d → (n : ℕ) (x : Parsed) (room : List ℕ) → Within d n (x .items) → (b : Bool) →
     eqb (d .mode) 1 && broken (x .items) ≡ b → Small d n (handed-by x room b .left)
 unfolding handed-by
 small-handed d C n x room W true e =
@@ -124,13 +187,13 @@ module _ (d : Decoder) (t : Tables) (chunk room : List ℕ) (good : recordRefusa
 
   feed-within : Within d total (readOn d t chunk .items)
   feed-within =
-      let f = family (d .encoding) in
+      let e = d .encoding in
       let C = counted d good in
-      let R = reading (keeps f) (next t f) (next-laws t f) (shiftOf d) (heldOf d ++ chunk) in
+      let R = parsing t e (spotOf d) (heldOf d ++ chunk) in
       let x = readOn d t chunk in
       let l : length (heldOf d) + length chunk ≡ length (R .used) + length (x .rest) = simp length-append at (ap length (R .split)) in
       record {
-        bounded = decode-bounded t f (shiftOf d) (heldOf d ++ chunk);
+        bounded = read-bounded t e (spotOf d) (heldOf d ++ chunk);
         wide = omega (arith, C .held, C .bytes, R .wide, l);
         few = omega (arith, line-feeds-length (shown (x .items)), R .count, R .wide);
       }
@@ -162,26 +225,25 @@ module _ (d : Decoder) (t : Tables) (chunk room : List ℕ) (good : recordRefusa
           )
 
 -- a finish
-module _ (d : Decoder) (room : List ℕ) (good : recordRefusal d ≡ 0) where
-  end-within : Within d (d .taken) (readEnd d)
+module _ (d : Decoder) (t : Tables) (room : List ℕ) (good : recordRefusal d ≡ 0) where
+  end-within : Within d (d .taken) (readEnd d t)
   end-within =
-      let f = family (d .encoding) in
       let C = counted d good in
-      let E = ending-is noTables f (shiftOf d) (heldOf d) in
+      let E = ended-from t (d .encoding) (spotOf d) (heldOf d) (C .rest) in
       record {
-        bounded = ending-bounded noTables f (shiftOf d) (heldOf d);
+        bounded = end-bounded t (d .encoding) (spotOf d) (heldOf d);
         wide = omega (arith, C .held, C .bytes, E .wide);
-        few = omega (arith, line-feeds-length (shown (readEnd d)), E .count, E .wide);
+        few = omega (arith, line-feeds-length (shown (readEnd d t)), E .count, E .wide);
       }
 
-  pub finish-small : {l : Left} → l ≡ end-read d room good .left → Small d (d .taken) l
+  pub finish-small : {l : Left} → l ≡ end-read d t room good .left → Small d (d .taken) l
   unfolding end-by
   finish-small p =
-      subst (Small d (d .taken)) (sym (p ∙ ap (λ (y : Result). y .left) (end-is d room good))) (go (ltb (length room) (d .held)))
+      subst (Small d (d .taken)) (sym (p ∙ ap (λ (y : Result). y .left) (end-is d t room good))) (go (ltb (length room) (d .held)))
     where
       report : Bool
-      report = eqb (d .mode) 1 && broken (readEnd d)
+      report = eqb (d .mode) 1 && broken (readEnd d t)
 
-      go : (r : Bool) → Small d (d .taken) (end-by d room r report .left)
+      go : (r : Bool) → Small d (d .taken) (end-by d t room r report .left)
       go true = small-refused d (d .taken) 7 refl refl refl
-      go false = small-handed d (counted d good) (d .taken) (end d room) room end-within report refl
+      go false = small-handed d (counted d good) (d .taken) (end d t room) room end-within report refl

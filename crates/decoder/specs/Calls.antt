@@ -1,4 +1,4 @@
--- Documents 01 and 02 (Ask 2): what opening, feed and finish answer: refusal, scalars written, place and line of an error, the decoder
+-- Documents 01 and 02 (Asks 1, 2): what opening, feed and finish answer: refusal, scalars written, place and line of an error, the decoder
 -- and the room afterwards. Assumes nothing.
 use mathlib.Core.Bool.{_&&_, _||_, not}
 use mathlib.Core.List.{List, _++_}
@@ -6,20 +6,19 @@ use Prim.Native.Nat.{ℕ, _+_, _-_}
 use lib.Dec.{ltb, eqb}
 use lib.ListN.{length, drop}
 use Rattle.standard.specs.Base.{_then_else_, lineFeeds}
-use Rattle.standard.specs.Encodings.{family, Tables, noTables, fits}
-use Rattle.standard.specs.Next.{next}
-use Rattle.standard.specs.Items.{Item, Read, shown, broken, before, reach}
-use Rattle.standard.specs.Decode.{decode, ending}
-use Rattle.decoder.specs.Record.{shiftOf, heldOf, holding, new, closed}
+use Rattle.standard.specs.Encodings.{family, Tables, fits}
+use Rattle.standard.specs.Items.{Item, shown, broken, before, reach}
+use Rattle.standard.specs.Choice.{Parsed, readFrom, endFrom}
+use Rattle.decoder.specs.Record.{spotOf, heldOf, holding, new, closed}
 use Rattle.decoder.specs.Valid.{valid}
 use Rattle.decoder.specs.declared.Decoder.{Decoder}
 use Rattle.decoder.specs.declared.Answer.{Answer}
 
--- Opening: 2, 3. Mode 0 replacing, 1 refusing; rule 0 drop, 1 keep.
+-- Opening: 2, 3. Mode 0 replacing, 1 refusing; rule 0 drop, 1 keep, 2 choose.
 unfoldable pub openRefusal : ℕ → ℕ → ℕ → ℕ
 openRefusal e m rule =
     ltb 39 e then 2 else
-    ltb 1 m || ltb 1 rule then 3 else 0
+    ltb 1 m || ltb 2 rule then 3 else 0
 
 unfoldable pub opening : ℕ → ℕ → ℕ → Answer
 opening e m rule =
@@ -57,10 +56,10 @@ handOut e m start n l is d room =
     eqb m 1 && broken is then report (start + reach is) (1 + l′) (before is) (closed e m n l′) room else
     write (shown is) (d (l + lineFeeds (shown is))) room
 
-abbrev pub handOutRead : ℕ → ℕ → ℕ → ℕ → ℕ → Read → List ℕ → Outcome
-handOutRead e m start n l r room = handOut e m start n l (r .items) (λ l′. holding e m n l′ (r .shift) (r .rest)) room
+abbrev pub handOutRead : ℕ → ℕ → ℕ → ℕ → ℕ → Parsed → List ℕ → Outcome
+handOutRead e m start n l r room = handOut e m start n l (r .items) (λ l′. holding e m n l′ (r .spot) (r .rest)) room
 
--- Feed: 5, 6, 4, 8, 14, 7, then 11.
+-- Feed: 5, 6, 4, 8, 14, 7, then 11. The tables are the label's, whatever a mark chose.
 unfoldable pub feedRefusal : Decoder → Tables → List ℕ → List ℕ → ℕ
 feedRefusal d t chunk room =
     not (valid d) then 5 else
@@ -70,9 +69,9 @@ feedRefusal d t chunk room =
     ltb 4294967295 (d .taken + length chunk) then 14 else
     ltb (length room) (length chunk + d .held) then 7 else 0
 
--- what is read: the bytes held and then the chunk, from the record's shift; the bytes held are the last of those taken
-abbrev pub readOn : Decoder → Tables → List ℕ → Read
-readOn d t chunk = decode (next t (family (d .encoding))) (shiftOf d) (heldOf d ++ chunk)
+-- what is read: the bytes held and then the chunk, from the record's spot; the bytes held are the last of those taken
+abbrev pub readOn : Decoder → Tables → List ℕ → Parsed
+readOn d t chunk = readFrom t (d .encoding) (spotOf d) (heldOf d ++ chunk)
 
 unfoldable pub feeding : Decoder → Tables → List ℕ → List ℕ → Outcome
 feeding d t chunk room =
@@ -80,20 +79,21 @@ feeding d t chunk room =
     handOutRead (d .encoding) (d .mode) (d .taken - d .held) (d .taken + length chunk) (d .lines) (readOn d t chunk) room else
     refuse (feedRefusal d t chunk room) d room
 
--- Finish: 5, 6, 7, then 11; no tables.
-unfoldable pub finishRefusal : Decoder → List ℕ → ℕ
-finishRefusal d room =
+-- Finish: 5, 6, 4, 7, then 11. It looks at the tables only while the choice is still to come.
+unfoldable pub finishRefusal : Decoder → Tables → List ℕ → ℕ
+finishRefusal d t room =
     not (valid d) then 5 else
     eqb (d .ended) 1 then 6 else
+    eqb (d .stage) 1 && not (fits (family (d .encoding)) t) then 4 else
     ltb (length room) (d .held) then 7 else 0
 
 -- what the end of input gives for the bytes held
-abbrev pub readEnd : Decoder → List Item
-readEnd d = ending noTables (family (d .encoding)) (shiftOf d) (heldOf d)
+abbrev pub readEnd : Decoder → Tables → List Item
+readEnd d t = endFrom t (d .encoding) (spotOf d) (heldOf d)
 
-unfoldable pub finishing : Decoder → List ℕ → Outcome
-finishing d room =
-    eqb (finishRefusal d room) 0 then
-    handOut (d .encoding) (d .mode) (d .taken - d .held) (d .taken) (d .lines) (readEnd d)
+unfoldable pub finishing : Decoder → Tables → List ℕ → Outcome
+finishing d t room =
+    eqb (finishRefusal d t room) 0 then
+    handOut (d .encoding) (d .mode) (d .taken - d .held) (d .taken) (d .lines) (readEnd d t)
     (closed (d .encoding) (d .mode) (d .taken)) room else
-    refuse (finishRefusal d room) d room
+    refuse (finishRefusal d t room) d room

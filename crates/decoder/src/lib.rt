@@ -13,6 +13,7 @@ use record::held;
 use record::new;
 use record::refused;
 use record::unopened;
+use refusals::misfits;
 use refusals::record_refusal;
 ghost use mathlib.Core.Path.{_≡_};
 ghost use Rattle.standard.specs.Encodings.{lent};
@@ -21,14 +22,16 @@ ghost use Rattle.decoder.specs.Calls.{opening, feeding, finishing};
 // What a decoder keeps from call to call. Every field is a number in use; one that is not in use is 0.
 #[repr(C)]
 pub struct Decoder {
-    // the bytes taken since the opening, a dropped mark and the bytes held among them
+    // the bytes taken since the opening, a dropped or eaten mark and the bytes held among them
     pub taken: u32,
     // the line feeds (U+000A) handed out since the opening
     pub lines: u32,
-    // encoding number, 0 to 39
+    // encoding number of the label, 0 to 39
     pub encoding: u8,
     // 0 replacing, 1 refusing
     pub mode: u8,
+    // 0 the label's encoding reads, 1 a mark at the front is still to choose, 2, 3, 4 a mark chose UTF-8, UTF-16BE, UTF-16LE
+    pub stage: u8,
     // ISO-2022-JP: output state, 0 ASCII, 1 Roman, 2 katakana, 3 lead byte
     pub state: u8,
     // ISO-2022-JP: output flag; replacement: error given; UTF-8 and UTF-16: a mark at the front is still to be dropped
@@ -56,7 +59,7 @@ pub struct Answer {
 }
 
 impl Decoder {
-    // A new decoder of an encoding number, in a mode (0 replacing, 1 refusing), by a byte order mark rule (0 drop, 1 keep).
+    // A new decoder of an encoding number, in a mode (0 replacing, 1 refusing), by a byte order mark rule (0 drop, 1 keep, 2 choose).
     pub fn open(encoding: u8, mode: u8, rule: u8) -> Answer
         ensures { λ r. ⌜ r ≡ opening encoding mode rule ⌝ }
     {
@@ -66,14 +69,14 @@ impl Decoder {
         if 1 < mode {
             return unopened(3);
         }
-        if 1 < rule {
+        if 2 < rule {
             return unopened(3);
         }
         let decoder = new(encoding, mode, rule);
         accepted(0, decoder)
     }
 
-    // Decodes a chunk into the room: the bytes held and then the chunk, with the tables that the encoding wants.
+    // Decodes a chunk into the room: the bytes held and then the chunk, with the tables that the label's encoding wants.
     pub fn feed(self, chunk: &[u8], t1: &[u32], t2: &[u32], room: &mut [u32]) -> Answer
         ensures { λ r. ⌜ (r ≡ feeding self (lent (now (t1 .entry)) (now (t2 .entry))) (now (chunk .entry)) (now (room .entry)) .answer)
             × (now (room .exit) ≡ feeding self (lent (now (t1 .entry)) (now (t2 .entry))) (now (chunk .entry)) (now (room .entry)) .room) ⌝ }
@@ -87,6 +90,7 @@ impl Decoder {
             let left = read(
                 self.encoding,
                 self.mode,
+                self.stage,
                 before,
                 4294967295 - self.taken,
                 chunk,
@@ -101,19 +105,26 @@ impl Decoder {
         refused(self, 4)
     }
 
-    // The end of input: what it gives for the bytes held.
-    pub fn finish(self, room: &mut [u32]) -> Answer
-        ensures { λ r. ⌜ (r ≡ finishing self (now (room .entry)) .answer) × (now (room .exit) ≡ finishing self (now (room .entry)) .room) ⌝ }
+    // The end of input: what it gives for the bytes held. The tables are looked at only while the choice is still to come.
+    pub fn finish(self, t1: &[u32], t2: &[u32], room: &mut [u32]) -> Answer
+        ensures { λ r. ⌜ (r ≡ finishing self (lent (now (t1 .entry)) (now (t2 .entry))) (now (room .entry)) .answer)
+            × (now (room .exit) ≡ finishing self (lent (now (t1 .entry)) (now (t2 .entry))) (now (room .entry)) .room) ⌝ }
     {
         let n = record_refusal(self);
         if n != 0 {
             return refused(self, n);
         }
+        if misfits(self, t1, t2) {
+            return refused(self, 4);
+        }
         let before = held(self);
         let left = end(
             self.encoding,
             self.mode,
+            self.stage,
             before,
+            t1,
+            t2,
             room,
             self.state,
             self.flag,

@@ -13,7 +13,7 @@ ghost use Rattle.standard.specs.Encodings.{family, traits};
 ghost use Rattle.decoder.specs.Record.{bit, new, closed};
 ghost use Rattle.decoder.specs.Code.{Holds, accepting, reporting, refusing, heldIn, Answers, fed, finished, Fits, Small, Takes};
 
-// A record after so many bytes and line feeds, at the shift that reading leaves, with the bytes that it leaves.
+// A record after so many bytes and line feeds, at the spot that reading leaves, with the bytes that it leaves.
 fn holding(encoding: u8, mode: u8, taken: u32, lines: u32, left: Left) -> Decoder
     ensures { λ r. ⌜ Holds encoding mode taken lines left r ⌝ }
 {
@@ -22,6 +22,7 @@ fn holding(encoding: u8, mode: u8, taken: u32, lines: u32, left: Left) -> Decode
         lines,
         encoding,
         mode,
+        stage: left.stage,
         state: left.state,
         flag: left.flag,
         held: left.held.count,
@@ -44,16 +45,28 @@ fn drops(encoding: u8, rule: u8) -> u8
     0
 }
 
+// 1 if a mark at the front is to choose.
+fn chooses(rule: u8) -> u8
+    ensures { λ r. ⌜ r ≡ bit (eqb rule 2) ⌝ }
+{
+    if rule == 2 {
+        return 1;
+    }
+    0
+}
+
 // A new record: nothing is read, and nothing held.
 pub(crate) fn new(encoding: u8, mode: u8, rule: u8) -> Decoder
     ensures { λ r. ⌜ r ≡ new encoding mode rule ⌝ }
 {
     let flag = drops(encoding, rule);
+    let stage = chooses(rule);
     let left = Left {
         written: 0,
         place: 0,
         lines: 0,
         refusal: 0,
+        stage,
         state: 0,
         flag,
         held: Held {
@@ -75,6 +88,7 @@ fn closed(encoding: u8, mode: u8, taken: u32, lines: u32) -> Decoder
         lines,
         encoding,
         mode,
+        stage: 0,
         state: 0,
         flag: 0,
         held: 0,

@@ -1,18 +1,31 @@
 // The refusals that a record and the lent tables give.
 
 use crate::Decoder;
+use index::tables_fit;
+use reading::choice::choose;
+use reading::choice::reader;
 use sequences::next;
 ghost use mathlib.Core.Path.{_≡_};
-ghost use mathlib.Core.Bool.{_&&_, _||_};
-ghost use Prim.Native.Nat.{_≤_};
-ghost use lib.Dec.{ltb, leb, eqb};
-ghost use Rattle.standard.specs.Encodings.{family, traits, noTables};
+ghost use mathlib.Core.Bool.{_||_};
+ghost use Prim.Native.Nat.{_≤_, _<_};
+ghost use lib.Dec.{ltb, eqb};
+ghost use Rattle.standard.specs.Encodings.{family, traits, lent};
 ghost use Rattle.standard.specs.Sequence.{shift};
-ghost use Rattle.standard.specs.Next.{next};
-ghost use Rattle.decoder.specs.Record.{shiftOf, heldOf};
+ghost use Rattle.standard.specs.Choice.{markWidth, rests};
+ghost use Rattle.decoder.specs.Record.{spotOf, heldOf};
 ghost use Rattle.decoder.specs.Valid.{unshifted, marking, paired, replaced, isoCost, isoLeast, escaping};
-ghost use Rattle.decoder.specs.Valid.{possible, endedTotals, isMore, unused, validRest, valid};
-ghost use Rattle.decoder.specs.Code.{recordRefusal};
+ghost use Rattle.decoder.specs.Valid.{possible, possibleAt, endedTotals, unused, validRest, valid};
+ghost use Rattle.decoder.specs.Code.{utf16, mostLines, recordRefusal, misfit};
+
+// Is the encoding UTF-16BE or UTF-16LE?
+fn utf_16(encoding: u8) -> bool
+    ensures { λ r. ⌜ r ≡ utf16 encoding ⌝ }
+{
+    if encoding == 37 {
+        return true;
+    }
+    encoding == 38
+}
 
 // Does rule "drop" apply to an encoding?
 pub(crate) fn marked(encoding: u8) -> bool
@@ -21,10 +34,7 @@ pub(crate) fn marked(encoding: u8) -> bool
     if encoding == 0 {
         return true;
     }
-    if encoding == 37 {
-        return true;
-    }
-    encoding == 38
+    utf_16(encoding)
 }
 
 // Most encodings: no shift, and a line feed takes a byte.
@@ -151,42 +161,90 @@ fn possible(encoding: u8, mode: u8, state: u8, flag: u8, c: u32, l: u32) -> bool
     if encoding == 36 {
         return replaced(mode, state, flag, c, l);
     }
-    if encoding == 37 {
-        return paired(state, flag, c, l);
-    }
-    if encoding == 38 {
+    if utf_16(encoding) {
         return paired(state, flag, c, l);
     }
     unshifted(state, flag, c, l)
 }
 
-// replacement that has ended: in refusing mode in the feed of its first byte.
-fn replaced_totals(mode: u8, n: u32, l: u32) -> bool
-    ensures { λ r. ⌜ r ≡ (eqb l 0 && (eqb mode 0 || leb n 65536)) ⌝ }
+// The bytes of the mark that led to a stage.
+fn mark_width(stage: u8) -> u32
+    ensures { λ r. ⌜ r ≡ markWidth stage ⌝ }
 {
-    if l != 0 {
-        return false;
+    if stage == 2 {
+        return 3;
     }
-    if mode == 0 {
-        return true;
-    }
-    n <= 65536
+    2
 }
 
-// Can a decoder that has ended have taken n bytes and handed out l line feeds?
-fn ended_totals(encoding: u8, mode: u8, n: u32, l: u32) -> bool
-    ensures { λ r. ⌜ r ≡ endedTotals (family encoding) mode n l ⌝ }
+// While the choice is to come there is no shift, and nothing was read.
+fn possible_waiting(d: Decoder, c: u32) -> bool
+    requires { ⌜ d .stage ≡ 1 ⌝ }
+    ensures { λ r. ⌜ r ≡ possibleAt (d .encoding) (d .mode) (spotOf d) c (d .lines) ⌝ }
+{
+    if c != 0 {
+        return false;
+    }
+    unshifted(d.state, d.flag, 0, d.lines)
+}
+
+// Behind a mark its bytes count, and no other mark is dropped.
+fn possible_marked(d: Decoder, c: u32) -> bool
+    requires { ⌜ 1 < d .stage ⌝ }
+    ensures { λ r. ⌜ r ≡ possibleAt (d .encoding) (d .mode) (spotOf d) c (d .lines) ⌝ }
+{
+    if 4 < d.stage {
+        return false;
+    }
+    if d.flag == 1 {
+        return false;
+    }
+    let width = mark_width(d.stage);
+    if c < width {
+        return false;
+    }
+    let reads = reader(d.encoding, d.stage);
+    possible(reads, d.mode, d.state, d.flag, c - width, d.lines)
+}
+
+// Can a decoder come to this record's spot, with c bytes in whole sequences?
+fn possible_at(d: Decoder, c: u32) -> bool
+    ensures { λ r. ⌜ r ≡ possibleAt (d .encoding) (d .mode) (spotOf d) c (d .lines) ⌝ }
+{
+    if d.stage == 0 {
+        return possible(d.encoding, d.mode, d.state, d.flag, c, d.lines);
+    }
+    if d.stage == 1 {
+        return possible_waiting(d, c);
+    }
+    possible_marked(d, c)
+}
+
+// The most line feeds that an encoding gives of n bytes.
+fn most_lines(encoding: u8, n: u32) -> u32
+    ensures { λ r. ⌜ r ≡ mostLines encoding n ⌝ }
 {
     if encoding == 36 {
-        return replaced_totals(mode, n, l);
+        return 0;
     }
-    if encoding == 37 {
-        return l <= n / 2;
+    if utf_16(encoding) {
+        return n / 2;
     }
-    if encoding == 38 {
-        return l <= n / 2;
+    n
+}
+
+// Can a decoder that has ended have taken n bytes and handed out l line feeds? By the label's encoding, or by UTF-8 behind its mark.
+fn ended_totals(encoding: u8, n: u32, l: u32) -> bool
+    ensures { λ r. ⌜ r ≡ endedTotals (family encoding) n l ⌝ }
+{
+    let most = most_lines(encoding, n);
+    if l <= most {
+        return true;
     }
-    l <= n
+    if n < 3 {
+        return false;
+    }
+    l <= n - 3
 }
 
 // Is byte n, counted from 0, in use, or else 0?
@@ -212,20 +270,25 @@ fn unused(d: Decoder) -> bool
     false
 }
 
-// Are the bytes held a started sequence? No table is looked into.
+// Are the bytes held a started mark or sequence? No table is looked into.
 fn started(d: Decoder) -> bool
     requires { ⌜ d .held ≤ 3 ⌝ }
-    ensures { λ r. ⌜ r ≡ isMore (next noTables (family (d .encoding)) (shiftOf d) (heldOf d)) ⌝ }
+    ensures { λ r. ⌜ r ≡ rests (d .encoding) (spotOf d) (heldOf d) ⌝ }
 {
     if d.held == 0 {
         return true;
     }
+    if d.stage == 1 {
+        let c = choose(d.first, d.second, d.third, d.held as usize);
+        return c.stage == 1;
+    }
     let none = [0u32; 1];
     let empty = &none[0..0];
+    let reads = reader(d.encoding, d.stage);
     let q = next(
         empty,
         empty,
-        d.encoding,
+        reads,
         d.state,
         d.flag,
         d.first,
@@ -245,13 +308,16 @@ fn valid_ended(d: Decoder) -> bool
     if d.held != 0 {
         return false;
     }
+    if d.stage != 0 {
+        return false;
+    }
     if d.state != 0 {
         return false;
     }
     if d.flag != 0 {
         return false;
     }
-    ended_totals(d.encoding, d.mode, d.taken, d.lines)
+    ended_totals(d.encoding, d.taken, d.lines)
 }
 
 // What it says of any record: one that has not ended holds the last of the bytes taken.
@@ -266,7 +332,7 @@ fn valid_rest(d: Decoder) -> bool
     if d.taken < held {
         return false;
     }
-    if possible(d.encoding, d.mode, d.state, d.flag, d.taken - held, d.lines) {
+    if possible_at(d, d.taken - held) {
         return started(d);
     }
     false
@@ -308,4 +374,14 @@ pub(crate) fn record_refusal(d: Decoder) -> u8
         return 0;
     }
     5
+}
+
+// Do the lent tables not fit, where a finish looks at them: while the choice is still to come?
+pub(crate) fn misfits(d: Decoder, t1: &[u32], t2: &[u32]) -> bool
+    ensures { λ r. ⌜ r ≡ misfit d (lent (now (t1 .entry)) (now (t2 .entry))) ⌝ }
+{
+    if d.stage != 1 {
+        return false;
+    }
+    !tables_fit(d.encoding, t1, t2)
 }

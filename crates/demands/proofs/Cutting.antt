@@ -8,29 +8,26 @@ use lib.Dec.{T, eqb, lit≤}
 use lib.ListN.{length, take, drop, length-append}
 use lib.Seq.{take-append-seam}
 use Rattle.standard.specs.Base.{_then_else_, lineFeeds}
-use Rattle.standard.specs.Encodings.{family, Tables, noTables}
-use Rattle.standard.specs.Sequence.{Shift, more}
-use Rattle.standard.specs.Next.{next}
-use Rattle.standard.specs.Decode.{Item, Read, decode, ending, shown, broken, before, widths, reach, everything}
+use Rattle.standard.specs.Encodings.{Tables, noTables}
+use Rattle.standard.specs.Sequence.{plain}
+use Rattle.standard.specs.Decode.{Item, shown, broken, before, widths, reach}
+use Rattle.standard.specs.Choice.{Spot, spot, Parsed, readFrom, everythingFrom}
 use Rattle.standard.proofs.Tests.{and-left, and-right}
-use Rattle.standard.proofs.FamilyLaws.{keeps, next-laws}
-use Rattle.standard.proofs.Walk.{chunks, decode-more}
-use Rattle.standard.proofs.AnyTables.{Place, place, tables-meet, more-any}
 use Rattle.standard.proofs.Items.{shown-append, broken-append, before-append, before-broken, reach-append, reach-broken}
-use Rattle.standard.proofs.Reading.{reading, ending-any, empty}
 use Rattle.standard.proofs.LineFeeds.{line-feeds-append}
-use Rattle.decoder.specs.Record.{holding, closed, newShift}
-use Rattle.decoder.specs.Calls.{openRefusal, Outcome, refuse, handOut, feedRefusal, feeding, finishRefusal, finishing}
+use Rattle.standard.proofs.Stages.{Rests, none-rest, chunks-from, parsing, Standing, standing, meet-from, read-rest, all-rest, all-cut}
+use Rattle.decoder.specs.Record.{holding, closed, newSpot}
+use Rattle.decoder.specs.Calls.{openRefusal, Outcome, refuse, feedRefusal, feeding, finishRefusal, finishing}
 use Rattle.demands.specs.Histories.{Call, feed, finish, History, accepted, noted, after, start}
 use Rattle.demands.specs.Statements.{Piece, joined, cutting, Report, reported, reports, untaken, Account, account, Accepts, AllFeeds}
 use Rattle.demands.specs.Whole.{stopped, completed, dealt, wholeAccount}
 use Rattle.decoder.specs.declared.Decoder.{Decoder}
-use Rattle.decoder.proofs.Records.{shift-holding, held-holding}
-use Rattle.demands.proofs.Steps.{Stands, reads, ended, readOf, handedIf, feed-is, finish-is, Step, refused, fed, few, stepped, still, opened-is}
+use Rattle.demands.proofs.Steps.{Stands, reads, ended, readOf, endOf, handedIf, feed-is, finish-is, Step, refused, fed}
 use Rattle.demands.proofs.Steps.{feed-holding, finish-holding, feed-not-11, finish-not-11, feed-open, finish-open}
+use Rattle.demands.proofs.Steps.{stepped, still, opened-is, waiting-new}
 use Rattle.demands.proofs.Steps.{reported as reported-at}
 use Rattle.demands.proofs.Refused.{feed-accepted}
-use Rattle.demands.proofs.Invariants.{Tracks, tracks-new, tracks-step, Counted, counted-step}
+use Rattle.demands.proofs.Invariants.{Tracks, tracks-new, tracks-step, tracked, Counted, counted-step}
 
 -- in refusing mode nothing before was an error
 sound : (m : ℕ) (a b : Bool) → eqb m 1 && a ≡ false → eqb m 1 && b ≡ true → a ≡ false
@@ -45,76 +42,86 @@ second-broken : (x a b : Bool) → a ≡ false → x && b ≡ true → x && (a |
 second-broken x false b p q = q
 second-broken x true b p q = absurd (subst T p tt)
 
-module _ (t : Tables) (e m : ℕ) (s₀ : Shift) where
+module _ (t : Tables) (e m : ℕ) (p₀ : Spot) where
   -- what is read of the bytes taken
-  abbrev pub readAll : List ℕ → Read
-  readAll taken = decode (next t (family e)) s₀ taken
+  abbrev pub readAll : List ℕ → Parsed
+  readAll taken = readFrom t e p₀ taken
 
   -- What was handed out follows from the bytes taken: all that they show, or what stands before the first error.
   pub record Follows (taken handed : List ℕ) (d : Decoder) : Type 0 where
     pub stands : Stands e m d
-    pub tracks : Tracks e m s₀ taken d
+    pub tracks : Tracks e m p₀ taken d
     pub counts : Counted e m taken handed d
     pub shows : d .ended ≡ 0 → (eqb m 1 && broken (readAll taken .items) ≡ false) × (handed ≡ shown (readAll taken .items))
     pub stops : d .ended ≡ 1 → (eqb m 1 && broken (readAll taken .items) ≡ true) × (handed ≡ before (readAll taken .items))
 
-  here : (taken : List ℕ) (n l : ℕ) (s : Shift) (xs : List ℕ) → length xs ≤ 3 → Tracks e m s₀ taken (holding e m n l s xs) →
-      place (readAll taken) ≡ record { shift = s; rest = xs }
-  here taken n l s xs h i = tables-meet t noTables (family e) s₀ taken ∙ i refl ∙
-      (λ j. record { shift = shift-holding e m n l s xs j; rest = held-holding e m n l s xs h j })
+  here : (taken : List ℕ) (n l : ℕ) (s : Spot) (xs : List ℕ) → Rests e s xs → Tracks e m p₀ taken (holding e m n l s xs) →
+      standing (readAll taken) ≡ record { spot = s; rest = xs }
+  here taken n l s xs w i = meet-from t noTables e p₀ taken ∙ tracked e m p₀ taken n l s xs w i
 
   -- one chunk more
-  items-more : (taken : List ℕ) (s : Shift) (xs chunk : List ℕ) → place (readAll taken) ≡ record { shift = s; rest = xs } → readAll (taken ++ chunk) .items ≡ readAll taken .items ++ readOf e t s xs chunk .items
-  items-more taken s xs chunk p = ap (λ (r : Read). r .items) (chunks (keeps (family e)) (next t (family e)) (next-laws t (family e)) s₀ taken chunk) ∙
-      ap (λ (p : Place). readAll taken .items ++ readOf e t (p .shift) (p .rest) chunk .items) p
+  items-more : (taken : List ℕ) (s : Spot) (xs chunk : List ℕ) → standing (readAll taken) ≡ record { spot = s; rest = xs } →
+      readAll (taken ++ chunk) .items ≡ readAll taken .items ++ readOf e t s xs chunk .items
+  items-more taken s xs chunk p = ap (λ (r : Parsed). r .items) (chunks-from t e p₀ taken chunk) ∙
+      ap (λ (p : Standing). readAll taken .items ++ readOf e t (p .spot) (p .rest) chunk .items) p
 
-  follow : {taken handed chunk room : List ℕ} {d : Decoder} {h : History} {n : ℕ} → Step e m taken handed d (feed chunk t room) h n → Follows taken handed d → Follows (h .taken) (h .handed) (h .decoder)
+  follow : {taken handed chunk room : List ℕ} {d : Decoder} {h : History} {n : ℕ} →
+      Step e m taken handed d (feed chunk t room) h n → Follows taken handed d → Follows (h .taken) (h .handed) (h .decoder)
   follow (refused d c n p) i = i
   follow {taken} {handed} (fed n l s xs chunk t room w z q) i =
       let step = fed n l s xs chunk t room w z q in
       let r = readOf e t s xs chunk in
       let a = readAll taken .items in
-      let k = items-more taken s xs chunk (here taken n l s xs (few e m s xs w) (i .tracks)) in
+      let k = items-more taken s xs chunk (here taken n l s xs w (i .tracks)) in
       record {
         stands = still e m {taken = taken} {handed = handed} step (i .stands);
-        tracks = tracks-step e m s₀ {taken = taken} {handed = handed} step (i .tracks);
+        tracks = tracks-step e m p₀ {taken = taken} {handed = handed} step (i .tracks);
         counts = counted-step e m step (i .counts);
-        shows = λ o. (rw (k, broken-append a (r .items)) (both-sound (eqb m 1) (broken a) (broken (r .items)) (i .shows refl .0) q), rw (i .shows refl .1, k) (sym (shown-append a (r .items))));
+        shows = λ o. (
+          rw (k, broken-append a (r .items)) (both-sound (eqb m 1) (broken a) (broken (r .items)) (i .shows refl .0) q),
+          rw (i .shows refl .1, k) (sym (shown-append a (r .items))),
+        );
         stops = λ o. absurd (omega arith);
       }
   follow {taken} {handed} (reported-at n l s xs chunk t room w z q) i =
       let step = reported-at n l s xs chunk t room w z q in
       let r = readOf e t s xs chunk in
       let a = readAll taken .items in
-      let k = items-more taken s xs chunk (here taken n l s xs (few e m s xs w) (i .tracks)) in
+      let k = items-more taken s xs chunk (here taken n l s xs w (i .tracks)) in
       let clean = sound m (broken a) (broken (r .items)) (i .shows refl .0) q in
       record {
         stands = still e m {taken = taken} {handed = handed} step (i .stands);
         tracks = λ o. absurd (omega arith);
         counts = counted-step e m step (i .counts);
         shows = λ o. absurd (omega arith);
-        stops = λ o. (rw (k, broken-append a (r .items)) (second-broken (eqb m 1) (broken a) (broken (r .items)) clean q), rw (i .shows refl .1, k) (sym (before-append a (r .items) clean)));
+        stops = λ o. (
+          rw (k, broken-append a (r .items)) (second-broken (eqb m 1) (broken a) (broken (r .items)) clean q),
+          rw (i .shows refl .1, k) (sym (before-append a (r .items) clean)),
+        );
       }
 
-  follow-all : (h : History) (cs : List Call) → AllFeeds t cs → Follows (h .taken) (h .handed) (h .decoder) → let h′ = after h cs in Follows (h′ .taken) (h′ .handed) (h′ .decoder)
+  follow-all : (h : History) (cs : List Call) → AllFeeds t cs → Follows (h .taken) (h .handed) (h .decoder) →
+      let h′ = after h cs in Follows (h′ .taken) (h′ .handed) (h′ .decoder)
   unfolding after AllFeeds
   follow-all h [] a i = i
   follow-all h (feed chunk t′ room ∷ cs) a i =
       let x = stepped e m h (i .stands) (feed chunk t room) in
-      let k : noted h chunk (feeding (h .decoder) t′ chunk room) ≡ x .next = ap (λ (u : Tables). noted h chunk (feeding (h .decoder) u chunk room)) (a .0) ∙ x .leads in
-      subst (λ (h′ : History). Follows (after h′ cs .taken) (after h′ cs .handed) (after h′ cs .decoder)) (sym k) (follow-all (x .next) cs (a .1) (follow (x .step) i))
-  follow-all h (finish room ∷ cs) a i = absurd a
+      let k : noted h chunk (feeding (h .decoder) t′ chunk room) ≡ x .next =
+      ap (λ (u : Tables). noted h chunk (feeding (h .decoder) u chunk room)) (a .0) ∙ x .leads in
+      subst (λ (h′ : History). Follows (after h′ cs .taken) (after h′ cs .handed) (after h′ cs .decoder)) (sym k)
+      (follow-all (x .next) cs (a .1) (follow (x .step) i))
+  follow-all h (finish t′ room ∷ cs) a i = absurd a
 
-  nothing-read : readAll [] ≡ record { items = []; shift = s₀; rest = [] }
-  nothing-read = decode-more (keeps (family e)) (next t (family e)) (next-laws t (family e)) s₀ [] (empty t (family e) s₀)
+  nothing-read : (eqb (p₀ .stage) 1 ≡ true → p₀ ≡ spot 1 plain) → readAll [] ≡ record { items = []; spot = p₀; rest = [] }
+  nothing-read u = read-rest t e p₀ [] u (none-rest e p₀)
 
-  follow-new : Follows [] [] (holding e m 0 0 s₀ [])
+  follow-new : (eqb (p₀ .stage) 1 ≡ true → p₀ ≡ spot 1 plain) → Follows [] [] (holding e m 0 0 p₀ [])
   unfolding broken shown lineFeeds
-  follow-new = record {
-    stands = reads 0 0 s₀ [] (empty noTables (family e) s₀);
-    tracks = tracks-new e m s₀;
+  follow-new u = record {
+    stands = reads 0 0 p₀ [] (none-rest e p₀);
+    tracks = tracks-new e m p₀ u;
     counts = record { bytes = refl; feeds = refl };
-    shows = λ o. (rw (nothing-read, and-false (eqb m 1)), rw nothing-read);
+    shows = λ o. (rw (nothing-read u, and-false (eqb m 1)), rw (nothing-read u));
     stops = λ o. absurd (omega arith);
   }
 
@@ -122,26 +129,28 @@ module _ (t : Tables) (e m : ℕ) (s₀ : Shift) where
   follow-sound : (taken handed : List ℕ) (d : Decoder) → Stands e m d → Follows taken handed d →
       eqb m 1 && broken (readAll taken .items) ≡ false →
       (handed ≡ shown (readAll taken .items)) ×
-      (d ≡ holding e m (length taken) (lineFeeds handed) (readAll taken .shift) (readAll taken .rest))
+      (d ≡ holding e m (length taken) (lineFeeds handed) (readAll taken .spot) (readAll taken .rest))
   follow-sound taken handed d (reads n l s xs w) i b =
-      let p = here taken n l s xs (few e m s xs w) (i .tracks) in
-      (i .shows refl .1, λ j. holding e m (i .counts .bytes j) (i .counts .feeds j) (sym p j .shift) (sym p j .rest))
+      let p = here taken n l s xs w (i .tracks) in
+      (i .shows refl .1, λ j. holding e m (i .counts .bytes j) (i .counts .feeds j) (sym p j .spot) (sym p j .rest))
   follow-sound taken handed d (ended n l) i b = absurd (subst T (sym (i .stops refl .0) ∙ b) tt)
 
 -- After feeds with one pair of tables, refused ones among them.
-pub feeds-follow : (t : Tables) (e m rule : ℕ) → openRefusal e m rule ≡ 0 → (cs : List Call) → AllFeeds t cs → let h = after (start e m rule) cs in Follows t e m (newShift e rule) (h .taken) (h .handed) (h .decoder)
+pub feeds-follow : (t : Tables) (e m rule : ℕ) → openRefusal e m rule ≡ 0 → (cs : List Call) → AllFeeds t cs →
+    let h = after (start e m rule) cs in Follows t e m (newSpot e rule) (h .taken) (h .handed) (h .decoder)
 feeds-follow t e m rule o cs a =
-    subst (λ (h : History). Follows t e m (newShift e rule) (after h cs .taken) (after h cs .handed) (after h cs .decoder)) (sym (opened-is e m rule o))
-    (follow-all t e m (newShift e rule) (record { taken = []; handed = []; decoder = holding e m 0 0 (newShift e rule) [] }) cs a
-    (follow-new t e m (newShift e rule)))
+    subst (λ (h : History). Follows t e m (newSpot e rule) (after h cs .taken) (after h cs .handed) (after h cs .decoder))
+    (sym (opened-is e m rule o))
+    (follow-all t e m (newSpot e rule) (record { taken = []; handed = []; decoder = holding e m 0 0 (newSpot e rule) [] }) cs a
+    (follow-new t e m (newSpot e rule) (waiting-new e rule)))
 
 pub feeds-give : (t : Tables) (e m rule : ℕ) → openRefusal e m rule ≡ 0 → (cs : List Call) → AllFeeds t cs →
-    let h = after (start e m rule) cs in let r = readAll t e m (newShift e rule) (h .taken) in eqb m 1 && broken (r .items) ≡ false →
-    (h .handed ≡ shown (r .items)) × (h .decoder ≡ holding e m (length (h .taken)) (lineFeeds (h .handed)) (r .shift) (r .rest))
+    let h = after (start e m rule) cs in let r = readAll t e m (newSpot e rule) (h .taken) in eqb m 1 && broken (r .items) ≡ false →
+    (h .handed ≡ shown (r .items)) × (h .decoder ≡ holding e m (length (h .taken)) (lineFeeds (h .handed)) (r .spot) (r .rest))
 feeds-give t e m rule o cs a b =
     let h = after (start e m rule) cs in
     let i = feeds-follow t e m rule o cs a in
-    follow-sound t e m (newShift e rule) (h .taken) (h .handed) (h .decoder) (i .stands) i b
+    follow-sound t e m (newSpot e rule) (h .taken) (h .handed) (h .decoder) (i .stands) i b
 
 -- Handing out in two parts.
 module _ (e m : ℕ) where
@@ -205,18 +214,19 @@ shut-feed h t chunk room z =
     feed-is (λ (o : Outcome). o ≡ refuse n d room) d t chunk room
     (λ q. absurd (subst T (sym (ap (λ (n : ℕ). eqb n 1) z) ∙ feed-open d t chunk room (ap (λ (n : ℕ). eqb n 0) q)) tt)) (λ q. refl)
 
-shut-finish : (h : History) (room : List ℕ) → h .decoder .ended ≡ 1 →
-    finishing (h .decoder) room ≡ refuse (finishRefusal (h .decoder) room) (h .decoder) room
-shut-finish h room z =
+shut-finish : (h : History) (t : Tables) (room : List ℕ) → h .decoder .ended ≡ 1 →
+    finishing (h .decoder) t room ≡ refuse (finishRefusal (h .decoder) t room) (h .decoder) room
+shut-finish h t room z =
     let d = h .decoder in
-    let n = finishRefusal d room in
-    finish-is (λ (o : Outcome). o ≡ refuse n d room) d room
-    (λ q. absurd (subst T (sym (ap (λ (n : ℕ). eqb n 1) z) ∙ finish-open d room (ap (λ (n : ℕ). eqb n 0) q)) tt)) (λ q. refl)
+    let n = finishRefusal d t room in
+    finish-is (λ (o : Outcome). o ≡ refuse n d room) d t room
+    (λ q. absurd (subst T (sym (ap (λ (n : ℕ). eqb n 1) z) ∙ finish-open d t room (ap (λ (n : ℕ). eqb n 0) q)) tt)) (λ q. refl)
 
 shut : (t : Tables) (ps : List Piece) (last : List ℕ) (h : History) → h .decoder .ended ≡ 1 →
     account h (cutting t ps last) ≡ record { handed = h .handed; reports = []; decoder = untaken (h .decoder) }
 unfolding account cutting after reports
-shut t [] last h z = ap (λ (o : Outcome). first h [] o []) (shut-finish h last z) ∙ rw (finish-not-11 (h .decoder) last, append-nil (h .handed))
+shut t [] last h z = ap (λ (o : Outcome). first h [] o []) (shut-finish h t last z) ∙
+    rw (finish-not-11 (h .decoder) t last, append-nil (h .handed))
 shut t (p ∷ ps) last h z =
     let cs = cutting t ps last in
     let o = refuse (feedRefusal (h .decoder) t (p .chunk) (p .room)) (h .decoder) (p .room) in
@@ -226,16 +236,12 @@ shut t (p ∷ ps) last h z =
     (λ i. record { handed = append-nil (h .handed) i; reports = []; decoder = untaken (h .decoder) })
 
 module _ (t : Tables) (e m : ℕ) where
-  everything-more : (s : Shift) (xs : List ℕ) → next t (family e) s xs ≡ more → everything t (family e) s xs ≡ ending t (family e) s xs
-  unfolding everything
-  everything-more s xs w = rw (decode-more (keeps (family e)) (next t (family e)) (next-laws t (family e)) s xs w)
+  everything-cut : (s : Spot) (xs chunk ys : List ℕ) → let r = readOf e t s xs chunk in
+      everythingFrom t e s (xs ++ (chunk ++ ys)) ≡ r .items ++ everythingFrom t e (r .spot) (r .rest ++ ys)
+  everything-cut s xs chunk ys = rw (← append-assoc xs chunk ys) (all-cut t e s (xs ++ chunk) ys)
 
-  everything-cut : (s : Shift) (xs chunk ys : List ℕ) → let r = readOf e t s xs chunk in everything t (family e) s (xs ++ (chunk ++ ys)) ≡ r .items ++ everything t (family e) (r .shift) (r .rest ++ ys)
-  unfolding everything
-  everything-cut s xs chunk ys = rw (← (append-assoc xs chunk ys), chunks (keeps (family e)) (next t (family e)) (next-laws t (family e)) s (xs ++ chunk) ys) (append-assoc (readOf e t s xs chunk .items) _ _)
-
-  -- the history whose decoder stands at a shift with bytes held, after n bytes
-  abbrev at : List ℕ → List ℕ → ℕ → Shift → List ℕ → History
+  -- the history whose decoder stands at a spot with bytes held, after n bytes
+  abbrev at : List ℕ → List ℕ → ℕ → Spot → List ℕ → History
   at taken out n s xs = record { taken = taken; handed = out; decoder = holding e m n (lineFeeds out) s xs }
 
   feeds : (out cs : List ℕ) → lineFeeds out + lineFeeds cs ≡ lineFeeds (out ++ cs)
@@ -255,18 +261,16 @@ module _ (t : Tables) (e m : ℕ) where
       record { handed = cs; reports = here ∷ []; decoder = closed e m 0 l }
 
   -- What is left to do on both sides once the outcome of a call is known: it wrote at the front of its room.
-  cut-from : (ps : List Piece) (last taken out : List ℕ) (n : ℕ) (s : Shift) (xs : List ℕ) →
-      length xs ≤ n → next noTables (family e) s xs ≡ more → Accepts t (at taken out n s xs) ps last →
-      account (at taken out n s xs) (cutting t ps last) ≡ dealt e m (n - length xs) (everything t (family e) s (xs ++ joined ps)) out
+  cut-from : (ps : List Piece) (last taken out : List ℕ) (n : ℕ) (s : Spot) (xs : List ℕ) →
+      length xs ≤ n → Rests e s xs → Accepts t (at taken out n s xs) ps last →
+      account (at taken out n s xs) (cutting t ps last) ≡ dealt e m (n - length xs) (everythingFrom t e s (xs ++ joined ps)) out
   unfolding account cutting after reports Accepts joined dealt
   cut-from [] last taken out n s xs le w a =
-      ap (λ (o : Outcome). first (at taken out n s xs) [] o []) (finish-holding e m n (lineFeeds out) s xs last w a ∙
-      ap (λ (is : List Item). handOut e m (n - length xs) n (lineFeeds out) is (closed e m n) last)
-      (ending-any noTables t (family e) s xs)) ∙
-      rw (append-nil xs, everything-more s xs (more-any noTables t (family e) s xs w)) (go (eqb m 1 && broken (ending t (family e) s xs)))
+      ap (λ (o : Outcome). first (at taken out n s xs) [] o []) (finish-holding e m n (lineFeeds out) s xs t last w a) ∙
+      rw (append-nil xs, all-rest t e s xs w) (go (eqb m 1 && broken is))
     where
       is : List Item
-      is = ending t (family e) s xs
+      is = endOf e t s xs
 
       one : Bool → Account
       one b = first (at taken out n s xs) [] (handedIf e m (n - length xs) n (lineFeeds out) is (closed e m n) last b) []
@@ -280,7 +284,7 @@ module _ (t : Tables) (e m : ℕ) where
   cut-from (p ∷ ps) last taken out n s xs le w a =
       ap (λ (o : Outcome). first (at taken out n s xs) (p .chunk) o (cutting t ps last))
       (feed-holding e m n (lineFeeds out) s xs t (p .chunk) (p .room) w (a .0)) ∙
-      go (eqb m 1 && broken (r .items)) refl (λ taken′ out′ n′ le′ w′ a′. cut-from ps last taken′ out′ n′ (r .shift) (r .rest) le′ w′ a′) ∙
+      go (eqb m 1 && broken (r .items)) refl (λ taken′ out′ n′ le′ w′ a′. cut-from ps last taken′ out′ n′ (r .spot) (r .rest) le′ w′ a′) ∙
       sym (ap (λ (is : List Item). dealt e m (n - length xs) is out) (everything-cut s xs (p .chunk) (joined ps)))
     where
       H : History
@@ -289,11 +293,11 @@ module _ (t : Tables) (e m : ℕ) where
       cs : List Call
       cs = cutting t ps last
 
-      r : Read
+      r : Parsed
       r = readOf e t s xs (p .chunk)
 
       later : List Item
-      later = everything t (family e) (r .shift) (r .rest ++ joined ps)
+      later = everythingFrom t e (r .spot) (r .rest ++ joined ps)
 
       place : ℕ
       place = n - length xs
@@ -304,23 +308,23 @@ module _ (t : Tables) (e m : ℕ) where
       -- the widths of the items and the bytes left over are the bytes held and the chunk
       bytes : widths (r .items) + length (r .rest) ≡ length xs + length (p .chunk)
       bytes =
-          let R = reading (keeps (family e)) (next t (family e)) (next-laws t (family e)) s (xs ++ p .chunk) in
+          let R = parsing t e s (xs ++ p .chunk) in
           omega (arith, R .wide, ap length (R .split), length-append xs (p .chunk), length-append (R .used) (r .rest))
 
       wrote : Bool → Outcome
-      wrote = handedIf e m place now (lineFeeds out) (r .items) (λ l. holding e m now l (r .shift) (r .rest)) (p .room)
+      wrote = handedIf e m place now (lineFeeds out) (r .items) (λ l. holding e m now l (r .spot) (r .rest)) (p .room)
 
-      leads : noted H (p .chunk) (wrote false) ≡ at (taken ++ p .chunk) (out ++ shown (r .items)) now (r .shift) (r .rest)
+      leads : noted H (p .chunk) (wrote false) ≡ at (taken ++ p .chunk) (out ++ shown (r .items)) now (r .spot) (r .rest)
       leads = λ i. record {
         taken = taken ++ p .chunk;
         handed = front out (shown (r .items)) (p .room) i;
-        decoder = holding e m now (feeds out (shown (r .items)) i) (r .shift) (r .rest);
+        decoder = holding e m now (feeds out (shown (r .items)) i) (r .spot) (r .rest);
       }
 
       go : (b : Bool) → eqb m 1 && broken (r .items) ≡ b →
-          ((taken′ out′ : List ℕ) (n′ : ℕ) → length (r .rest) ≤ n′ → next noTables (family e) (r .shift) (r .rest) ≡ more →
-          Accepts t (at taken′ out′ n′ (r .shift) (r .rest)) ps last →
-          account (at taken′ out′ n′ (r .shift) (r .rest)) (cutting t ps last) ≡ dealt e m (n′ - length (r .rest)) later out′) →
+          ((taken′ out′ : List ℕ) (n′ : ℕ) → length (r .rest) ≤ n′ → Rests e (r .spot) (r .rest) →
+          Accepts t (at taken′ out′ n′ (r .spot) (r .rest)) ps last →
+          account (at taken′ out′ n′ (r .spot) (r .rest)) (cutting t ps last) ≡ dealt e m (n′ - length (r .rest)) later out′) →
           first H (p .chunk) (wrote b) cs ≡ dealt e m place (r .items ++ later) out
       go true q ih =
           let h = noted H (p .chunk) (wrote true) in
@@ -335,11 +339,9 @@ module _ (t : Tables) (e m : ℕ) where
           subst (λ (o : Outcome). Accepts t (noted H (p .chunk) o) ps last) spec
           (a .1 (ap (λ (o : Outcome). eqb (o .answer .refusal) 11) spec)) in
           let accepts = subst (λ (h : History). Accepts t h ps last) leads onward in
-          let waits = reading (keeps (family e)) (next t (family e)) (next-laws t (family e)) s (xs ++ p .chunk) .waits in
-          let waits′ = more-any t noTables (family e) (r .shift) (r .rest) waits in
           let far : now - length (r .rest) ≡ place + widths (r .items) = omega (arith, bytes, le) in
           ap (λ (h : History). account h cs) leads ∙
-          ih (taken ++ p .chunk) (out ++ shown (r .items)) now (omega (arith, bytes, le)) waits′ accepts ∙
+          ih (taken ++ p .chunk) (out ++ shown (r .items)) now (omega (arith, bytes, le)) (parsing t e s (xs ++ p .chunk) .waits) accepts ∙
           ap (λ (x : ℕ). dealt e m x later (out ++ shown (r .items))) far ∙ sym (dealt-on e m place (r .items) later out q)
 
 -- Cut anywhere into accepted feeds with one pair of tables, and finished: the account of the whole.
@@ -349,14 +351,14 @@ unfolding wholeAccount lineFeeds
 cut-is-whole t e m rule o ps last a =
     let k = opened-is e m rule o in
     ap (λ (h : History). account h (cutting t ps last)) k ∙
-    cut-from t e m ps last [] [] 0 (newShift e rule) [] (lit≤ tt) (empty noTables (family e) (newShift e rule))
+    cut-from t e m ps last [] [] 0 (newSpot e rule) [] (lit≤ tt) (none-rest e (newSpot e rule))
     (subst (λ (h : History). Accepts t h ps last) k a)
 
 -- Without a report everything is taken.
 pub cut-taken : (t : Tables) (ps : List Piece) (last : List ℕ) (h : History) → Accepts t h ps last → reports h (cutting t ps last) ≡ [] →
     after h (cutting t ps last) .taken ≡ h .taken ++ joined ps
 unfolding reports cutting after Accepts joined
-cut-taken t [] last h a r = go (accepted (finishing (h .decoder) last .answer .refusal))
+cut-taken t [] last h a r = go (accepted (finishing (h .decoder) t last .answer .refusal))
   where
     go : (b : Bool) → h .taken ++ (b then [] else []) ≡ h .taken ++ []
     go true = refl

@@ -23,6 +23,7 @@ use Rattle.standard.specs.Sequences.EucKr.{eucKr}
 use Rattle.standard.specs.Sequences.UserDefined.{userDefined}
 use Rattle.standard.specs.Next.{unmarked, next}
 use Rattle.standard.specs.Decode.{Read, put, reads, decode, oneError, ending, given, shown, broken, before, everything}
+use Rattle.standard.specs.Choice.{reader, Spot, spot, lift, readFrom, endFrom, rests}
 use Rattle.standard.proofs.Every.{bytes-left, bytes-right}
 use Rattle.standard.proofs.Laws.{Law}
 use Rattle.standard.proofs.FamilyLaws.{keeps, next-laws}
@@ -33,8 +34,10 @@ use Rattle.standard.proofs.Reading.{separators-append}
 use Rattle.standard.proofs.Separators.{none-held}
 use Rattle.standard.proofs.Whole.{standard-replacing}
 use Rattle.standard.proofs.Paused.{so-far}
-use Rattle.decoder.specs.Record.{holding, newShift}
-use Rattle.decoder.specs.Valid.{possible, unused, validRest, valid}
+use Rattle.standard.proofs.Stages.{read-on}
+use Rattle.standard.proofs.Sniffing.{all-read}
+use Rattle.decoder.specs.Record.{holding, newSpot}
+use Rattle.decoder.specs.Valid.{possible, possibleAt, unused, validRest, valid}
 use Rattle.decoder.specs.Calls.{openRefusal, opening, feedRefusal, feeding, finishRefusal, finishing}
 use Rattle.demands.specs.Histories.{Call, feed, after, start}
 use Rattle.demands.specs.Statements.{Piece, joined, cutting, reports, Account, account, Accepts, AllFeeds}
@@ -175,19 +178,22 @@ module _ (t : Tables) (e : ℕ) (o : openRefusal e 0 1 ≡ 0) where
   -- an accepted cutting hands out all that its bytes give
   handed-all : (ps : List Piece) (last xs : List ℕ) → joined ps ≡ xs → Accepts t (start e 0 1) ps last →
       handedBy t e ps last ≡ shown (everything t (family e) plain xs)
-  unfolding wholeAccount dealt
-  handed-all ps last xs j a = ap (λ (x : Account). x .handed) (cut-is-whole t e 0 1 o ps last a) ∙ rw (kept-new e, j)
+  unfolding wholeAccount dealt reader
+  handed-all ps last xs j a =
+      ap (λ (x : Account). x .handed) (cut-is-whole t e 0 1 o ps last a) ∙ rw (kept-new e, j, all-read t e (spot 0 plain) xs refl)
 
   -- feeds, refused ones among them, hand out what their bytes show, and the decoder stands where reading stands
   fed : (cs : List Call) (xs : List ℕ) → AllFeeds t cs →
       let h = after (start e 0 1) cs in let r = decode (next t (family e)) plain xs in h .taken ≡ xs →
-      (h .handed ≡ shown (r .items)) × (h .decoder ≡ holding e 0 (length xs) (lineFeeds (h .handed)) (r .shift) (r .rest))
+      (h .handed ≡ shown (r .items)) × (h .decoder ≡ holding e 0 (length xs) (lineFeeds (h .handed)) (spot 0 (r .shift)) (r .rest))
+  unfolding reader
   fed cs xs a taken =
       let h = after (start e 0 1) cs in
       let g = feeds-give t e 0 1 o cs a refl in
-      let same : decode (next t (family e)) (newShift e 1) (h .taken) ≡ decode (next t (family e)) plain xs = rw (kept-new e, taken) in (
+      let same : readFrom t e (newSpot e 1) (h .taken) ≡ lift 0 (decode (next t (family e)) plain xs) =
+      rw (kept-new e, taken) (read-on t e (spot 0 plain) xs refl) in (
         g .0 ∙ (λ i. shown (same i .items)),
-        g .1 ∙ (λ i. holding e 0 (length (taken i)) (lineFeeds (h .handed)) (same i .shift) (same i .rest)),
+        g .1 ∙ (λ i. holding e 0 (length (taken i)) (lineFeeds (h .handed)) (same i .spot) (same i .rest)),
       )
 
 pub fields : (t : Tables) (e : ℕ) → openRefusal e 0 1 ≡ 0 → T (traits (family e) .separators) →
@@ -199,8 +205,9 @@ fields t e o k xs ys b h = record {
   as-new = λ cs a taken.
       let d = ended b h t (family e) k xs in
       let n = lineFeeds (after (start e 0 1) cs .handed) in
-      fed t e o cs (xs ++ b ∷ []) a taken .1 ∙ (λ i. holding e 0 (length-append xs (b ∷ []) i) n (d .unshifted i) (d .all-read i)) ∙
-      ap (λ (s : Shift). holding e 0 (length xs + 1) n s []) (sym (kept-new e));
+      fed t e o cs (xs ++ b ∷ []) a taken .1 ∙
+      (λ i. holding e 0 (length-append xs (b ∷ []) i) n (spot 0 (d .unshifted i)) (d .all-read i)) ∙
+      ap (λ (p : Spot). holding e 0 (length xs + 1) n p []) (sym (kept-new e));
   by-standard = λ p.
       let p′ : Bytes ((xs ++ b ∷ []) ++ ys) = subst Bytes (sym (append-assoc xs (b ∷ []) ys)) p in
       rw (
@@ -230,7 +237,9 @@ same-lines t e o k xs xs′ ys = record {
         ap (λ (l : List ℕ). l ++ rest) (line xs .ends) ∙ append-assoc (line xs .ahead) (0x0A ∷ []) rest
 
 pub digits-swallowed : DigitsSwallowed
-unfolding family traits fits account cutting joined after reports start opening openRefusal feeding feedRefusal finishing finishRefusal valid validRest unused possible lineFeeds decode reads ending oneError shown broken before next cell gb18030 gb18030Range gb18030FourCode gb18030FourPointer pointerOf pairCode Accepts AllFeeds
+unfolding family traits fits account cutting joined after reports start opening openRefusal feeding feedRefusal finishing finishRefusal
+    valid validRest unused possibleAt possible rests lineFeeds readFrom endFrom reader decode reads ending oneError shown broken before
+    next cell gb18030 gb18030Range gb18030FourCode gb18030FourPointer pointerOf pairCode Accepts AllFeeds
 digits-swallowed = record {
   whole = refl;
   part = refl;

@@ -1,6 +1,7 @@
 pub mod Steps
 pub mod Refused
 pub mod Invariants
+pub mod Scalars
 pub mod Cutting
 pub mod Shapes
 pub mod ShiftsIso

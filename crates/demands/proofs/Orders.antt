@@ -6,12 +6,14 @@ use Rattle.standard.specs.Sequences.SingleByte.{singleByte}
 use Rattle.standard.specs.Sequences.Utf8.{utf8, utf8Low, utf8High}
 use Rattle.standard.specs.Next.{next}
 use Rattle.standard.specs.Decode.{reads, decode, shown, broken, before}
-use Rattle.decoder.specs.Valid.{possible, endedTotals, unused, validRest, valid}
+use Rattle.standard.specs.Choice.{choose, reader, readFrom, rests}
+use Rattle.decoder.specs.Valid.{possible, possibleAt, endedTotals, unused, validRest, valid}
 use Rattle.decoder.specs.Calls.{openRefusal, opening, feedRefusal, feeding, finishRefusal, finishing}
 use Rattle.demands.specs.Orders.{Orders}
 
 pub orders : Orders
-unfolding openRefusal opening feedRefusal feeding finishRefusal finishing valid validRest unused possible endedTotals lineFeeds family traits fits next decode reads singleByte utf8 utf8Low utf8High shown broken before
+unfolding openRefusal opening feedRefusal feeding finishRefusal finishing valid validRest unused possibleAt possible endedTotals rests
+    lineFeeds family traits fits readFrom choose reader next decode reads singleByte utf8 utf8Low utf8High shown broken before
 orders = record {
   open-2 = refl;
   open-2-mode-3 = refl;
@@ -41,5 +43,10 @@ orders = record {
   finish-5-6 = refl;
   finish-5-7 = refl;
   finish-6 = refl;
+  finish-5-4 = refl;
+  finish-4-7 = refl;
+  finish-4 = refl;
+  finish-chosen = refl;
+  finish-label = refl;
   finish-7 = refl;
 }

@@ -5,34 +5,34 @@ use mathlib.Core.List.{List, [], _∷_, _++_, append-assoc, append-nil}
 use Prim.Native.Nat.{ℕ, zero, suc, _+_, _-_, _*_, _/_, _%_, _≤_, _^_}
 use native.Mathlib.Nat.{add-zero, div-add-mod', mod-lt, mul-mod-left}
 use native.Mathlib.Omega.{arith}
-use lib.Dec.{T, leb, eqb, lit≤, lit<, leb→le}
-use lib.ListN.{length, drop, replicate, length-append, length-take, length-replicate}
-use borrow.Author.Tests.{eq-eqb, eqb-true, eqb-false, leb-true, le-ltb}
+use lib.Dec.{T, leb, eqb, lit≤, lit<}
+use lib.ListN.{length, replicate, length-replicate}
+use borrow.Author.Tests.{eq-eqb, eqb-true, leb-true, leb-false, le-ltb}
 use Rattle.standard.specs.Base.{every, below, Bytes, lineFeeds}
-use Rattle.standard.specs.Encodings.{Family, UTF-8, single-byte, windows-1252, GB18030, Big5, EUC-JP, ISO-2022-JP, Shift-JIS, EUC-KR, Replacement, UTF-16BE, UTF-16LE, x-user-defined, family, traits, Tables, noTables, fits}
-use Rattle.standard.specs.Sequence.{Shift, Next, error, more, shift, plain}
+use Rattle.standard.specs.Encodings.{Family, UTF-8, single-byte, windows-1252, GB18030, Big5, EUC-JP, ISO-2022-JP, Shift-JIS, EUC-KR, Replacement, UTF-16BE, UTF-16LE, x-user-defined, family, traits, fits}
+use Rattle.standard.specs.Sequence.{plain}
 use Rattle.standard.specs.Sequences.Replacement.{replacement}
 use Rattle.standard.specs.Next.{next}
-use Rattle.standard.specs.Decode.{span, Read, decode, shown, broken, before, reach}
-use Rattle.standard.proofs.Tests.{true-T, and-both}
-use Rattle.standard.proofs.Every.{bytes-append, bytes-take, bytes-drop}
-use Rattle.standard.proofs.FamilyLaws.{keeps, next-laws}
-use Rattle.standard.proofs.Walk.{chunks, decode-more, decode-item}
+use Rattle.standard.specs.Decode.{reads, decode, oneError, ending, everything, shown, broken, before}
+use Rattle.standard.specs.Choice.{waiting, choose, reader, Spot, spot, Parsed, readFrom, endFrom}
+use Rattle.standard.proofs.Tests.{split, or-case}
+use Rattle.standard.proofs.Every.{bytes-take, bytes-drop}
 use Rattle.standard.proofs.Items.{shown-append, broken-append}
-use Rattle.standard.proofs.AnyTables.{more-any}
-use Rattle.standard.proofs.Reading.{reading, empty}
-use Rattle.standard.proofs.LineFeeds.{line-feeds-append, before-line-feeds, none-at-end}
-use Rattle.decoder.specs.Record.{shiftOf, heldOf, holding, closed, new, newShift}
-use Rattle.decoder.specs.Valid.{possible, valid}
-use Rattle.decoder.specs.Calls.{openRefusal, opening, Outcome, write, report, feedRefusal, feeding, finishRefusal, finishing}
+use Rattle.standard.proofs.LineFeeds.{line-feeds-append, before-line-feeds}
+use Rattle.standard.proofs.Stages.{Rests, rests-few, none-rest, more-rests, wait-rests, chunks-from, then-from, read-rest}
+use Rattle.decoder.specs.Record.{spotOf, heldOf, holding, closed, new}
+use Rattle.decoder.specs.Valid.{isoCost, isoLeast, valid}
+use Rattle.decoder.specs.Calls.{openRefusal, opening, Outcome, write, feedRefusal, feeding, finishRefusal, finishing}
 use Rattle.demands.specs.Histories.{accepted, Reachable, opened, fed, finished}
 use Rattle.demands.specs.Samples.{secondCells, filled}
 use Rattle.decoder.specs.declared.Decoder.{Decoder}
 use Rattle.decoder.proofs.Parts.{parts}
-use Rattle.demands.proofs.Steps.{readOf, endOf, onward, stoppedBy, handed-is, few, feed-holding, finish-holding}
-use Rattle.demands.proofs.Shapes.{Shape, Unshifted, Marked, Paired, Replaced, Escaped, shapeOf, totalsAs, totals-as, comes}
-use Rattle.demands.proofs.Validity.{open-rest, closed-rest, is-holding, is-closed, reachable-valid}
-use Rattle.demands.proofs.Ways.{lent, behind, Way, along, stay, sized-way, Ways, ways, replacement-way, iso-plainly, Opened, kept, way-to}
+use Rattle.demands.proofs.Steps.{readOf, endOf, onward, handed-is, feed-holding, finish-holding}
+use Rattle.demands.proofs.Shapes.{Shape, Unshifted, Marked, Paired, Replaced, Escaped, shapeOf, totalsAs, totals-as}
+use Rattle.demands.proofs.Shapes.{Comes, in-text, in-state, ComesAt, by-label, choosing, by-mark, waiting-plain}
+use Rattle.demands.proofs.Shifts.{quiet-end}
+use Rattle.demands.proofs.Validity.{Open, open-holding, open-record, closed-rest, is-holding, is-closed, reachable-valid}
+use Rattle.demands.proofs.Ways.{lent, Ways, ways, Opened, way-to}
 
 -- the tables to lend fit, and their cells are numbers of 32 bits
 sized : (n c : ℕ) → eqb (length (replicate n c)) n ≡ true
@@ -59,226 +59,218 @@ unfolding every
 lent-below zero = tt
 lent-below (suc n) = lent-below n
 
+lent-cells : (f : Family) → T (below (2 ^ 32) (lent f .first)) × T (below (2 ^ 32) (lent f .second))
+unfolding filled
+lent-cells f = (lent-below (traits f .first), lent-below (secondCells (traits f .second)))
+
 -- A call that is accepted leaves its decoder.
 left-by-feed : (e : ℕ) (d : Decoder) (chunk room : List ℕ) (o : Outcome) → Reachable d → Bytes chunk →
     feeding d (lent (family e)) chunk room ≡ o → T (accepted (o .answer .refusal)) → Reachable (o .answer .decoder)
-unfolding filled
-left-by-feed e d chunk room o r b k a = subst (λ (o : Outcome). Reachable (o .answer .decoder)) k
-    (fed r (lent (family e)) chunk room b
-    (lent-below (traits (family e) .first)) (lent-below (secondCells (traits (family e) .second))) (rw k a))
+left-by-feed e d chunk room o r b k a =
+    let c = lent-cells (family e) in
+    subst (λ (o : Outcome). Reachable (o .answer .decoder)) k (fed r (lent (family e)) chunk room b (c .0) (c .1) (rw k a))
 
-left-by-finish : (d : Decoder) (room : List ℕ) {o : Outcome} → Reachable d → finishing d room ≡ o →
+left-by-finish : (e : ℕ) (d : Decoder) (room : List ℕ) {o : Outcome} → Reachable d → finishing d (lent (family e)) room ≡ o →
     T (accepted (o .answer .refusal)) → Reachable (o .answer .decoder)
-left-by-finish d room r k a = subst (λ (o : Outcome). Reachable (o .answer .decoder)) k (finished r room (rw k a))
+left-by-finish e d room r k a =
+    let c = lent-cells (family e) in
+    subst (λ (o : Outcome). Reachable (o .answer .decoder)) k (finished r (lent (family e)) room (c .0) (c .1) (rw k a))
 
 split-sound : (x a b : Bool) → x && (a || b) ≡ false → (x && a ≡ false) × (x && b ≡ false)
 split-sound true true b p = absurd (subst T p tt)
 split-sound true false b p = (refl, p)
 split-sound false a b p = (refl, refl)
 
--- A byte more, and byte after byte, with 4,294,967,295 bytes at most.
 module _ (e m : ℕ) where
-  abbrev reader : Shift → List ℕ → Next
-  reader = next (lent (family e)) (family e)
+  -- what is known of a record that calls leave; without more bytes nothing is read
+  there : (n l : ℕ) (p : Spot) (xs : List ℕ) → Reachable (holding e m n l p xs) → Open e m n l p xs
+  there n l p xs r = open-holding e m n l p xs (reachable-valid r)
 
-  takes : (n l : ℕ) (s : Shift) (xs : List ℕ) (y : ℕ) → Reachable (holding e m n l s xs) → next noTables (family e) s xs ≡ more →
-      n + 1 ≤ 4294967295 → feedRefusal (holding e m n l s xs) (lent (family e)) (y ∷ []) (replicate 4 0) ≡ 0
+  nothing-more : (n l : ℕ) (p : Spot) (xs held : List ℕ) → Reachable (holding e m n l p xs) → Rests e p held →
+      readFrom (lent (family e)) e p held ≡ record { items = []; spot = p; rest = held }
+  nothing-more n l p xs held r w = read-rest (lent (family e)) e p held (waiting-plain e m (there n l p xs r .comes)) w
+
+  -- A byte more, and byte after byte, with 4,294,967,295 bytes at most.
+  takes : (n l : ℕ) (p : Spot) (xs : List ℕ) (y : ℕ) → Reachable (holding e m n l p xs) → n + 1 ≤ 4294967295 →
+      feedRefusal (holding e m n l p xs) (lent (family e)) (y ∷ []) (replicate 4 0) ≡ 0
   unfolding feedRefusal
-  takes n l s xs y r w h = rw (
+  takes n l p xs y r h = rw (
     reachable-valid r,
     filled-fits 0x3000 (family e),
     le-ltb 4294967295 (n + 1) h,
-    le-ltb 4 (1 + length xs) (omega (arith, few e m s xs w)),
+    le-ltb 4 (1 + length xs) (omega (arith, rests-few e p xs (there n l p xs r .rests))),
   )
 
-  one-more : (n l : ℕ) (s : Shift) (xs : List ℕ) (y : ℕ) → Reachable (holding e m n l s xs) → next noTables (family e) s xs ≡ more →
-      n + 1 ≤ 4294967295 → Bytes (y ∷ []) → let r = readOf e (lent (family e)) s xs (y ∷ []) in eqb m 1 && broken (r .items) ≡ false →
-      Reachable (onward e m n l (y ∷ []) r)
-  one-more n l s xs y r w h b q =
-      let R = readOf e (lent (family e)) s xs (y ∷ []) in
+  one-more : (n l : ℕ) (p : Spot) (xs : List ℕ) (y : ℕ) → Reachable (holding e m n l p xs) → n + 1 ≤ 4294967295 → Bytes (y ∷ []) →
+      let r = readOf e (lent (family e)) p xs (y ∷ []) in eqb m 1 && broken (r .items) ≡ false → Reachable (onward e m n l (y ∷ []) r)
+  one-more n l p xs y r h b q =
+      let R = readOf e (lent (family e)) p xs (y ∷ []) in
       let room : List ℕ = replicate 4 0 in
-      left-by-feed e (holding e m n l s xs) (y ∷ []) room
+      left-by-feed e (holding e m n l p xs) (y ∷ []) room
       (write (shown (R .items)) (onward e m n l (y ∷ []) R) room) r b
-      (feed-holding e m n l s xs (lent (family e)) (y ∷ []) room w (takes n l s xs y r w h) ∙ rw q) tt
+      (feed-holding e m n l p xs (lent (family e)) (y ∷ []) room (there n l p xs r .rests) (takes n l p xs y r h) ∙ rw q) tt
 
-  byte-by-byte : (ys : List ℕ) (n l : ℕ) (s : Shift) (xs : List ℕ) →
-      Reachable (holding e m n l s xs) → next noTables (family e) s xs ≡ more → n + length ys ≤ 4294967295 → Bytes ys →
-      let r = decode reader s (xs ++ ys) in eqb m 1 && broken (r .items) ≡ false →
+  byte-by-byte : (ys : List ℕ) (n l : ℕ) (p : Spot) (xs : List ℕ) → Reachable (holding e m n l p xs) →
+      n + length ys ≤ 4294967295 → Bytes ys → let r = readOf e (lent (family e)) p xs ys in eqb m 1 && broken (r .items) ≡ false →
       Reachable (onward e m n l ys r)
   unfolding shown lineFeeds
-  byte-by-byte [] n l s xs r w h b q =
-      let waits = more-any noTables (lent (family e)) (family e) s xs w in
-      let all = decode-more (keeps (family e)) reader (next-laws (lent (family e)) (family e)) s xs waits in
-      rw (append-nil xs, all, add-zero n, add-zero l) r
-  byte-by-byte (y ∷ ys) n l s xs r w h b q =
+  byte-by-byte [] n l p xs r h b q =
+      rw (append-nil xs, nothing-more n l p xs xs r (there n l p xs r .rests), add-zero n, add-zero l) r
+  byte-by-byte (y ∷ ys) n l p xs r h b q =
       let t = lent (family e) in
-      let kf = keeps (family e) in
-      let L = next-laws t (family e) in
-      let R = readOf e t s xs (y ∷ []) in
-      let later = decode reader (R .shift) (R .rest ++ ys) in
-      let all : decode reader s (xs ++ y ∷ ys) ≡ behind (R .items) later =
-      rw (← append-assoc xs (y ∷ []) ys) (chunks kf reader L s (xs ++ y ∷ []) ys) in
+      let R = readOf e t p xs (y ∷ []) in
+      let later = readFrom t e (R .spot) (R .rest ++ ys) in
+      let all : readFrom t e p (xs ++ y ∷ ys) ≡ then-from t e R later =
+      rw (← append-assoc xs (y ∷ []) ys) (chunks-from t e p (xs ++ y ∷ []) ys) in
       let all-sound : eqb m 1 && (broken (R .items) || broken (later .items)) ≡ false =
-      sym (ap (_&&_ (eqb m 1)) (ap (λ (r : Read). broken (r .items)) all ∙ broken-append (R .items) (later .items))) ∙ q in
+      sym (ap (_&&_ (eqb m 1)) (ap (λ (r : Parsed). broken (r .items)) all ∙ broken-append (R .items) (later .items))) ∙ q in
       let sound = split-sound (eqb m 1) (broken (R .items)) (broken (later .items)) all-sound in
-      let waits = more-any t noTables (family e) (R .shift) (R .rest) (reading kf reader L s (xs ++ y ∷ []) .waits) in
-      let first = one-more n l s xs y r w (omega arith) (bytes-take 1 (y ∷ ys) b) (sound .0) in
-      let rest = byte-by-byte ys (n + 1) (l + lineFeeds (shown (R .items))) (R .shift) (R .rest) first waits
+      let first = one-more n l p xs y r (omega arith) (bytes-take 1 (y ∷ ys) b) (sound .0) in
+      let rest = byte-by-byte ys (n + 1) (l + lineFeeds (shown (R .items))) (R .spot) (R .rest) first
       (omega arith) (bytes-drop 1 (y ∷ ys) b) (sound .1) in
       let count : n + 1 + length ys ≡ n + suc (length ys) = omega arith in
       let feeds : l + lineFeeds (shown (R .items)) + lineFeeds (shown (later .items)) ≡ l + lineFeeds (shown (R .items ++ later .items)) =
       rw (shown-append (R .items) (later .items), line-feeds-append (shown (R .items)) (shown (later .items))) (omega arith) in
-      subst (λ (r : Read). Reachable (onward e m n l (y ∷ ys) r)) (sym all)
-      (subst Reachable (λ i. holding e m (count i) (feeds i) (later .shift) (later .rest)) rest)
+      subst (λ (r : Parsed). Reachable (onward e m n l (y ∷ ys) r)) (sym all)
+      (subst Reachable (λ i. holding e m (count i) (feeds i) (later .spot) (later .rest)) rest)
 
--- From an opening by a way to a shift, and then the bytes held.
+  -- A finish ends a decoder, with no line feed more where the end gives none.
+  by-finish : (n l : ℕ) (p : Spot) (held : List ℕ) → Reachable (holding e m n l p held) →
+      lineFeeds (shown (endOf e (lent (family e)) p held)) ≡ 0 → Reachable (closed e m n l)
+  unfolding finishRefusal
+  by-finish n l p held r quiet =
+      let t = lent (family e) in
+      let d = holding e m n l p held in
+      let room : List ℕ = replicate 3 0 in
+      let is = endOf e t p held in
+      let w = there n l p held r .rests in
+      let at-error : l + lineFeeds (before is) ≡ l = omega (arith, before-line-feeds is, quiet) in
+      let at-end : l + lineFeeds (shown is) ≡ l = omega (arith, quiet) in
+      handed-is (λ o. finishing d t room ≡ o → Reachable (closed e m n l)) e m (n - length held) n l is (closed e m n) room
+      (λ k. subst Reachable (λ i. closed e m n (at-error i)) (left-by-finish e d room r k tt))
+      (λ k. subst Reachable (λ i. closed e m n (at-end i)) (left-by-finish e d room r k tt))
+      (finish-holding e m n l p held t room w (rw (
+        reachable-valid r,
+        filled-fits 0x3000 (family e),
+        and-false (eqb (p .stage) 1),
+        le-ltb 3 (length held) (rests-few e p held w),
+      )))
+
 module _ (e m : ℕ) (a : e ≤ 39) (small : m ≤ 1) where
-  new-reached : (rule : ℕ) → rule ≤ 1 → Reachable (new e m rule)
+  new-reached : (rule : ℕ) → rule ≤ 2 → Reachable (new e m rule)
   unfolding opening openRefusal
   new-reached rule r =
-      let accepts : openRefusal e m rule ≡ 0 = rw (le-ltb 39 e a, le-ltb 1 m small, le-ltb 1 rule r) in
+      let accepts : openRefusal e m rule ≡ 0 = rw (le-ltb 39 e a, le-ltb 1 m small, le-ltb 2 rule r) in
       rw accepts at (opened e m rule)
 
-  by-way : (c l : ℕ) (s : Shift) (held : List ℕ) → Opened (family e) m c l s → next noTables (family e) s held ≡ more →
-      c + length held ≤ 4294967295 → Bytes held → Reachable (holding e m (c + length held) l s held)
-  by-way c l s held o w h b =
-      let t = lent (family e) in
-      let f = next t (family e) in
-      let s₀ = newShift e (o .rule) in
-      let p = o .way in
-      let read : decode f s₀ (p .bytes ++ held) ≡ record { items = p .items ++ []; shift = s; rest = held } =
-      along p held ∙
-      ap (behind (p .items)) (decode-more (keeps (family e)) f (next-laws t (family e)) s held (more-any noTables t (family e) s held w)) in
-      let sound : eqb m 1 && broken (decode f s₀ (p .bytes ++ held) .items) ≡ false = rw (read, append-nil (p .items)) (p .sound) in
-      let long : length (p .bytes ++ held) ≡ c + length held = length-append (p .bytes) held ∙ ap (λ (x : ℕ). x + length held) (p .long) in
-      let count : 0 + length (p .bytes ++ held) ≡ c + length held = omega (arith, long) in
-      let feeds : 0 + lineFeeds (shown (p .items ++ [])) ≡ l = rw (append-nil (p .items)) (omega (arith, p .feeds)) in
-      let all = byte-by-byte e m (p .bytes ++ held) 0 0 s₀ [] (new-reached (o .rule) (o .known)) (empty noTables (family e) s₀)
-      (omega (arith, long)) (bytes-append (p .bytes) held (p .are) b) sound in
-      subst Reachable (λ i. holding e m (count i) (feeds i) s held)
-      (subst (λ (r : Read). Reachable (onward e m 0 0 (p .bytes ++ held) r)) read all)
+  -- From an opening by a way to a spot, and then the bytes held.
+  by-way : {p : Spot} {c l : ℕ} → Opened e m c l p → c ≤ 4294967295 → Reachable (holding e m c l p [])
+  by-way {p} {c} {l} o h =
+      let first : Reachable (holding e m 0 0 (o .first) []) =
+      subst (λ (p : Spot). Reachable (holding e m 0 0 p [])) (o .new) (new-reached (o .rule) (o .known)) in
+      let sound : eqb m 1 && broken (readFrom (lent (family e)) e (o .first) (o .bytes) .items) ≡ false = rw (o .leads) (o .sound) in
+      let count : 0 + length (o .bytes) ≡ c = omega (arith, o .long) in
+      let feeds : 0 + lineFeeds (shown (o .items)) ≡ l = omega (arith, o .feeds) in
+      subst Reachable (λ i. holding e m (count i) (feeds i) p [])
+      (subst (λ (r : Parsed). Reachable (onward e m 0 0 (o .bytes) r)) (o .leads)
+      (byte-by-byte e m (o .bytes) 0 0 (o .first) [] first (omega (arith, o .long)) (o .are) sound))
 
--- A finish ends a decoder, with no line feed more.
-by-finish : (e m n l : ℕ) (s : Shift) (held : List ℕ) → Reachable (holding e m n l s held) →
-    next noTables (family e) s held ≡ more → Reachable (closed e m n l)
-unfolding finishRefusal
-by-finish e m n l s held r w =
-    let d = holding e m n l s held in
-    let room : List ℕ = replicate 3 0 in
-    let is = endOf e s held in
-    let quiet = none-at-end noTables (family e) s held w in
-    let at-error : l + lineFeeds (before is) ≡ l = omega (arith, before-line-feeds is, quiet) in
-    let at-end : l + lineFeeds (shown is) ≡ l = omega (arith, quiet) in
-    handed-is (λ o. finishing d room ≡ o → Reachable (closed e m n l)) e m (n - length held) n l is (closed e m n) room
-    (λ k. subst Reachable (λ i. closed e m n (at-error i)) (left-by-finish d room r k tt))
-    (λ k. subst Reachable (λ i. closed e m n (at-end i)) (left-by-finish d room r k tt))
-    (finish-holding e m n l s held room w (rw (reachable-valid r, le-ltb 3 (length held) (few e m s held w))))
-
--- Replacement in refusing mode ends in one feed, by its first byte.
-letters : (n : ℕ) → Bytes (replicate n 0x41)
-unfolding every
-letters zero = tt
-letters (suc n) = letters n
-
-first-error : (t : Tables) (f : Family) → f ≡ Replacement → (n : ℕ) → 1 ≤ n →
-    decode (next t f) plain (replicate n 0x41) .items ≡ span 1 error ∷ decode (next t f) (shift 0 true) (drop 1 (replicate n 0x41)) .items
-unfolding next replacement
-first-error t f q zero h = absurd (omega arith)
-first-error t f q (suc n) h = ap (λ (r : Read). r .items)
-    (decode-item (keeps f) (next t f) (next-laws t f) plain (replicate (suc n) 0x41) {w = 1} {s′ = shift 0 true} {o = error} (rw q))
-
-one-feed : (e n : ℕ) → family e ≡ Replacement → e ≤ 39 → 1 ≤ n → n ≤ 65536 → Reachable (closed e 1 n 0)
-unfolding feedRefusal broken before lineFeeds
-one-feed e n f a h g =
-    let t = lent (family e) in
-    let chunk : List ℕ = replicate n 0x41 in
-    let d = holding e 1 0 0 plain [] in
-    let first : newShift e 1 ≡ plain = ap (shift 0) (and-false (traits (family e) .mark)) in
-    let r : Reachable d = subst (λ (s : Shift). Reachable (holding e 1 0 0 s [])) first (new-reached e 1 a (lit≤ tt) 1 (lit≤ tt)) in
-    let long : length chunk ≡ n = length-replicate n 0x41 in
-    let accepts : feedRefusal d t chunk chunk ≡ 0 = rw (
-      reachable-valid r,
-      filled-fits 0x3000 (family e),
-      long,
-      le-ltb 65536 n g,
-      le-ltb 4294967295 (0 + n) (omega arith),
-      le-ltb n (n + 0) (omega arith),
-    ) in
-    let is = readOf e t plain [] chunk .items in
-    let front : is ≡ span 1 error ∷ decode (next t (family e)) (shift 0 true) (drop 1 chunk) .items = first-error t (family e) f n h in
-    let bad : broken is ≡ true = rw front in
-    let count : 0 + length chunk ≡ n = omega (arith, long) in
-    let feeds : 0 + lineFeeds (before is) ≡ 0 = rw front in
-    subst Reachable (λ i. closed e 1 (count i) (feeds i)) (left-by-feed e d chunk chunk
-    (report (0 + reach is) (1 + (0 + lineFeeds (before is))) (before is) (stoppedBy e 1 (0 + length chunk) 0 is) chunk)
-    r (letters n) (feed-holding e 1 0 0 plain [] t chunk chunk (empty noTables (family e) plain) accepts ∙ rw bad) tt)
+  at-spot : {p : Spot} {c l : ℕ} (held : List ℕ) → ComesAt e m p c l → Rests e p held → c + length held ≤ 4294967295 → Bytes held →
+      Reachable (holding e m (c + length held) l p held)
+  unfolding broken shown lineFeeds
+  at-spot {p} {c} {l} held come w h b =
+      let r = by-way (way-to e m come) (omega arith) in
+      let read = nothing-more e m c l p [] held r w in
+      let feeds : l + 0 ≡ l = add-zero l in
+      subst Reachable (λ i. holding e m (c + length held) (feeds i) p held)
+      (subst (λ (r : Parsed). Reachable (onward e m c l held r)) read
+      (byte-by-byte e m held c l p [] r h b (rw read (and-false (eqb m 1)))))
 
 -- A decoder that has ended, by the shape of its test.
 module _ (e m n l : ℕ) (a : e ≤ 39) (small : m ≤ 1) (fits : n ≤ 4294967295) where
-  -- nothing held
-  ended-way : (s : Shift) → Way (family e) m plain n l s → Reachable (closed e m n l)
+  -- a finish where the end gives no line feed
+  ended-at : {p : Spot} {c : ℕ} (held : List ℕ) → eqb (p .stage) 1 ≡ false → ComesAt e m p c l → Rests e p held → Bytes held →
+      c + length held ≡ n → Reachable (closed e m n l)
+  ended-at {p} {c} held g come w b count = by-finish e m n l p held
+      (subst Reachable (λ i. holding e m (count i) l p held) (at-spot e m a small held come w (omega (arith, count)) b))
+      (quiet-end (lent (family e)) e p held g w)
+
+  -- by the label's encoding, nothing held
+  ended-label : (σ : Shape) → shapeOf (family e) ≡ σ → Comes m σ plain n l → Reachable (closed e m n l)
   unfolding every
-  ended-way s p =
-      let count : n + 0 ≡ n = add-zero n in
-      by-finish e m n l s [] (subst Reachable (λ i. holding e m (count i) l s [])
-      (by-way e m a small n l s [] (kept p) (empty noTables (family e) s) (omega arith) tt)) (empty noTables (family e) s)
+  ended-label σ q come = ended-at [] refl (by-label (subst (λ (σ : Shape). Comes m σ plain n l) (sym q) come))
+      (none-rest e (spot 0 plain)) tt (add-zero n)
+
+  -- by UTF-8 behind its mark
+  ended-mark : l + 3 ≤ n → Reachable (closed e m n l)
+  unfolding reader family every
+  ended-mark h = ended-at [] refl (by-mark {g = 2} (lit≤ tt) (lit≤ tt) (omega arith) (omega arith))
+      (none-rest e (spot 2 plain)) tt (add-zero n)
 
   -- UTF-16: behind an odd number of bytes one is held
-  double-ended : Ways Paired (family e) m → 2 * l ≤ n → Reachable (closed e m n l)
-  unfolding every
-  double-ended k h = go (n % 2) refl
+  ended-pairs : shapeOf (family e) ≡ Paired → Ways Paired (family e) m → 2 * l ≤ n → Reachable (closed e m n l)
+  unfolding every reader
+  ended-pairs σ k h = go (n % 2) refl
     where
       d : n / 2 * 2 + n % 2 ≡ n
       d = div-add-mod' n 2
 
       go : (x : ℕ) → n % 2 ≡ x → Reachable (closed e m n l)
-      go zero q = ended-way plain (k .1 n l q h)
+      go zero q = ended-label Paired σ (in-text {σ = Paired} (q, h))
       go (suc zero) q =
-          let count : n / 2 * 2 + 1 ≡ n = omega (arith, d, q) in
-          let p = k .1 (n / 2 * 2) l (mul-mod-left (n / 2) 2) (omega (arith, d, q)) in
-          by-finish e m n l plain (0x41 ∷ []) (subst Reachable (λ i. holding e m (count i) l plain (0x41 ∷ []))
-          (by-way e m a small (n / 2 * 2) l plain (0x41 ∷ []) (kept p) (k .2) (omega (arith, count)) tt)) (k .2)
+          let half : 2 * l ≤ n / 2 * 2 = omega (arith, d, q) in
+          let even : Comes m Paired plain (n / 2 * 2) l = in-text {σ = Paired} (mul-mod-left (n / 2) 2, half) in
+          ended-at (0x41 ∷ []) refl (by-label (subst (λ (σ : Shape). Comes m σ plain (n / 2 * 2) l) (sym σ) even))
+          (more-rests e (spot 0 plain) (0x41 ∷ []) refl (k .1)) tt (omega (arith, d, q))
       go (suc (suc x)) q = absurd (omega (arith, mod-lt n {m = 2} (lit< tt), q))
 
-  replaced-ended : family e ≡ Replacement → l ≡ 0 → T (eqb m 0 || leb n 65536) → Reachable (closed e m n l)
-  replaced-ended f none p = go n refl (eqb m 0) refl
-    where
-      go : (x : ℕ) → n ≡ x → (y : Bool) → eqb m 0 ≡ y → Reachable (closed e m n l)
-      go zero q y g = ended-way plain (sized-way n l (sym q) (sym none) (stay plain))
-      go (suc x) q true g = ended-way (shift 0 true) (rw (f, none) (replacement-way m (eqb-true m 0 g) n (omega arith)))
-      go (suc x) q false g =
-          let z : m ≡ 0 → ⊥ = eqb-false m 0 g in
-          let one : 1 ≡ m = omega arith in
-          subst Reachable (λ i. closed e (one i) n (sym none i)) (one-feed e n f a (omega arith) (leb→le n 65536 (rw g at p)))
+  -- replacement: by a finish while at most two bytes wait for the choice
+  ended-waiting : (held : List ℕ) → choose held ≡ waiting → Bytes held → family e ≡ Replacement → length held ≡ n → l ≡ 0 →
+      lineFeeds (shown (everything (lent Replacement) Replacement plain held)) ≡ 0 → Reachable (closed e m n l)
+  unfolding endFrom
+  ended-waiting held w b f count none quiet =
+      let long : 0 + length held ≡ n = omega (arith, count) in
+      let rests = wait-rests e (spot 1 plain) held refl w in
+      by-finish e m n l (spot 1 plain) held
+      (subst Reachable (λ i. holding e m (long i) (sym none i) (spot 1 plain) held)
+      (at-spot e m a small held choosing rests (omega (arith, long)) b)) (rw f quiet)
 
-  ended-as : (σ : Shape) → Ways σ (family e) m → totalsAs σ m n l ≡ true → Reachable (closed e m n l)
-  ended-as Unshifted k p = ended-way plain (k n l (leb-true l n p))
-  ended-as Marked k p = ended-way plain (k .1 n l (leb-true l n p))
-  ended-as Paired k p = double-ended k (leb-true (2 * l) n p)
-  ended-as Replaced k p =
-      let q = and-both (eqb l 0) (eqb m 0 || leb n 65536) p in
-      replaced-ended k (eqb-true l 0 (q .0)) (true-T (q .1))
-  ended-as Escaped k p = ended-way plain (rw k (iso-plainly m n l (leb-true l n p)))
+  ended-few : family e ≡ Replacement → l ≡ 0 → n ≤ 2 → Reachable (closed e m n l)
+  unfolding choose every everything decode reads next replacement ending oneError shown lineFeeds
+  ended-few f none h = go n refl h
+    where
+      go : (x : ℕ) → n ≡ x → x ≤ 2 → Reachable (closed e m n l)
+      go zero q h = ended-waiting [] refl tt f (sym q) none refl
+      go (suc zero) q h = ended-waiting (0xEF ∷ []) refl tt f (sym q) none refl
+      go (suc (suc zero)) q h = ended-waiting (0xEF ∷ 0xBB ∷ []) refl tt f (sym q) none refl
+      go (suc (suc (suc x))) q h = absurd (omega arith)
+
+  ended-as : (σ : Shape) → shapeOf (family e) ≡ σ → Ways σ (family e) m → totalsAs σ n l ≡ true → Reachable (closed e m n l)
+  unfolding isoCost isoLeast
+  ended-as Unshifted q k p = ended-label Unshifted q (in-text (leb-true l n p))
+  ended-as Marked q k p = ended-label Marked q (in-text (leb-true l n p))
+  ended-as Paired q k p = or-case (leb (2 * l) n) (leb (l + 3) n) p
+      (λ h. ended-pairs q k (leb-true (2 * l) n h)) (λ h. ended-mark (leb-true (l + 3) n h))
+  ended-as Replaced q k p = split (leb (l + 3) n) (λ h. ended-mark (leb-true (l + 3) n h))
+      (λ h. or-case (eqb l 0) (leb (l + 3) n) p (λ z. ended-few k (eqb-true l 0 z) (omega (arith, leb-false (l + 3) n h, eqb-true l 0 z)))
+      (λ z. absurd (subst T (sym z ∙ h) tt)))
+  ended-as Escaped q k p =
+      let h = leb-true l n p in
+      ended-label Escaped q (in-state (record { low = lit≤ tt; cost = omega (arith, h); least = omega arith }))
 
 pub valid-reachable : (d : Decoder) → Bytes (d .first ∷ d .second ∷ d .third ∷ []) → d .taken ≤ 4294967295 → valid d ≡ true → Reachable d
-valid-reachable d b h v = go (eqb (d .ended) 1) refl
+valid-reachable d b h v = split (eqb (d .ended) 1)
+    (λ n. subst Reachable (sym (is-closed d v n)) (ended-as e m (d .taken) (d .lines) (parts d v .encoding) (parts d v .mode) h
+    (shapeOf (family e)) refl (ways (family e) m) (sym (totals-as (family e) (d .taken) (d .lines)) ∙ closed-rest d v n .totals)))
+    (λ n.
+    let o = open-record d v n in
+    let count : d .taken - length (heldOf d) + length (heldOf d) ≡ d .taken = omega (arith, o .held) in
+    subst Reachable ((λ i. holding e m (count i) (d .lines) (spotOf d) (heldOf d)) ∙ sym (is-holding d v n))
+    (at-spot e m (parts d v .encoding) (parts d v .mode) (heldOf d) (o .comes) (o .rests) (omega (arith, count))
+    (bytes-take (d .held) (d .first ∷ d .second ∷ d .third ∷ []) b)))
   where
     e : ℕ
     e = d .encoding
 
     m : ℕ
     m = d .mode
-
-    go : (x : Bool) → eqb (d .ended) 1 ≡ x → Reachable d
-    go true n = subst Reachable (sym (is-closed d v n)) (ended-as e m (d .taken) (d .lines) (parts d v .encoding) (parts d v .mode) h
-        (shapeOf (family e)) (ways (family e) m) (sym (totals-as (family e) m (d .taken) (d .lines)) ∙ closed-rest d v n .totals))
-    go false n =
-        let o = open-rest d v n in
-        let c = d .taken - d .held in
-        let k : length (heldOf d) ≡ d .held = simp length-take (omega (arith, parts d v .held)) in
-        let count : c + length (heldOf d) ≡ d .taken = omega (arith, k, o .held) in
-        let come = comes (family e) m (shiftOf d) c (d .lines) (o .possible) in
-        let way = way-to (family e) m (shapeOf (family e)) (ways (family e) m) come in
-        subst Reachable ((λ i. holding e m (count i) (d .lines) (shiftOf d) (heldOf d)) ∙ sym (is-holding d v n))
-        (by-way e m (parts d v .encoding) (parts d v .mode) c (d .lines) (shiftOf d) (heldOf d) way (o .more) (omega (arith, count))
-        (bytes-take (d .held) (d .first ∷ d .second ∷ d .third ∷ []) b))

@@ -24,12 +24,13 @@ fed-accepted : (d : Decoder) (t : Tables) (chunk room : List ℕ) → accepted (
 fed-accepted d t chunk room =
     let r = readOn d t chunk in
     let n = d .taken + length chunk in
-    let on : ℕ → Decoder = λ l. holding (d .encoding) (d .mode) n l (r .shift) (r .rest) in
+    let on : ℕ → Decoder = λ l. holding (d .encoding) (d .mode) n l (r .spot) (r .rest) in
     handed-accepted (d .encoding) (d .mode) (d .taken - d .held) n (d .lines) (r .items) on room
 
-finished-accepted : (d : Decoder) (room : List ℕ) → accepted (finishedOut d room .answer .refusal) ≡ true
-finished-accepted d room =
-    handed-accepted (d .encoding) (d .mode) (d .taken - d .held) (d .taken) (d .lines) (readEnd d) (closed (d .encoding) (d .mode) (d .taken)) room
+finished-accepted : (d : Decoder) (t : Tables) (room : List ℕ) → accepted (finishedOut d t room .answer .refusal) ≡ true
+finished-accepted d t room =
+    handed-accepted (d .encoding) (d .mode) (d .taken - d .held) (d .taken) (d .lines) (readEnd d t)
+    (closed (d .encoding) (d .mode) (d .taken)) room
 
 pub feed-accepted : (d : Decoder) (t : Tables) (chunk room : List ℕ) → feedRefusal d t chunk room ≡ 0 →
     accepted (feeding d t chunk room .answer .refusal) ≡ true
@@ -38,10 +39,12 @@ feed-accepted d t chunk room h = rw h (fed-accepted d t chunk room)
 
 -- a refused call leaves the history as it was
 refused-same : (h : History) (c : Call) → accepted (outcome h c .answer .refusal) ≡ false → afterOne h c ≡ h
-refused-same h (feed chunk t room) = feed-is (λ (o : Outcome). accepted (o .answer .refusal) ≡ false → noted h chunk o ≡ h) (h .decoder) t chunk room
-    (λ z q. absurd (subst T (sym (fed-accepted (h .decoder) t chunk room) ∙ q) tt)) (λ z q. rw (q, append-nil (h .taken), append-nil (h .handed)))
-refused-same h (finish room) = finish-is (λ (o : Outcome). accepted (o .answer .refusal) ≡ false → noted h [] o ≡ h) (h .decoder) room
-    (λ z q. absurd (subst T (sym (finished-accepted (h .decoder) room) ∙ q) tt)) (λ z q. rw (q, append-nil (h .taken), append-nil (h .handed)))
+refused-same h (feed chunk t room) = feed-is (λ (o : Outcome). accepted (o .answer .refusal) ≡ false → noted h chunk o ≡ h)
+    (h .decoder) t chunk room (λ z q. absurd (subst T (sym (fed-accepted (h .decoder) t chunk room) ∙ q) tt))
+    (λ z q. rw (q, append-nil (h .taken), append-nil (h .handed)))
+refused-same h (finish t room) = finish-is (λ (o : Outcome). accepted (o .answer .refusal) ≡ false → noted h [] o ≡ h)
+    (h .decoder) t room (λ z q. absurd (subst T (sym (finished-accepted (h .decoder) t room) ∙ q) tt))
+    (λ z q. rw (q, append-nil (h .taken), append-nil (h .handed)))
 
 no-report : (n : ℕ) → accepted n ≡ false → eqb n 11 ≡ false
 no-report n q = go (eqb n 0) (eqb n 11) q
@@ -62,7 +65,8 @@ same-history h (c ∷ cs) = go (accepted (outcome h c .answer .refusal)) refl (s
     rest : List Call
     rest = acceptedCalls h′ cs
 
-    go : (b : Bool) → accepted (outcome h c .answer .refusal) ≡ b → after h′ rest ≡ after h′ cs → after h (b then c ∷ rest else rest) ≡ after h′ cs
+    go : (b : Bool) → accepted (outcome h c .answer .refusal) ≡ b → after h′ rest ≡ after h′ cs →
+        after h (b then c ∷ rest else rest) ≡ after h′ cs
     go true q ih = ih
     go false q ih = ap (λ (g : History). after g rest) (sym (refused-same h c q)) ∙ ih
 

@@ -1,6 +1,6 @@
 -- Rooms that suffice: no refusal 7 with three cells more than the chunk, and calls that are accepted. Assumes nothing.
 use mathlib.Core.Path.{_≡_, refl, sym, ap, _∙_, subst}
-use mathlib.Core.Bool.{Bool, true, false, not}
+use mathlib.Core.Bool.{Bool, true, false, _&&_, not, and-false}
 use mathlib.Core.List.{List, [], _∷_, _++_}
 use Prim.Native.Nat.{ℕ, _+_, _-_, _≤_}
 use native.Mathlib.Omega.{arith}
@@ -8,25 +8,28 @@ use lib.Dec.{T, ltb, eqb}
 use lib.ListN.{length, drop, length-append, length-drop, length-take}
 use borrow.Author.Tests.{le-ltb, ltb-false}
 use Rattle.standard.specs.Base.{_then_else_}
-use Rattle.standard.specs.Encodings.{Family, family, Tables, noTables, fits}
-use Rattle.standard.specs.Next.{next}
-use Rattle.standard.specs.Decode.{Item, Read, shown, before}
-use Rattle.standard.proofs.FamilyLaws.{keeps, next-laws}
+use Rattle.standard.specs.Encodings.{family, Tables, fits}
+use Rattle.standard.specs.Decode.{Item, shown, before}
+use Rattle.standard.specs.Choice.{Parsed}
 use Rattle.standard.proofs.Items.{before-length}
-use Rattle.standard.proofs.Reading.{reading, ending-is}
-use Rattle.decoder.specs.Record.{shiftOf, heldOf, holding, closed, newShift}
+use Rattle.standard.proofs.Stages.{parsing, end-count}
+use Rattle.decoder.specs.Record.{spotOf, heldOf, holding, closed, newSpot}
 use Rattle.decoder.specs.Valid.{valid}
 use Rattle.decoder.specs.Calls.{openRefusal, Outcome, handOut, readOn, feedRefusal, feeding, readEnd, finishRefusal, finishing}
 use Rattle.demands.specs.Histories.{feed, History, start}
 use Rattle.demands.specs.Statements.{Piece, joined, Accepts, Roomy, RoomKept}
 use Rattle.decoder.specs.declared.Decoder.{Decoder}
 use Rattle.decoder.proofs.Parts.{parts}
-use Rattle.demands.proofs.Steps.{Stands, reads, ended, handed-is, fedOut, feed-is, finish-is, Step, refused, fed, reported, stepped, still, opened-is, stands-new}
+use Rattle.demands.proofs.Steps.{Stands, reads, ended, handed-is, fedOut, feed-is, finish-is, Step, refused, fed, reported}
+use Rattle.demands.proofs.Steps.{stepped, still, opened-is, stands-new}
 use Rattle.demands.proofs.Validity.{valid-step, valid-opening, opening-bounds}
 
--- the refusals of a feed after 5 and 6
-abbrev number : (c e g f : Bool) → ℕ
-number c e g f = c then 4 else e then 8 else g then 14 else f then 7 else 0
+-- the refusals of a feed and of a finish after 5 and 6
+abbrev fedNumber : (c e g f : Bool) → ℕ
+fedNumber c e g f = c then 4 else e then 8 else g then 14 else f then 7 else 0
+
+abbrev finishedNumber : (c f : Bool) → ℕ
+finishedNumber c f = c then 4 else f then 7 else 0
 
 -- five, six, and what comes after them
 not-seven : (a b : Bool) (n : ℕ) → (n ≡ 7 → ⊥) → (a then 5 else b then 6 else n) ≡ 7 → ⊥
@@ -34,29 +37,30 @@ not-seven true b n h q = omega arith
 not-seven false true n h q = omega arith
 not-seven false false n h q = h q
 
-pub feed-room : (d : Decoder) → d .held ≤ 3 → (t : Tables) (chunk room : List ℕ) → length chunk + 3 ≤ length room → feedRefusal d t chunk room ≡ 7 → ⊥
+pub feed-room : (d : Decoder) → d .held ≤ 3 → (t : Tables) (chunk room : List ℕ) → length chunk + 3 ≤ length room →
+    feedRefusal d t chunk room ≡ 7 → ⊥
 unfolding feedRefusal
 feed-room d h t chunk room r = not-seven (not (valid d)) (eqb (d .ended) 1) _
     (go (not (fits (family (d .encoding)) t)) (ltb 65536 (length chunk)) (ltb 4294967295 (d .taken + length chunk))
     (ltb (length room) (length chunk + d .held)) (le-ltb (length room) (length chunk + d .held) (omega arith)))
   where
-    go : (c e g f : Bool) → f ≡ false → number c e g f ≡ 7 → ⊥
+    go : (c e g f : Bool) → f ≡ false → fedNumber c e g f ≡ 7 → ⊥
     go true e g f s q = omega arith
     go false true g f s q = omega arith
     go false false true f s q = omega arith
     go false false false true s q = subst T s tt
     go false false false false s q = omega arith
 
-pub finish-room : (d : Decoder) → d .held ≤ 3 → (room : List ℕ) → 3 ≤ length room → finishRefusal d room ≡ 7 → ⊥
+pub finish-room : (d : Decoder) → d .held ≤ 3 → (t : Tables) (room : List ℕ) → 3 ≤ length room → finishRefusal d t room ≡ 7 → ⊥
 unfolding finishRefusal
-finish-room d h room r = not-seven (not (valid d)) (eqb (d .ended) 1) _ (go (ltb (length room) (d .held)) (le-ltb (length room) (d .held) (omega arith)))
+finish-room d h t room r = not-seven (not (valid d)) (eqb (d .ended) 1) _
+    (go (eqb (d .stage) 1 && not (fits (family (d .encoding)) t)) (ltb (length room) (d .held))
+    (le-ltb (length room) (d .held) (omega arith)))
   where
-    number : Bool → ℕ
-    number f = f then 7 else 0
-
-    go : (f : Bool) → f ≡ false → number f ≡ 7 → ⊥
-    go true s q = subst T s tt
-    go false s q = omega arith
+    go : (c f : Bool) → f ≡ false → finishedNumber c f ≡ 7 → ⊥
+    go true f s q = omega arith
+    go false true s q = subst T s tt
+    go false false s q = omega arith
 
 -- A decoder of encoding e that takes feeds.
 record Ready (e m : ℕ) (d : Decoder) : Type 0 where
@@ -81,12 +85,14 @@ feed-accepts d t chunk room v n f c k r = rw (
   le-ltb (length room) (length chunk + d .held) r,
 )
 
-finish-accepts : (d : Decoder) (room : List ℕ) → valid d ≡ true → eqb (d .ended) 1 ≡ false → d .held ≤ length room → finishRefusal d room ≡ 0
+finish-accepts : (d : Decoder) (t : Tables) (room : List ℕ) → valid d ≡ true → eqb (d .ended) 1 ≡ false →
+    fits (family (d .encoding)) t ≡ true → d .held ≤ length room → finishRefusal d t room ≡ 0
 unfolding finishRefusal
-finish-accepts d room v n r = rw (v, n, le-ltb (length room) (d .held) r)
+finish-accepts d t room v n f r = rw (v, n, f, and-false (eqb (d .stage) 1), le-ltb (length room) (d .held) r)
 
 -- no report: the decoder takes more
-goes-on : (e m : ℕ) {taken handed chunk room : List ℕ} {t : Tables} {d : Decoder} {h : History} {n : ℕ} → Step e m taken handed d (feed chunk t room) h n → eqb n 11 ≡ false → eqb (d .ended) 1 ≡ false → eqb (h .decoder .ended) 1 ≡ false
+goes-on : (e m : ℕ) {taken handed chunk room : List ℕ} {t : Tables} {d : Decoder} {h : History} {n : ℕ} →
+    Step e m taken handed d (feed chunk t room) h n → eqb n 11 ≡ false → eqb (d .ended) 1 ≡ false → eqb (h .decoder .ended) 1 ≡ false
 goes-on e m (refused d c n p) q o = o
 goes-on e m (fed k l s xs chunk t room w z b) q o = refl
 goes-on e m (reported k l s xs chunk t room w z b) q o = absurd (subst T q tt)
@@ -99,14 +105,19 @@ takes e m (fed k l s xs chunk t room w z b) = omega arith
 takes e m (reported k l s xs chunk t room w z b) = omega arith
 
 module _ (t : Tables) (e m : ℕ) (a : e ≤ 39) (l : m ≤ 1) (f : fits (family e) t ≡ true) where
+  fitting : (d : Decoder) → Stands e m d → fits (family (d .encoding)) t ≡ true
+  fitting d st = ap (λ (e : ℕ). fits (family e) t) (encoding-is st) ∙ f
+
   roomy-from : (ps : List Piece) (last : List ℕ) (h : History) → Ready e m (h .decoder) →
       h .decoder .taken + length (joined ps) ≤ 4294967295 → Roomy ps last → Accepts t h ps last
   unfolding Accepts Roomy joined
-  roomy-from [] last h i u r = finish-accepts (h .decoder) last (i .valid) (i .on) (omega (arith, parts (h .decoder) (i .valid) .held, r))
+  roomy-from [] last h i u r =
+      let d = h .decoder in
+      finish-accepts d t last (i .valid) (i .on) (fitting d (i .stands)) (omega (arith, parts d (i .valid) .held, r))
   roomy-from (p ∷ ps) last h i u r =
       let d = h .decoder in
       let bound = simp length-append at u in
-      let z = feed-accepts d t (p .chunk) (p .room) (i .valid) (i .on) (ap (λ (e : ℕ). fits (family e) t) (encoding-is (i .stands)) ∙ f)
+      let z = feed-accepts d t (p .chunk) (p .room) (i .valid) (i .on) (fitting d (i .stands))
       (r .0) (omega (arith, bound)) (omega (arith, r .1, parts d (i .valid) .held)) in
       let x = stepped e m h (i .stands) (feed (p .chunk) t (p .room)) in (
         z,
@@ -125,7 +136,7 @@ roomy t e m rule o ps last f u r =
     let k = opened-is e m rule o in
     let v : valid (start e m rule .decoder) ≡ true = valid-opening e m rule in
     subst (λ (h : History). Accepts t h ps last) (sym k)
-    (roomy-from t e m (b .0) (b .1) f ps last (record { taken = []; handed = []; decoder = holding e m 0 0 (newShift e rule) [] })
+    (roomy-from t e m (b .0) (b .1) f ps last (record { taken = []; handed = []; decoder = holding e m 0 0 (newSpot e rule) [] })
     (record { stands = stands-new e m rule; valid = ap (λ (h : History). valid (h .decoder)) (sym k) ∙ v; on = refl }) (omega arith) r)
 
 -- what is written at the front of a room, and what stood behind it
@@ -143,13 +154,14 @@ room-left true b n h = absurd (subst T (sym h) tt)
 room-left false true n h = absurd (subst T (sym h) tt)
 room-left false false n h = h
 
-feed-enough : (d : Decoder) (t : Tables) (chunk room : List ℕ) → eqb (feedRefusal d t chunk room) 0 ≡ true → length chunk + d .held ≤ length room
+feed-enough : (d : Decoder) (t : Tables) (chunk room : List ℕ) → eqb (feedRefusal d t chunk room) 0 ≡ true →
+    length chunk + d .held ≤ length room
 unfolding feedRefusal
 feed-enough d t chunk room h =
     go (not (fits (family (d .encoding)) t)) (ltb 65536 (length chunk)) (ltb 4294967295 (d .taken + length chunk))
     (ltb (length room) (length chunk + d .held)) refl (room-left (not (valid d)) (eqb (d .ended) 1) _ h)
   where
-    go : (c e g f : Bool) → ltb (length room) (length chunk + d .held) ≡ f → eqb (number c e g f) 0 ≡ true →
+    go : (c e g f : Bool) → ltb (length room) (length chunk + d .held) ≡ f → eqb (fedNumber c e g f) 0 ≡ true →
         length chunk + d .held ≤ length room
     go true e g f s q = absurd (subst T (sym q) tt)
     go false true g f s q = absurd (subst T (sym q) tt)
@@ -157,16 +169,16 @@ feed-enough d t chunk room h =
     go false false false true s q = absurd (subst T (sym q) tt)
     go false false false false s q = ltb-false (length room) (length chunk + d .held) s
 
-finish-enough : (d : Decoder) (room : List ℕ) → eqb (finishRefusal d room) 0 ≡ true → d .held ≤ length room
+finish-enough : (d : Decoder) (t : Tables) (room : List ℕ) → eqb (finishRefusal d t room) 0 ≡ true → d .held ≤ length room
 unfolding finishRefusal
-finish-enough d room h = go (ltb (length room) (d .held)) refl (room-left (not (valid d)) (eqb (d .ended) 1) _ h)
+finish-enough d t room h =
+    go (eqb (d .stage) 1 && not (fits (family (d .encoding)) t)) (ltb (length room) (d .held)) refl
+    (room-left (not (valid d)) (eqb (d .ended) 1) _ h)
   where
-    number : Bool → ℕ
-    number f = f then 7 else 0
-
-    go : (f : Bool) → ltb (length room) (d .held) ≡ f → eqb (number f) 0 ≡ true → d .held ≤ length room
-    go true s q = absurd (subst T (sym q) tt)
-    go false s q = ltb-false (length room) (d .held) s
+    go : (c f : Bool) → ltb (length room) (d .held) ≡ f → eqb (finishedNumber c f) 0 ≡ true → d .held ≤ length room
+    go true f s q = absurd (subst T (sym q) tt)
+    go false true s q = absurd (subst T (sym q) tt)
+    go false false s q = ltb-false (length room) (d .held) s
 
 held-length : (d : Decoder) → length (heldOf d) ≤ d .held
 held-length d = simp length-take (omega arith)
@@ -174,17 +186,15 @@ held-length d = simp length-take (omega arith)
 feed-keeps : (d : Decoder) (t : Tables) (chunk room : List ℕ) → length (feeding d t chunk room .room) ≡ length room
 feed-keeps d t chunk room = feed-is (λ (o : Outcome). length (o .room) ≡ length room) d t chunk room fed-keeps (λ q. refl)
   where
-    f : Family
-    f = family (d .encoding)
-
-    r : Read
+    r : Parsed
     r = readOn d t chunk
 
     fed-keeps : feedRefusal d t chunk room ≡ 0 → length (fedOut d t chunk room .room) ≡ length room
     fed-keeps z =
-        let R = reading (keeps f) (next t f) (next-laws t f) (shiftOf d) (heldOf d ++ chunk) in
+        let R = parsing t (d .encoding) (spotOf d) (heldOf d ++ chunk) in
         let n = d .taken + length chunk in
-        handed-length (d .encoding) (d .mode) (d .taken - d .held) n (d .lines) (r .items) (λ l. holding (d .encoding) (d .mode) n l (r .shift) (r .rest)) room
+        handed-length (d .encoding) (d .mode) (d .taken - d .held) n (d .lines) (r .items)
+        (λ l. holding (d .encoding) (d .mode) n l (r .spot) (r .rest)) room
         (omega (
           arith,
           feed-enough d t chunk room (ap (λ (n : ℕ). eqb n 0) z),
@@ -194,13 +204,14 @@ feed-keeps d t chunk room = feed-is (λ (o : Outcome). length (o .room) ≡ leng
           held-length d,
         ))
 
-finish-keeps : (d : Decoder) (room : List ℕ) → length (finishing d room .room) ≡ length room
-finish-keeps d room = finish-is (λ (o : Outcome). length (o .room) ≡ length room) d room
-    (λ z. handed-length (d .encoding) (d .mode) (d .taken - d .held) (d .taken) (d .lines) (readEnd d) (closed (d .encoding) (d .mode) (d .taken)) room
+finish-keeps : (d : Decoder) (t : Tables) (room : List ℕ) → length (finishing d t room .room) ≡ length room
+finish-keeps d t room = finish-is (λ (o : Outcome). length (o .room) ≡ length room) d t room
+    (λ z. handed-length (d .encoding) (d .mode) (d .taken - d .held) (d .taken) (d .lines) (readEnd d t)
+    (closed (d .encoding) (d .mode) (d .taken)) room
     (omega (
       arith,
-      finish-enough d room (ap (λ (n : ℕ). eqb n 0) z),
-      ending-is noTables (family (d .encoding)) (shiftOf d) (heldOf d) .count,
+      finish-enough d t room (ap (λ (n : ℕ). eqb n 0) z),
+      end-count t (d .encoding) (spotOf d) (heldOf d),
       held-length d,
     ))) (λ q. refl)
 

@@ -1,16 +1,16 @@
--- What the sequences of each encoding leave behind: so the shifts that a decoder can come to stay possible, with the bytes in whole
+-- What the sequences of each encoding leave behind: so the spots that a decoder can come to stay possible, with the bytes in whole
 -- sequences and the line feeds handed out; and so do the totals of a decoder that ends. Assumes nothing.
 use mathlib.Core.Path.{_≡_, refl, sym, ap, subst, _∙_}
-use mathlib.Core.Bool.{Bool, true, false, _||_, or-true}
+use mathlib.Core.Bool.{Bool, true, false, or-true}
 use mathlib.Core.List.{List, [], _∷_}
-use Prim.Native.Nat.{ℕ, suc, _+_, _*_, _%_, _≤_}
+use Prim.Native.Nat.{ℕ, zero, suc, _+_, _-_, _*_, _%_, _≤_}
 use native.Mathlib.Nat.{add-mod, add-zero}
 use native.Mathlib.Omega.{arith}
 use lib.Dec.{T, leb, eqb, lit≤}
-use lib.ListN.{length}
-use borrow.Author.Tests.{le-leb, eq-eqb}
+use lib.ListN.{length, drop}
+use borrow.Author.Tests.{le-leb}
 use Rattle.standard.specs.Base.{_then_else_, lineFeeds}
-use Rattle.standard.specs.Encodings.{Tables, Family, UTF-8, single-byte, windows-1252, GB18030, Big5, EUC-JP, ISO-2022-JP, Shift-JIS, EUC-KR, Replacement, UTF-16BE, UTF-16LE, x-user-defined}
+use Rattle.standard.specs.Encodings.{Tables, Family, UTF-8, single-byte, windows-1252, GB18030, Big5, EUC-JP, ISO-2022-JP, Shift-JIS, EUC-KR, Replacement, UTF-16BE, UTF-16LE, x-user-defined, family, noTables}
 use Rattle.standard.specs.Sequence.{Shift, Out, text, error, Next, more, item, shift, plain}
 use Rattle.standard.specs.Sequences.Utf8.{utf8}
 use Rattle.standard.specs.Sequences.SingleByte.{singleByte}
@@ -23,15 +23,22 @@ use Rattle.standard.specs.Sequences.Replacement.{replacement}
 use Rattle.standard.specs.Sequences.Utf16.{utf16}
 use Rattle.standard.specs.Sequences.UserDefined.{userDefined}
 use Rattle.standard.specs.Next.{unmark, unmarked, next}
-use Rattle.standard.specs.Decode.{Item, span, decode, given, shown, broken, before, widths}
+use Rattle.standard.specs.Decode.{Item, span, decode, ending, everything, given, shown, broken, widths}
+use Rattle.standard.specs.Choice.{Choice, waiting, label, marked, choose, reader, markWidth, Spot, spot, Parsed, lift, eaten, chosen}
+use Rattle.standard.specs.Choice.{readFrom, endFrom}
 use Rattle.standard.proofs.FamilyLaws.{keeps, next-laws}
 use Rattle.standard.proofs.Walk.{at-item, walk}
-use Rattle.standard.proofs.Items.{shown-cons}
-use Rattle.standard.proofs.LineFeeds.{line-feeds-append, line-feeds-length, before-line-feeds}
+use Rattle.standard.proofs.Items.{shown-cons, shown-append}
+use Rattle.standard.proofs.Reading.{reading}
+use Rattle.standard.proofs.LineFeeds.{line-feeds-append, line-feeds-length, none-at-end}
+use Rattle.standard.proofs.Widths.{all-widths}
+use Rattle.standard.proofs.Stages.{at-mark, not-one, Rests, rest-more, read-on, read-choice}
 use Rattle.standard.proofs.Fronts.{Front, front-test, front-await, front-item}
-use Rattle.decoder.specs.Valid.{possible, endedTotals}
-use Rattle.demands.proofs.Shapes.{Shape, Unshifted, Marked, Paired, Replaced, Escaped, shapeOf, totalsAs, totals-as, InText, Comes, in-text, mark-ahead, behind-error, in-state, comes, to-possible}
-use Rattle.demands.proofs.ShiftsIso.{Leaves, iso-leaves, iso-step}
+use Rattle.decoder.specs.Valid.{endedTotals}
+use Rattle.demands.proofs.Shapes.{Shape, Unshifted, Marked, Paired, Replaced, Escaped, shapeOf, totalsAs, totals-as, InText, Marks}
+use Rattle.demands.proofs.Shapes.{Comes, in-text, mark-ahead, behind-error, in-state, plain-comes, unmarked-text}
+use Rattle.demands.proofs.Shapes.{by-stage, shapeAt, reader-marks, ComesAt, by-label, choosing, by-mark}
+use Rattle.demands.proofs.ShiftsIso.{Leaves, iso-leaves, iso-step, iso-replacing}
 
 -- What a sequence at shift s leaves behind. UTF-16 has an even width, and two bytes or more for a scalar.
 abbrev After : Shape → Shift → ℕ → Shift → Out → Type 0
@@ -55,18 +62,18 @@ fresh-less : (fresh : Bool) (o : Out) → length (given (fresh then unmark o els
 fresh-less true o = unmark-less o
 fresh-less false o = omega arith
 
-marked : (s : Shift) (fresh : Bool) (a : Next) → Front (After Marked s) a → Front (After Marked s) (unmarked fresh a)
-marked s fresh more h = record { holds = tt }
-marked s fresh (item w s′ o) h = record { holds = h .holds }
+after-mark : (s : Shift) (fresh : Bool) (a : Next) → Front (After Marked s) a → Front (After Marked s) (unmarked fresh a)
+after-mark s fresh more h = record { holds = tt }
+after-mark s fresh (item w s′ o) h = record { holds = h .holds }
 
-marked-pairs : (s : Shift) (fresh : Bool) (a : Next) → Front (After Paired s) a → Front (After Paired s) (unmarked fresh a)
-marked-pairs s fresh more h = record { holds = tt }
-marked-pairs s fresh (item w s′ o) h = record { holds = (h .holds .0, h .holds .1, omega (arith, h .holds .2, fresh-less fresh o)) }
+after-mark-pairs : (s : Shift) (fresh : Bool) (a : Next) → Front (After Paired s) a → Front (After Paired s) (unmarked fresh a)
+after-mark-pairs s fresh more h = record { holds = tt }
+after-mark-pairs s fresh (item w s′ o) h = record { holds = (h .holds .0, h .holds .1, omega (arith, h .holds .2, fresh-less fresh o)) }
 
 -- by a walk over each definition's text
 next-leaves : (t : Tables) (f : Family) (s : Shift) (xs : List ℕ) → Front (After (shapeOf f) s) (next t f s xs)
 unfolding next utf8 singleByte gb18030 big5 big5Pair eucJp shiftJis eucKr replacement utf16 userDefined
-next-leaves t UTF-8 s xs = marked s (s .flag) (utf8 xs) (search (front-await, front-test, front-item) depth 20)
+next-leaves t UTF-8 s xs = after-mark s (s .flag) (utf8 xs) (search (front-await, front-test, front-item) depth 20)
 next-leaves t single-byte s xs = search (front-await, front-test, front-item) depth 20
 next-leaves t windows-1252 s xs = search (front-await, front-test, front-item) depth 20
 next-leaves t GB18030 s xs = search (front-await, front-test, front-item) depth 20
@@ -76,8 +83,8 @@ next-leaves t ISO-2022-JP s xs = iso-leaves s t xs
 next-leaves t Shift-JIS s xs = search (front-await, front-test, front-item) depth 20
 next-leaves t EUC-KR s xs = search (front-await, front-test, front-item) depth 20
 next-leaves t Replacement s xs = front-await xs (λ b zs. front-item (refl, refl))
-next-leaves t UTF-16BE s xs = marked-pairs s (s .flag) (utf16 true xs) (search (front-await, front-test, front-item, lit≤) depth 20)
-next-leaves t UTF-16LE s xs = marked-pairs s (s .flag) (utf16 false xs) (search (front-await, front-test, front-item, lit≤) depth 20)
+next-leaves t UTF-16BE s xs = after-mark-pairs s (s .flag) (utf16 true xs) (search (front-await, front-test, front-item, lit≤) depth 20)
+next-leaves t UTF-16LE s xs = after-mark-pairs s (s .flag) (utf16 false xs) (search (front-await, front-test, front-item, lit≤) depth 20)
 next-leaves t x-user-defined s xs = search (front-await, front-test, front-item) depth 20
 
 -- with two of the laws that every encoding keeps
@@ -146,130 +153,159 @@ not-error w error is h = absurd (subst T h tt)
 feeds-cons : (w : ℕ) (o : Out) (is : List Item) → lineFeeds (shown (span w o ∷ is)) ≡ lineFeeds (given o) + lineFeeds (shown is)
 feeds-cons w o is = rw (shown-cons w o is) (line-feeds-append (given o) (shown is))
 
-pub decode-possible : (t : Tables) (f : Family) (m c l : ℕ) (s : Shift) (xs : List ℕ) → m ≤ 1 → T (possible f m s c l) →
-    let r = decode (next t f) s xs in
-    (m ≡ 1 → broken (r .items) ≡ false) → T (possible f m (r .shift) (c + widths (r .items)) (l + lineFeeds (shown (r .items))))
-unfolding widths shown lineFeeds
-decode-possible t f m c l s xs small p sound =
-    let r = decode (next t f) s xs in
-    to-possible f m (r .shift) (c + widths (r .items)) (l + lineFeeds (shown (r .items))) (walk (keeps f) (next t f) (next-laws t f)
-    (λ s xs r. (c l : ℕ) → Comes m (shapeOf f) s c l → (m ≡ 1 → broken (r .items) ≡ false) →
-    Comes m (shapeOf f) (r .shift) (c + widths (r .items)) (l + lineFeeds (shown (r .items))))
-    (λ s xs e c l k b. rw (add-zero c, add-zero l) k)
-    (λ s xs w s′ o r h ih c l k b.
-    let k′ = step m small w s′ o (shapeOf f) s c l k (taken t f s xs h) (λ z. not-error w o (r .items) (b z) .0) in
-    let q = ih (c + w) (l + lineFeeds (given o)) k′ (λ z. not-error w o (r .items) (b z) .1) in
-    let x : c + w + widths (r .items) ≡ c + (w + widths (r .items)) = omega arith in
-    let y : l + lineFeeds (given o) + lineFeeds (shown (r .items)) ≡ l + lineFeeds (shown (span w o ∷ r .items)) =
-    omega (arith, feeds-cons w o (r .items)) in
-    subst (λ (n : ℕ). Comes m (shapeOf f) (r .shift) (c + (w + widths (r .items))) n) y
-    (subst (λ (n : ℕ). Comes m (shapeOf f) (r .shift) n (l + lineFeeds (given o) + lineFeeds (shown (r .items)))) x q))
-    s xs c l (comes f m s c l p) sound)
+-- Sequence after sequence, a possible shift stays one.
+module _ (t : Tables) where
+  decode-comes : (f : Family) (m c l : ℕ) (s : Shift) (xs : List ℕ) → m ≤ 1 → Comes m (shapeOf f) s c l →
+      let r = decode (next t f) s xs in
+      (m ≡ 1 → broken (r .items) ≡ false) → Comes m (shapeOf f) (r .shift) (c + widths (r .items)) (l + lineFeeds (shown (r .items)))
+  unfolding widths shown lineFeeds
+  decode-comes f m c l s xs small come sound = walk (keeps f) (next t f) (next-laws t f)
+      (λ s xs r. (c l : ℕ) → Comes m (shapeOf f) s c l → (m ≡ 1 → broken (r .items) ≡ false) →
+      Comes m (shapeOf f) (r .shift) (c + widths (r .items)) (l + lineFeeds (shown (r .items))))
+      (λ s xs e c l k b. rw (add-zero c, add-zero l) k)
+      (λ s xs w s′ o r h ih c l k b.
+      let k′ = step m small w s′ o (shapeOf f) s c l k (taken t f s xs h) (λ z. not-error w o (r .items) (b z) .0) in
+      let q = ih (c + w) (l + lineFeeds (given o)) k′ (λ z. not-error w o (r .items) (b z) .1) in
+      let x : c + w + widths (r .items) ≡ c + (w + widths (r .items)) = omega arith in
+      let y : l + lineFeeds (given o) + lineFeeds (shown (r .items)) ≡ l + lineFeeds (shown (span w o ∷ r .items)) =
+      omega (arith, feeds-cons w o (r .items)) in
+      subst (λ (n : ℕ). Comes m (shapeOf f) (r .shift) (c + (w + widths (r .items))) n) y
+      (subst (λ (n : ℕ). Comes m (shapeOf f) (r .shift) n (l + lineFeeds (given o) + lineFeeds (shown (r .items)))) x q))
+      s xs c l come sound
 
--- A decoder that ends: k line feeds in w bytes. They are counted part by part.
-abbrev pub Feeds : Shape → ℕ → ℕ → Type 0
-Feeds Unshifted k w = k ≤ w
-Feeds Marked k w = k ≤ w
-Feeds Paired k w = 2 * k ≤ w
-Feeds Replaced k w = k ≡ 0
-Feeds Escaped k w = k ≤ w
+  -- where marks are dropped, no sequence leaves a shift
+  no-shift : (σ : Shape) {s : Shift} {w : ℕ} {s′ : Shift} {o : Out} → Marks σ → Taken σ s w s′ o → s′ ≡ plain
+  no-shift Unshifted k a = absurd k
+  no-shift Marked k a = a .after
+  no-shift Paired k a = a .after .0
+  no-shift Replaced k a = absurd k
+  no-shift Escaped k a = absurd k
 
-pub no-feeds : (σ : Shape) (w : ℕ) → Feeds σ 0 w
-no-feeds Unshifted w = omega arith
-no-feeds Marked w = omega arith
-no-feeds Paired w = omega arith
-no-feeds Replaced w = refl
-no-feeds Escaped w = omega arith
+  decode-plain : (f : Family) (xs : List ℕ) → Marks (shapeOf f) → decode (next t f) plain xs .shift ≡ plain
+  decode-plain f xs k = walk (keeps f) (next t f) (next-laws t f) (λ s xs r. s ≡ plain → r .shift ≡ plain)
+      (λ s xs e p. p) (λ s xs w s′ o r h ih p. ih (no-shift (shapeOf f) k (taken t f s xs h))) plain xs refl
 
-less-feeds : (σ : Shape) (k w k′ w′ : ℕ) → k′ ≤ k → w ≤ w′ → Feeds σ k w → Feeds σ k′ w′
-less-feeds Unshifted k w k′ w′ p q h = omega arith
-less-feeds Marked k w k′ w′ p q h = omega arith
-less-feeds Paired k w k′ w′ p q h = omega arith
-less-feeds Replaced k w k′ w′ p q h = omega arith
-less-feeds Escaped k w k′ w′ p q h = omega arith
+-- Reading keeps a spot possible.
+module _ (t : Tables) (e m : ℕ) (small : m ≤ 1) where
+  abbrev Onward : ℕ → ℕ → Parsed → Type 0
+  Onward c l r = (m ≡ 1 → broken (r .items) ≡ false) → ComesAt e m (r .spot) (c + widths (r .items)) (l + lineFeeds (shown (r .items)))
 
-add-feeds : (σ : Shape) (k w k′ w′ : ℕ) → Feeds σ k w → Feeds σ k′ w′ → Feeds σ (k + k′) (w + w′)
-add-feeds Unshifted k w k′ w′ p q = omega arith
-add-feeds Marked k w k′ w′ p q = omega arith
-add-feeds Paired k w k′ w′ p q = omega arith
-add-feeds Replaced k w k′ w′ p q = omega arith
-add-feeds Escaped k w k′ w′ p q = omega arith
+  -- behind a mark
+  text-comes : (g : ℕ) → 2 ≤ g → g ≤ 4 → (c l : ℕ) (xs : List ℕ) → markWidth g ≤ c → InText (shapeAt e g) (c - markWidth g) l →
+      Onward c l (lift g (decode (next t (family (reader e g))) plain xs))
+  text-comes g low high c l xs w h b =
+      let f = family (reader e g) in
+      let r = decode (next t f) plain xs in
+      let feeds = l + lineFeeds (shown (r .items)) in
+      let marks = reader-marks e g low high in
+      let z : r .shift ≡ plain = decode-plain t f xs marks in
+      let come = decode-comes t f m (c - markWidth g) l plain xs small (in-text h) b in
+      let inside = unmarked-text (shapeOf f) marks (ap (λ (s : Shift). s .flag) z) come .1 in
+      let count : c - markWidth g + widths (r .items) ≡ c + widths (r .items) - markWidth g = omega (arith, w) in
+      subst (λ (s : Shift). ComesAt e m (spot g s) (c + widths (r .items)) feeds) (sym z)
+      (by-mark low high (omega (arith, w)) (subst (λ (n : ℕ). InText (shapeAt e g) n feeds) count inside))
 
--- of a shift that a decoder can come to, of a sequence, and of what is read
-comes-feeds : (m : ℕ) (σ : Shape) (s : Shift) (c l : ℕ) → Comes m σ s c l → Feeds σ l c
-comes-feeds m Unshifted s c l (in-text h) = h
-comes-feeds m Marked s c l (in-text h) = h
-comes-feeds m Paired s c l (in-text h) = h .1
-comes-feeds m Replaced s c l (in-text h) = h .1
-comes-feeds m Escaped s c l (in-text h) = absurd h
-comes-feeds m σ s c l (mark-ahead k z n) = less-feeds σ 0 0 l c (omega arith) (omega arith) (no-feeds σ 0)
-comes-feeds m σ s c l (behind-error z h n) = n
-comes-feeds m σ s c l (in-state e) = omega (arith, e .cost)
+  -- a mark that is eaten
+  mark-comes : (w g : ℕ) (xs : List ℕ) → w ≡ markWidth g → 2 ≤ g → g ≤ 4 →
+      Onward 0 0 (eaten w (lift g (decode (next t (family (reader e g))) plain xs)))
+  unfolding widths shown broken
+  mark-comes w g xs q low high b =
+      let r = decode (next t (family (reader e g))) plain xs in
+      let none : 0 ≡ markWidth g - markWidth g = omega arith in
+      let σ = shapeAt e g in
+      let first : InText σ 0 0 = unmarked-text σ (reader-marks e g low high) refl (plain-comes m σ) .1 in
+      subst (λ (n : ℕ). ComesAt e m (spot g (r .shift)) n (0 + lineFeeds (shown (r .items)))) (omega (arith, q))
+      (text-comes g low high (markWidth g) 0 xs (omega arith) (subst (λ (n : ℕ). InText σ n 0) none first) b)
 
-taken-feeds : (σ : Shape) {s : Shift} {w : ℕ} {s′ : Shift} {o : Out} → Taken σ s w s′ o → Feeds σ (lineFeeds (given o)) w
-unfolding lineFeeds
-taken-feeds Unshifted {o = o} k = omega (arith, k .count, line-feeds-length (given o))
-taken-feeds Marked {o = o} k = omega (arith, k .count, line-feeds-length (given o))
-taken-feeds Paired {o = o} k = omega (arith, k .after .2, line-feeds-length (given o))
-taken-feeds Replaced {s = s} k = rw (k .after .1) (replaced-quiet (s .flag))
-taken-feeds Escaped {o = o} k = omega (arith, k .count, line-feeds-length (given o))
+  pub read-comes : (xs : List ℕ) {p : Spot} {c l : ℕ} → ComesAt e m p c l → Onward c l (readFrom t e p xs)
+  unfolding reader chosen widths shown lineFeeds
+  read-comes xs {c = c} {l = l} (by-label {s} come) = subst (Onward c l) (sym (read-on t e (spot 0 s) xs refl))
+      (λ b. by-label (decode-comes t (family e) m c l s xs small come b))
+  read-comes xs choosing = subst (Onward 0 0) (sym (read-choice t e (spot 1 plain) xs refl)) (go (choose xs) refl)
+    where
+      go : (c : Choice) → choose xs ≡ c → Onward 0 0 (chosen t e xs c)
+      go waiting q b = choosing
+      go label q b = by-label (decode-comes t (family e) m 0 0 plain xs small (plain-comes m (shapeOf (family e))) b)
+      go (marked w g) q b = let M = at-mark xs q in mark-comes w g (drop w xs) (M .width) (M .low) (M .high) b
+  read-comes xs {c = c} {l = l} (by-mark {g} low high w h) =
+      subst (Onward c l) (sym (read-on t e (spot g plain) xs (not-one g low))) (text-comes g low high c l xs w h)
 
-pub read-feeds : (t : Tables) (f : Family) (s : Shift) (xs : List ℕ) →
-    let is = decode (next t f) s xs .items in Feeds (shapeOf f) (lineFeeds (before is)) (widths is)
-unfolding shown widths lineFeeds
-read-feeds t f s xs =
-    let is = decode (next t f) s xs .items in
-    less-feeds (shapeOf f) (lineFeeds (shown is)) (widths is) (lineFeeds (before is)) (widths is) (before-line-feeds is) (omega arith)
-    (walk (keeps f) (next t f) (next-laws t f) (λ s xs r. Feeds (shapeOf f) (lineFeeds (shown (r .items))) (widths (r .items)))
-    (λ s xs e. no-feeds (shapeOf f) 0)
-    (λ s xs w s′ o r h ih. rw (feeds-cons w o (r .items))
-    (add-feeds (shapeOf f) (lineFeeds (given o)) w (lineFeeds (shown (r .items))) (widths (r .items))
-    (taken-feeds (shapeOf f) (taken t f s xs h)) ih))
-    s xs)
+-- What is possible in any mode is possible in replacing mode.
+replacing : (m : ℕ) {σ : Shape} {s : Shift} {c l : ℕ} → Comes m σ s c l → Comes 0 σ s c l
+replacing m (in-text h) = in-text h
+replacing m (mark-ahead k z n) = mark-ahead k z n
+replacing m (behind-error z h n) = behind-error refl h n
+replacing m (in-state e) = in-state (iso-replacing m e)
 
--- Replacement holds no bytes: in refusing mode it has taken no more than the chunk that ends it.
-abbrev pub Fits : Shape → ℕ → ℕ → Type 0
-Fits Unshifted c n = Unit
-Fits Marked c n = Unit
-Fits Paired c n = Unit
-Fits Replaced c n = n ≤ c + 65536
-Fits Escaped c n = Unit
+pub replacing-at : (e m : ℕ) {p : Spot} {c l : ℕ} → ComesAt e m p c l → ComesAt e 0 p c l
+replacing-at e m (by-label come) = by-label (replacing m come)
+replacing-at e m choosing = choosing
+replacing-at e m (by-mark low high w h) = by-mark low high w h
 
-pub chunk-fits : (t : Tables) (f : Family) (s : Shift) (held : List ℕ) (c n : ℕ) →
-    next t f s held ≡ more → n ≤ c + length held + 65536 → Fits (shapeOf f) c n
-unfolding next replacement
-chunk-fits t UTF-8 s held c n w h = tt
-chunk-fits t single-byte s held c n w h = tt
-chunk-fits t windows-1252 s held c n w h = tt
-chunk-fits t GB18030 s held c n w h = tt
-chunk-fits t Big5 s held c n w h = tt
-chunk-fits t EUC-JP s held c n w h = tt
-chunk-fits t ISO-2022-JP s held c n w h = tt
-chunk-fits t Shift-JIS s held c n w h = tt
-chunk-fits t EUC-KR s held c n w h = tt
-chunk-fits t Replacement s [] c n w h = omega arith
-chunk-fits t Replacement s (b ∷ held) c n w h = let z : _≡_ {A = ℕ} 0 1 = cc in absurd (omega arith)
-chunk-fits t UTF-16BE s held c n w h = tt
-chunk-fits t UTF-16LE s held c n w h = tt
-chunk-fits t x-user-defined s held c n w h = tt
+-- The totals of a decoder that ends: without a line feed, or with three bytes more than line feeds, they pass for every label.
+any-totals : (σ : Shape) (n l : ℕ) → (1 ≤ l → l + 3 ≤ n) → totalsAs σ n l ≡ true
+any-totals Unshifted n zero h = le-leb 0 n (omega arith)
+any-totals Marked n zero h = le-leb 0 n (omega arith)
+any-totals Paired n zero h = rw (le-leb 0 n (omega arith))
+any-totals Replaced n zero h = refl
+any-totals Escaped n zero h = le-leb 0 n (omega arith)
+any-totals Unshifted n (suc l) h = le-leb (suc l) n (omega (arith, h (omega arith)))
+any-totals Marked n (suc l) h = le-leb (suc l) n (omega (arith, h (omega arith)))
+any-totals Paired n (suc l) h = rw (le-leb (suc l + 3) n (h (omega arith))) (or-true (leb (2 * suc l) n))
+any-totals Replaced n (suc l) h = rw (le-leb (suc l + 3) n (h (omega arith))) (or-true (eqb (suc l) 0))
+any-totals Escaped n (suc l) h = le-leb (suc l) n (omega (arith, h (omega arith)))
 
-replaced-end : (m : ℕ) (s : Shift) (c l n : ℕ) → Comes m Replaced s c l → n ≤ c + 65536 → eqb m 0 || leb n 65536 ≡ true
-replaced-end m s c l n (in-text h) k = ap (_||_ (eqb m 0)) (le-leb n 65536 (omega (arith, h .0))) ∙ or-true (eqb m 0)
-replaced-end m s c l n (mark-ahead x z y) k = absurd x
-replaced-end m s c l n (behind-error z h y) k = rw (eq-eqb m 0 z)
+-- n bytes and k line feeds: no fewer bytes and no more line feeds than where the decoder came to
+module _ (n k : ℕ) where
+  none-totals : (σ : Shape) → k ≡ 0 → totalsAs σ n k ≡ true
+  none-totals σ z = any-totals σ n k (λ h. omega arith)
 
-ended-as : (σ : Shape) (m : ℕ) (s : Shift) (c l n k : ℕ) → Comes m σ s c l → Fits σ c n → Feeds σ k n → totalsAs σ m n k ≡ true
-ended-as Unshifted m s c l n k p h q = le-leb k n q
-ended-as Marked m s c l n k p h q = le-leb k n q
-ended-as Paired m s c l n k p h q = le-leb (2 * k) n q
-ended-as Replaced m s c l n k p h q = rw (eq-eqb k 0 q) (replaced-end m s c l n p h)
-ended-as Escaped m s c l n k p h q = le-leb k n q
+  comes-totals : (m : ℕ) (σ : Shape) {s : Shift} {c l : ℕ} → Comes m σ s c l → c ≤ n → k ≤ l → totalsAs σ n k ≡ true
+  comes-totals m Unshifted (in-text h) p q = le-leb k n (omega arith)
+  comes-totals m Marked (in-text h) p q = le-leb k n (omega arith)
+  comes-totals m Paired (in-text h) p q = rw (le-leb (2 * k) n (omega (arith, h .1)))
+  comes-totals m Replaced (in-text h) p q = none-totals Replaced (omega (arith, h .1))
+  comes-totals m Escaped (in-text h) p q = absurd h
+  comes-totals m σ (mark-ahead x y z) p q = none-totals σ (omega arith)
+  comes-totals m σ (behind-error x y z) p q = none-totals Replaced (omega arith)
+  comes-totals m σ (in-state e) p q = le-leb k n (omega (arith, e .cost))
 
--- the totals of a decoder that ends after n bytes, with k line feeds in w bytes more
-pub ended-totals : (f : Family) (m : ℕ) (s : Shift) (c l k w n : ℕ) →
-    T (possible f m s c l) → Feeds (shapeOf f) k w → c + w ≤ n → Fits (shapeOf f) c n → endedTotals f m n (l + k) ≡ true
-ended-totals f m s c l k w n p q h x =
-    let σ = shapeOf f in
-    let come = comes f m s c l p in
-    totals-as f m n (l + k) ∙ ended-as σ m s c l n (l + k) come x
-    (less-feeds σ (l + k) (c + w) (l + k) n (omega arith) h (add-feeds σ l c k w (comes-feeds m σ s c l come) q))
+-- text behind a mark: its own two or three bytes give no line feed
+mark-totals : (e g : ℕ) → 2 ≤ g → g ≤ 4 → (c l : ℕ) → markWidth g ≤ c → InText (shapeAt e g) (c - markWidth g) l → 1 ≤ l → l + 3 ≤ c
+unfolding reader family
+mark-totals e = by-stage (λ g. (c l : ℕ) → markWidth g ≤ c → InText (shapeAt e g) (c - markWidth g) l → 1 ≤ l → l + 3 ≤ c)
+    (λ c l w h k. omega arith) (λ c l w h k. omega (arith, h .1)) (λ c l w h k. omega (arith, h .1))
+
+pub ended-totals : (e m : ℕ) {p : Spot} {c l : ℕ} (n k : ℕ) → ComesAt e m p c l → c ≤ n → k ≤ l → endedTotals (family e) n k ≡ true
+ended-totals e m n k (by-label come) h q = totals-as (family e) n k ∙ comes-totals n k m (shapeOf (family e)) come h q
+ended-totals e m n k choosing h q = totals-as (family e) n k ∙ none-totals n k (shapeOf (family e)) (omega arith)
+ended-totals e m {c = c} {l = l} n k (by-mark {g} low high w i) h q = totals-as (family e) n k ∙
+    any-totals (shapeOf (family e)) n k (λ x. omega (arith, mark-totals e g low high c l w i (omega arith)))
+
+-- The end of input gives no line feed, unless the choice is still to come.
+pub quiet-end : (t : Tables) (e : ℕ) (p : Spot) (xs : List ℕ) → eqb (p .stage) 1 ≡ false → Rests e p xs →
+    lineFeeds (shown (endFrom t e p xs)) ≡ 0
+unfolding endFrom
+quiet-end t e p xs g r = rw g (none-at-end noTables (family (reader e (p .stage))) (p .shift) xs (rest-more e p xs g r))
+
+-- then the label's encoding reads the bytes held
+label-end : (t : Tables) (e n k : ℕ) (xs : List ℕ) → length xs ≤ n → k ≤ lineFeeds (shown (everything t (family e) plain xs)) →
+    endedTotals (family e) n k ≡ true
+unfolding everything
+label-end t e n k xs h q =
+    let f = family e in
+    let r = decode (next t f) plain xs in
+    let es = ending t f (r .shift) (r .rest) in
+    let come = decode-comes t f 0 0 0 plain xs (lit≤ tt) (plain-comes 0 (shapeOf f)) (λ z. absurd (omega arith)) in
+    let quiet = none-at-end t f (r .shift) (r .rest) (reading (keeps f) (next t f) (next-laws t f) plain xs .waits) in
+    let feeds = ap lineFeeds (shown-append (r .items) es) ∙ line-feeds-append (shown (r .items)) (shown es) in
+    totals-as f n k ∙ comes-totals n k 0 (shapeOf f) come (omega (arith, all-widths .so-far t f plain xs)) (omega (arith, feeds, quiet))
+
+pub end-totals : (t : Tables) (e m n k : ℕ) (xs : List ℕ) {p : Spot} {c l : ℕ} → ComesAt e m p c l → Rests e p xs → c + length xs ≤ n →
+    k ≤ l + lineFeeds (shown (endFrom t e p xs)) → endedTotals (family e) n k ≡ true
+unfolding endFrom
+end-totals t e m n k xs (by-label {s} come) r h q =
+    ended-totals e m n k (by-label come) (omega arith) (omega (arith, quiet-end t e (spot 0 s) xs refl r))
+end-totals t e m n k xs choosing r h q = label-end t e n k xs (omega arith) (omega arith)
+end-totals t e m n k xs (by-mark {g} low high w i) r h q =
+    ended-totals e m n k (by-mark low high w i) (omega arith) (omega (arith, quiet-end t e (spot g plain) xs (not-one g low) r))

@@ -120,3 +120,22 @@ module _ (m c l : ℕ) (small : m ≤ 1) where
   iso-step some count goes e (raises n h q) = record { low = h; cost = omega (arith, e .cost, q); least = omega arith }
   iso-step {s} {w = w} {o = o} some count goes e (lowers n q h) =
       lowered m c l small w o some count goes n (s .flag) (subst (λ (n : ℕ). Escaping m (shift n (s .flag)) c l) (sym q) e) h
+
+-- In replacing mode no shift costs more.
+no-dearer : (m : ℕ) (s : Shift) → isoCost 0 s ≤ isoCost m s
+unfolding isoCost
+no-dearer m s = go (s .flag) (eqb (s .state) 0) (eqb (s .state) 1) (eqb (s .state) 2) (eqb m 0)
+  where
+    cost : (a b c d x : Bool) → ℕ
+    cost a b c d x = a then 3 else b then 0 else c then 3 else d then 4 else x then 4 else 5
+
+    go : (a b c d x : Bool) → cost a b c d true ≤ cost a b c d x
+    go true b c d x = lit≤ tt
+    go false true c d x = lit≤ tt
+    go false false true d x = lit≤ tt
+    go false false false true x = lit≤ tt
+    go false false false false true = lit≤ tt
+    go false false false false false = lit≤ tt
+
+pub iso-replacing : (m : ℕ) {s : Shift} {c l : ℕ} → Escaping m s c l → Escaping 0 s c l
+iso-replacing m {s} e = record { low = e .low; cost = omega (arith, e .cost, no-dearer m s); least = e .least }

@@ -1,4 +1,4 @@
--- Ways to the shifts that the test behind refusal 5 lets pass: bytes that lead there from an opening, with so many line feeds.
+-- Ways to the spots that the test behind refusal 5 lets pass: bytes that lead there from an opening, with so many line feeds.
 -- Assumes nothing.
 use mathlib.Core.Path.{_≡_, refl, sym, ap, _∙_, subst}
 use mathlib.Core.Bool.{Bool, true, false, _&&_, _||_, and-false}
@@ -10,7 +10,7 @@ use lib.Dec.{T, eqb, lit≤}
 use lib.ListN.{length, length-append}
 use borrow.Author.Tests.{eqb-true}
 use Rattle.standard.specs.Base.{_then_else_, every, Bytes, lineFeeds}
-use Rattle.standard.specs.Encodings.{Family, UTF-8, single-byte, windows-1252, GB18030, Big5, EUC-JP, ISO-2022-JP, Shift-JIS, EUC-KR, Replacement, UTF-16BE, UTF-16LE, x-user-defined, traits, Tables, noTables}
+use Rattle.standard.specs.Encodings.{Family, UTF-8, single-byte, windows-1252, GB18030, Big5, EUC-JP, ISO-2022-JP, Shift-JIS, EUC-KR, Replacement, UTF-16BE, UTF-16LE, x-user-defined, family, traits, Tables, noTables}
 use Rattle.standard.specs.Sequence.{Shift, Out, text, error, more, shift, plain, cell}
 use Rattle.standard.specs.Layouts.{pointerOf, pairCode}
 use Rattle.standard.specs.Sequences.Utf8.{utf8}
@@ -26,22 +26,28 @@ use Rattle.standard.specs.Sequences.Utf16.{utf16, unit}
 use Rattle.standard.specs.Sequences.UserDefined.{userDefined}
 use Rattle.standard.specs.Next.{next}
 use Rattle.standard.specs.Decode.{Item, span, Read, reads, decode, shown, broken}
+use Rattle.standard.specs.Choice.{choose, reader, markWidth, Spot, spot, lift, eaten, chosen, readFrom}
+use Rattle.standard.proofs.Tests.{T-true}
 use Rattle.standard.proofs.Every.{bytes-append}
 use Rattle.standard.proofs.FamilyLaws.{keeps, next-laws}
 use Rattle.standard.proofs.Walk.{chunks, decode-more}
 use Rattle.standard.proofs.Items.{shown-append, broken-append}
 use Rattle.standard.proofs.Reading.{empty}
 use Rattle.standard.proofs.LineFeeds.{line-feeds-append}
+use Rattle.standard.proofs.Stages.{read-on}
+use Rattle.decoder.specs.Record.{newSpot}
 use Rattle.decoder.specs.Valid.{isoCost, isoLeast}
 use Rattle.demands.specs.Samples.{filled}
-use Rattle.demands.proofs.Shapes.{Shape, Unshifted, Marked, Paired, Replaced, Escaped, shapeOf, Escaping, Comes, in-text, mark-ahead, behind-error, in-state}
+use Rattle.demands.proofs.Steps.{kept-new, waiting-new}
+use Rattle.demands.proofs.Shapes.{Shape, Unshifted, Marked, Paired, Replaced, Escaped, shapeOf, marksAs, marks-as, InText, Escaping}
+use Rattle.demands.proofs.Shapes.{Comes, in-text, mark-ahead, behind-error, in-state, by-stage, ComesAt, by-label, choosing, by-mark}
 
 -- Tables to lend: every cell is U+3000; no ranges.
 abbrev pub lent : Family → Tables
 lent f = filled 0x3000 f
 
 -- what is read behind some items
-abbrev pub behind : List Item → Read → Read
+abbrev behind : List Item → Read → Read
 behind is r = record { items = is ++ r .items; shift = r .shift; rest = r .rest }
 
 -- Bytes that lead from one shift to another and leave nothing over: c bytes, with l line feeds, and no error in refusing mode.
@@ -60,7 +66,7 @@ no-error true false b p q = q
 no-error false a b p q = refl
 
 module _ {f : Family} {m : ℕ} where
-  pub stay : (s : Shift) → Way f m s 0 0 s
+  stay : (s : Shift) → Way f m s 0 0 s
   unfolding broken shown lineFeeds every
   stay s = record {
     bytes = [];
@@ -73,7 +79,7 @@ module _ {f : Family} {m : ℕ} where
   }
 
   -- by the chunk law bytes that follow are read from the shift that a way leads to
-  pub along : {s₀ s : Shift} {c l : ℕ} (p : Way f m s₀ c l s) (ys : List ℕ) →
+  along : {s₀ s : Shift} {c l : ℕ} (p : Way f m s₀ c l s) (ys : List ℕ) →
       decode (next (lent f) f) s₀ (p .bytes ++ ys) ≡ behind (p .items) (decode (next (lent f) f) s ys)
   along {s₀} p ys =
       let g = next (lent f) f in
@@ -93,7 +99,7 @@ module _ {f : Family} {m : ℕ} where
     are = bytes-append (p .bytes) (q .bytes) (p .are) (q .are);
   }
 
-  pub sized-way : {s s′ : Shift} {c l : ℕ} (c′ l′ : ℕ) → c ≡ c′ → l ≡ l′ → Way f m s c l s′ → Way f m s c′ l′ s′
+  sized-way : {s s′ : Shift} {c l : ℕ} (c′ l′ : ℕ) → c ≡ c′ → l ≡ l′ → Way f m s c l s′ → Way f m s c′ l′ s′
   sized-way c′ l′ p q w = record {
     bytes = w .bytes;
     items = w .items;
@@ -162,8 +168,8 @@ doubly f m one other c l e h = let d = div-add-mod' c 2 in sized-way c l (omega 
 -- What the ways to a shape are made of. UTF-16 may hold a byte.
 abbrev pub Ways : Shape → Family → ℕ → Type 0
 Ways Unshifted f m = Plainly f m
-Ways Marked f m = (traits f .mark ≡ true) × Plainly f m
-Ways Paired f m = (traits f .mark ≡ true) × Doubly f m × (next noTables f plain (0x41 ∷ []) ≡ more)
+Ways Marked f m = Plainly f m
+Ways Paired f m = Doubly f m × (next noTables f plain (0x41 ∷ []) ≡ more)
 Ways Replaced f m = f ≡ Replacement
 Ways Escaped f m = f ≡ ISO-2022-JP
 
@@ -180,8 +186,8 @@ le-doubly m = doubly UTF-16LE m
     (gives UTF-16LE m plain plain (0x41 ∷ 0x00 ∷ []) tt (0x41 ∷ []) refl)
 
 pub ways : (f : Family) (m : ℕ) → Ways (shapeOf f) f m
-unfolding decode reads next utf8 singleByte gb18030 big5 eucJp shiftJis eucKr utf16 userDefined traits
-ways UTF-8 m = (refl, plainly UTF-8 m refl refl)
+unfolding decode reads next utf8 singleByte gb18030 big5 eucJp shiftJis eucKr utf16 userDefined
+ways UTF-8 m = plainly UTF-8 m refl refl
 ways single-byte m = plainly single-byte m refl refl
 ways windows-1252 m = plainly windows-1252 m refl refl
 ways GB18030 m = plainly GB18030 m refl refl
@@ -191,8 +197,8 @@ ways ISO-2022-JP m = refl
 ways Shift-JIS m = plainly Shift-JIS m refl refl
 ways EUC-KR m = plainly EUC-KR m refl refl
 ways Replacement m = refl
-ways UTF-16BE m = (refl, be-doubly m, refl)
-ways UTF-16LE m = (refl, le-doubly m, refl)
+ways UTF-16BE m = (be-doubly m, refl)
+ways UTF-16LE m = (le-doubly m, refl)
 ways x-user-defined m = plainly x-user-defined m refl refl
 
 -- replacement: the error, and nothing after it
@@ -203,14 +209,14 @@ module _ (m : ℕ) (z : m ≡ 0) where
   silent (suc c) = sized-way (suc c) 0 (omega arith) refl
       (join (gives Replacement m (shift 0 true) (shift 0 true) (0x41 ∷ []) tt [] refl) (silent c))
 
-  pub replacement-way : (c : ℕ) → 1 ≤ c → Way Replacement m plain c 0 (shift 0 true)
+  replacement-way : (c : ℕ) → 1 ≤ c → Way Replacement m plain c 0 (shift 0 true)
   unfolding decode reads next replacement every
   replacement-way c h = sized-way c 0 (omega arith) refl
       (join (fails Replacement m plain (shift 0 true) (0x41 ∷ []) tt z refl) (silent (c - 1)))
 
 -- ISO-2022-JP: an escape, and what lowers the flag
 module _ (m : ℕ) where
-  pub iso-plainly : Plainly ISO-2022-JP m
+  iso-plainly : Plainly ISO-2022-JP m
   unfolding decode reads next iso2022Jp byteOut
   iso-plainly = plainly ISO-2022-JP m refl refl
 
@@ -269,33 +275,117 @@ module _ (m : ℕ) where
       go false y h = by-escape 3 2 0 (lit≤ tt) pair-letter c l (omega arith) (omega arith)
   iso-to (suc (suc (suc (suc n)))) false c l e = absurd (omega (arith, e .low))
 
--- A way from the first shift of a decoder: with the mark kept, by rule 1, or still to be dropped, by rule 0.
-pub record Opened (f : Family) (m c l : ℕ) (s : Shift) : Type 0 where
-  pub rule : ℕ
-  pub known : rule ≤ 1
-  pub way : Way f m (shift 0 (traits f .mark && eqb rule 0)) c l s
-
-pub kept : {f : Family} {m c l : ℕ} {s : Shift} → Way f m plain c l s → Opened f m c l s
-kept {f} {m} {c} {l} {s} w = record {
-  rule = 1;
-  known = lit≤ tt;
-  way = subst (λ (b : Bool). Way f m (shift 0 b) c l s) (sym (and-false (traits f .mark))) w;
-}
-
-dropping : {f : Family} {m c l : ℕ} → traits f .mark ≡ true → c ≡ 0 → l ≡ 0 → Opened f m c l (shift 0 true)
-dropping {f} {m} {c} {l} k z n = record { rule = 0; known = lit≤ tt; way = rw k (sized-way c l (sym z) (sym n) (stay (shift 0 true))) }
-
+-- A way to text, by the shape of the test.
 module _ (f : Family) (m : ℕ) where
-  pub way-to : (σ : Shape) {s : Shift} {c l : ℕ} → Ways σ f m → Comes m σ s c l → Opened f m c l s
-  way-to Unshifted {c = c} {l = l} k (in-text h) = kept (k c l h)
-  way-to Marked {c = c} {l = l} k (in-text h) = kept (k .1 c l h)
-  way-to Paired {c = c} {l = l} k (in-text h) = kept (k .1 c l (h .0) (h .1))
-  way-to Replaced {c = c} {l = l} k (in-text h) = kept (sized-way c l (sym (h .0)) (sym (h .1)) (stay plain))
-  way-to Escaped k (in-text h) = absurd h
-  way-to Unshifted k (mark-ahead x z n) = absurd x
-  way-to Marked k (mark-ahead x z n) = dropping (k .0) z n
-  way-to Paired k (mark-ahead x z n) = dropping (k .0) z n
-  way-to Replaced k (mark-ahead x z n) = absurd x
-  way-to Escaped k (mark-ahead x z n) = absurd x
-  way-to σ {c = c} {l = l} k (behind-error z h n) = kept (rw k (sized-way c l refl (sym n) (replacement-way m z c h)))
-  way-to σ {s = s} {c = c} {l = l} k (in-state e) = kept (rw k (iso-to m (s .state) (s .flag) c l e))
+  text-way : (σ : Shape) {c l : ℕ} → Ways σ f m → InText σ c l → Way f m plain c l plain
+  text-way Unshifted {c} {l} k h = k c l h
+  text-way Marked {c} {l} k h = k c l h
+  text-way Paired {c} {l} k h = k .0 c l (h .0) (h .1)
+  text-way Replaced {c} {l} k h = sized-way c l (sym (h .0)) (sym (h .1)) (stay plain)
+  text-way Escaped k h = absurd h
+
+-- Bytes that lead from an opening by some mark rule to a spot, and leave nothing over.
+pub record Opened (e m c l : ℕ) (p : Spot) : Type 0 where
+  pub rule : ℕ
+  pub known : rule ≤ 2
+  pub first : Spot
+  pub new : newSpot e rule ≡ first
+  pub bytes : List ℕ
+  pub items : List Item
+  pub leads : readFrom (lent (family e)) e first bytes ≡ record { items = items; spot = p; rest = [] }
+  pub sound : eqb m 1 && broken items ≡ false
+  pub long : length bytes ≡ c
+  pub feeds : lineFeeds (shown items) ≡ l
+  pub are : Bytes bytes
+
+-- The mark of a stage, and what follows it. UTF-8 and UTF-16 look into no table.
+abbrev markBytes : ℕ → List ℕ
+markBytes g = eqb g 2 then 0xEF ∷ 0xBB ∷ 0xBF ∷ [] else eqb g 3 then 0xFE ∷ 0xFF ∷ [] else 0xFF ∷ 0xFE ∷ []
+
+mark-bytes : (g : ℕ) → 2 ≤ g → g ≤ 4 → (length (markBytes g) ≡ markWidth g) × Bytes (markBytes g)
+unfolding every
+mark-bytes = by-stage (λ g. (length (markBytes g) ≡ markWidth g) × Bytes (markBytes g)) (refl, tt) (refl, tt) (refl, tt)
+
+mark-read : (t t′ : Tables) (e g : ℕ) → 2 ≤ g → g ≤ 4 → (ys : List ℕ) → readFrom t e (spot 1 plain) (markBytes g ++ ys) ≡
+    eaten (markWidth g) (lift g (decode (next t′ (family (reader e g))) plain ys))
+unfolding readFrom chosen choose reader family next
+mark-read t t′ e = by-stage (λ g. (ys : List ℕ) → readFrom t e (spot 1 plain) (markBytes g ++ ys) ≡
+    eaten (markWidth g) (lift g (decode (next t′ (family (reader e g))) plain ys))) (λ ys. refl) (λ ys. refl) (λ ys. refl)
+
+module _ (e m : ℕ) where
+  -- the label's encoding reads: with the mark kept, by rule 1, or still to be dropped, by rule 0
+  by-rule : (rule : ℕ) → rule ≤ 2 → {c l : ℕ} {s₀ s : Shift} → newSpot e rule ≡ spot 0 s₀ → Way (family e) m s₀ c l s →
+      Opened e m c l (spot 0 s)
+  unfolding reader
+  by-rule rule known {s₀ = s₀} new w = record {
+    rule = rule;
+    known = known;
+    first = spot 0 s₀;
+    new = new;
+    bytes = w .bytes;
+    items = w .items;
+    leads = read-on (lent (family e)) e (spot 0 s₀) (w .bytes) refl ∙ ap (lift 0) (w .leads);
+    sound = w .sound;
+    long = w .long;
+    feeds = w .feeds;
+    are = w .are;
+  }
+
+  kept : {c l : ℕ} {s : Shift} → Way (family e) m plain c l s → Opened e m c l (spot 0 s)
+  kept = by-rule 1 (lit≤ tt) (kept-new e)
+
+  dropping : {c l : ℕ} → traits (family e) .mark ≡ true → c ≡ 0 → l ≡ 0 → Opened e m c l (spot 0 (shift 0 true))
+  dropping {c} {l} k z n = by-rule 0 (lit≤ tt) (ap (λ (b : Bool). spot 0 (shift 0 (b && true))) k)
+      (sized-way c l (sym z) (sym n) (stay (shift 0 true)))
+
+  -- nothing was read, by rule 2
+  waited : Opened e m 0 0 (spot 1 plain)
+  unfolding readFrom chosen choose broken shown lineFeeds every
+  waited = record {
+    rule = 2;
+    known = lit≤ tt;
+    first = spot 1 plain;
+    new = waiting-new e 2 refl;
+    bytes = [];
+    items = [];
+    leads = refl;
+    sound = and-false (eqb m 1);
+    long = refl;
+    feeds = refl;
+    are = tt;
+  }
+
+  -- a mark chose, by rule 2
+  behind-mark : (g : ℕ) → 2 ≤ g → g ≤ 4 → {c l : ℕ} → markWidth g ≤ c → Way (family (reader e g)) m plain (c - markWidth g) l plain →
+      Opened e m c l (spot g plain)
+  unfolding broken shown
+  behind-mark g low high w way =
+      let t = lent (family e) in
+      let t′ = lent (family (reader e g)) in
+      let k = mark-bytes g low high in
+      record {
+        rule = 2;
+        known = lit≤ tt;
+        first = spot 1 plain;
+        new = waiting-new e 2 refl;
+        bytes = markBytes g ++ way .bytes;
+        items = span (markWidth g) (text []) ∷ way .items;
+        leads = mark-read t t′ e g low high (way .bytes) ∙ ap (λ (r : Read). eaten (markWidth g) (lift g r)) (way .leads);
+        sound = way .sound;
+        long = length-append (markBytes g) (way .bytes) ∙ omega (arith, k .0, way .long, w);
+        feeds = way .feeds;
+        are = bytes-append (markBytes g) (way .bytes) (k .1) (way .are);
+      }
+
+  label-way : (σ : Shape) {s : Shift} {c l : ℕ} → traits (family e) .mark ≡ marksAs σ → Ways σ (family e) m → Comes m σ s c l →
+      Opened e m c l (spot 0 s)
+  label-way σ q k (in-text h) = kept (text-way (family e) m σ k h)
+  label-way σ q k (mark-ahead x z n) = dropping (q ∙ T-true (marksAs σ) x) z n
+  label-way σ {c = c} {l = l} q k (behind-error z h n) = kept (rw k (sized-way c l refl (sym n) (replacement-way m z c h)))
+  label-way σ {s = s} {c = c} {l = l} q k (in-state x) = kept (rw k (iso-to m (s .state) (s .flag) c l x))
+
+  pub way-to : {p : Spot} {c l : ℕ} → ComesAt e m p c l → Opened e m c l p
+  way-to (by-label come) = label-way (shapeOf (family e)) (marks-as (family e)) (ways (family e) m) come
+  way-to choosing = waited
+  way-to (by-mark {g} low high w h) =
+      let f = family (reader e g) in behind-mark g low high w (text-way f m (shapeOf f) (ways f m) h)

@@ -9,7 +9,7 @@ use Rattle.standard.specs.Base.{Bytes, lineFeeds}
 use Rattle.standard.specs.Encodings.{family, Tables}
 use Rattle.standard.specs.Machine.{replacement, Ran}
 use Rattle.standard.specs.Standard.{standard, SoFar, standardSoFar}
-use Rattle.decoder.specs.Record.{holding, newShift}
+use Rattle.decoder.specs.Record.{holding, newSpot}
 use Rattle.demands.specs.Histories.{Call, feed, after, start}
 use Rattle.demands.specs.Statements.{Piece, joined, cutting, account, Accepts, AllFeeds}
 use Rattle.demands.specs.Samples.{gives}
@@ -38,7 +38,7 @@ pub record Fields (t : Tables) (e : ℕ) (xs : List ℕ) (b : ℕ) (ys : List �
       handedBy t e ps last ≡ after (start e 0 1) cs .handed ++ handedBy t e qs last′
   -- the decoder after the part is a new one but for its totals
   pub as-new : (cs : List Call) → AllFeeds t cs → after (start e 0 1) cs .taken ≡ xs ++ b ∷ [] →
-      after (start e 0 1) cs .decoder ≡ holding e 0 (length xs + 1) (lineFeeds (after (start e 0 1) cs .handed)) (newShift e 1) []
+      after (start e 0 1) cs .decoder ≡ holding e 0 (length xs + 1) (lineFeeds (after (start e 0 1) cs .handed)) (newSpot e 1) []
   -- the same of 000's machine
   pub by-standard : Bytes (xs ++ b ∷ ys) →
       outputOf (standard t (family e) replacement (xs ++ b ∷ ys)) ≡

@@ -12,7 +12,7 @@ use Rattle.decoder.specs.declared.Decoder.{Decoder}
 -- A call, with what it is lent.
 pub data Call : Type 0 where
   feed : (chunk : List ℕ) → (tables : Tables) → (room : List ℕ) → Call
-  finish : (room : List ℕ) → Call
+  finish : (tables : Tables) → (room : List ℕ) → Call
 
 pub record History : Type 0 where
   pub taken : List ℕ
@@ -33,11 +33,11 @@ noted h chunk o = record {
 
 abbrev pub outcome : History → Call → Outcome
 outcome h (feed chunk t room) = feeding (h .decoder) t chunk room
-outcome h (finish room) = finishing (h .decoder) room
+outcome h (finish t room) = finishing (h .decoder) t room
 
 abbrev pub chunkOf : Call → List ℕ
 chunkOf (feed chunk t room) = chunk
-chunkOf (finish room) = []
+chunkOf (finish t room) = []
 
 -- the history after a call, and after a list of calls
 abbrev pub afterOne : History → Call → History
@@ -61,7 +61,7 @@ start e m rule = record { taken = []; handed = []; decoder = opening e m rule .d
 -- Does a call end the decoder: an accepted finish, or a report 11?
 abbrev pub ends : Call → ℕ → Bool
 ends (feed chunk t room) refusal = eqb refusal 11
-ends (finish room) refusal = accepted refusal
+ends (finish t room) refusal = accepted refusal
 
 unfoldable pub anyEnds : History → List Call → Bool
 anyEnds h [] = false
@@ -71,11 +71,12 @@ anyEnds h (c ∷ cs) = ends c (outcome h c .answer .refusal) || anyEnds (afterOn
 abbrev pub hasEnded : ℕ → ℕ → ℕ → List Call → Bool
 hasEnded e m rule cs = not (eqb (openRefusal e m rule) 0) || anyEnds (start e m rule) cs
 
--- Some opening, accepted feeds (any tables) and finish leave exactly this record.
+-- Some opening, accepted feeds and finish (any tables) leave exactly this record.
 pub data Reachable : Decoder → Type 0 where
   opened : (e m rule : ℕ) → Reachable (opening e m rule .decoder)
   fed : {d : Decoder} → Reachable d → (t : Tables) (chunk room : List ℕ) →
       Bytes chunk → T (below (2 ^ 32) (t .first)) → T (below (2 ^ 32) (t .second)) →
       T (accepted (feeding d t chunk room .answer .refusal)) → Reachable (feeding d t chunk room .answer .decoder)
-  finished : {d : Decoder} → Reachable d → (room : List ℕ) →
-      T (accepted (finishing d room .answer .refusal)) → Reachable (finishing d room .answer .decoder)
+  finished : {d : Decoder} → Reachable d → (t : Tables) (room : List ℕ) →
+      T (below (2 ^ 32) (t .first)) → T (below (2 ^ 32) (t .second)) →
+      T (accepted (finishing d t room .answer .refusal)) → Reachable (finishing d t room .answer .decoder)

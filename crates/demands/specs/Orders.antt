@@ -5,8 +5,9 @@ use Prim.Native.Nat.{ℕ}
 use lib.ListN.{length, replicate}
 use Rattle.standard.specs.Encodings.{noTables}
 use Rattle.standard.specs.Sequence.{plain}
+use Rattle.standard.specs.Choice.{spot}
 use Rattle.decoder.specs.Record.{holding, new, closed}
-use Rattle.decoder.specs.Calls.{refuse, opening, feedRefusal, feeding, finishing}
+use Rattle.decoder.specs.Calls.{refuse, opening, feedRefusal, feeding, finishRefusal, finishing}
 use Rattle.decoder.specs.declared.Decoder.{Decoder}
 use Rattle.decoder.specs.declared.Answer.{Answer}
 
@@ -17,6 +18,7 @@ unmade e n ended held = record {
   lines = 0;
   encoding = e;
   mode = 2;
+  stage = 0;
   state = 0;
   flag = 0;
   held = held;
@@ -28,22 +30,26 @@ unmade e n ended held = record {
 
 -- A record of encoding e that has taken n bytes, and the most that a decoder takes.
 abbrev pub filled : ℕ → ℕ → Decoder
-filled e n = holding e 0 n 0 plain []
+filled e n = holding e 0 n 0 (spot 0 plain) []
 
 abbrev pub most : ℕ
 most = 4294967295
+
+-- A record of encoding 1 in which the byte EF waits for the choice.
+abbrev pub waits : Decoder
+waits = holding 1 0 1 0 (spot 1 plain) (0xEF ∷ [])
 
 -- Opening is refused with n, and answers a record that has ended.
 abbrev pub OpenRefused : ℕ → ℕ → ℕ → ℕ → Type 0
 OpenRefused e m rule n = _≡_ {A = Answer} (opening e m rule)
     (record { written = 0; place = 0; line = 0; refusal = n; decoder = closed 0 0 0 0 })
 
--- A feed without tables, and a finish, are refused with n and leave everything as it was. Encoding 1 wants a table; encoding 0 wants none.
+-- A feed and a finish, both without tables, are refused with n and leave everything as it was. Encoding 1 wants a table; encoding 0 wants none.
 abbrev pub FeedRefused : Decoder → List ℕ → List ℕ → ℕ → Type 0
 FeedRefused d chunk room n = feeding d noTables chunk room ≡ refuse n d room
 
 abbrev pub FinishRefused : Decoder → List ℕ → ℕ → Type 0
-FinishRefused d room n = finishing d room ≡ refuse n d room
+FinishRefused d room n = finishing d noTables room ≡ refuse n d room
 
 -- chunks of one byte, of 65,536 and of one more; rooms for them; no room
 abbrev pub one : List ℕ
@@ -59,9 +65,9 @@ pub record Orders : Type 0 where
   -- opening: 2, 3
   pub open-2 : OpenRefused 40 0 0 2
   pub open-2-mode-3 : OpenRefused 40 2 0 2
-  pub open-2-rule-3 : OpenRefused 40 0 2 2
+  pub open-2-rule-3 : OpenRefused 40 0 3 2
   pub open-mode-3 : OpenRefused 39 2 0 3
-  pub open-rule-3 : OpenRefused 39 0 2 3
+  pub open-rule-3 : OpenRefused 39 0 3 3
   -- feed: 5, 6, 4, 8, 14, 7
   pub feed-5-6 : FeedRefused (unmade 0 0 1 0) one one 5
   pub feed-5-4 : FeedRefused (unmade 1 0 0 0) one one 5
@@ -83,8 +89,14 @@ pub record Orders : Type 0 where
   pub feed-8-7 : FeedRefused (new 0 0 0) tooLong [] 8
   pub feed-8 : FeedRefused (new 0 0 0) tooLong tooLong 8
   pub feed-7 : FeedRefused (new 0 0 0) longest [] 7
-  -- finish: 5, 6, 7. A record that has ended holds nothing, so with 6 there is no 7.
+  -- finish: 5, 6, 4, 7. A record that has ended holds nothing and does not wait, so with 6 there is neither 4 nor 7.
   pub finish-5-6 : FinishRefused (unmade 0 0 1 0) [] 5
   pub finish-5-7 : FinishRefused (unmade 0 1 0 1) [] 5
   pub finish-6 : FinishRefused (closed 0 0 0 0) [] 6
+  -- 4 while the choice is to come, with bytes that wait and without; at no other stage
+  pub finish-5-4 : FinishRefused (unmade 1 0 0 0) [] 5
+  pub finish-4-7 : FinishRefused waits [] 4
+  pub finish-4 : FinishRefused (new 1 0 2) [] 4
+  pub finish-chosen : finishRefusal (holding 1 0 3 0 (spot 2 plain) []) noTables [] ≡ 0
+  pub finish-label : finishRefusal (new 1 0 1) noTables [] ≡ 0
   pub finish-7 : FinishRefused (feeding (new 0 0 0) noTables (0xC3 ∷ []) one .answer .decoder) [] 7

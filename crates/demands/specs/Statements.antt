@@ -10,6 +10,7 @@ use Rattle.standard.specs.Base.{_then_else_, Bytes, separators, lineFeeds, scal
 use Rattle.standard.specs.Encodings.{family, traits, Tables, fits}
 use Rattle.standard.specs.Machine.{replacement, fatal, Ran}
 use Rattle.standard.specs.Standard.{standard, isError, dropMark, standardPlace, SoFar, standardSoFar}
+use Rattle.standard.specs.Sniffing.{Mark, mark, marks, sniff, waits}
 use Rattle.decoder.specs.Record.{heldOf, bit, closed}
 use Rattle.decoder.specs.Valid.{valid}
 use Rattle.decoder.specs.Calls.{feedRefusal, feeding, finishRefusal, finishing}
@@ -27,7 +28,7 @@ joined [] = []
 joined (p ∷ ps) = p .chunk ++ joined ps
 
 unfoldable pub cutting : Tables → List Piece → List ℕ → List Call
-cutting t [] last = finish last ∷ []
+cutting t [] last = finish t last ∷ []
 cutting t (p ∷ ps) last = feed (p .chunk) t (p .room) ∷ cutting t ps last
 
 -- The reports 11 of a list of calls: for each, how many characters were handed out before the error, its place and its line.
@@ -54,6 +55,7 @@ untaken d = record {
   lines = d .lines;
   encoding = d .encoding;
   mode = d .mode;
+  stage = d .stage;
   state = d .state;
   flag = d .flag;
   held = d .held;
@@ -73,7 +75,7 @@ account h cs = record { handed = after h cs .handed; reports = reports h cs; dec
 
 -- Every call is accepted, up to the report 11 if there is one.
 unfoldable pub Accepts : Tables → History → List Piece → List ℕ → Type 0
-Accepts t h [] last = finishRefusal (h .decoder) last ≡ 0
+Accepts t h [] last = finishRefusal (h .decoder) t last ≡ 0
 Accepts t h (p ∷ ps) last =
     let o = feeding (h .decoder) t (p .chunk) (p .room) in
     (feedRefusal (h .decoder) t (p .chunk) (p .room) ≡ 0) × (eqb (o .answer .refusal) 11 ≡ false → Accepts t (noted h (p .chunk) o) ps last)
@@ -87,7 +89,11 @@ Roomy (p ∷ ps) last = (length (p .chunk) ≤ 65536) × (length (p .chunk) + 3 
 unfoldable pub AllFeeds : Tables → List Call → Type 0
 AllFeeds t [] = Unit
 AllFeeds t (feed chunk t′ room ∷ cs) = (t′ ≡ t) × AllFeeds t cs
-AllFeeds t (finish room ∷ cs) = ⊥
+AllFeeds t (finish t′ room ∷ cs) = ⊥
+
+-- The encoding that reads, and the bytes of the mark before what it reads: by rule 2 as 000's "decode" has them, else the label's and none.
+abbrev pub markBy : ℕ → ℕ → List ℕ → Mark
+markBy e rule xs = eqb rule 2 then sniff marks e xs else mark [] e
 
 -- The account of a whole input by 000's `run` alone: mode 1 is "fatal"; the mark dropped by the rule; a report where `run` returned error,
 -- behind the longest front that it reads without one, in the line that its output has come to.
@@ -103,12 +109,22 @@ accountOf e m mark place (some r) =
 
 unfoldable pub standardAccount : Tables → ℕ → ℕ → ℕ → List ℕ → Option Account
 standardAccount t e m rule xs =
-    accountOf e m (drops e rule) (standardPlace t (family e) xs) (standard t (family e) (eqb m 1 then fatal else replacement) xs)
+    let k = markBy e rule xs in
+    let f = family (k .encoding) in
+    let w = length (k .bytes) in
+    accountOf e m (drops e rule) (w + standardPlace t f (drop w xs)) (standard t f (eqb m 1 then fatal else replacement) (drop w xs))
 
 -- the same before the end of the input, and the bytes held alone
 abbrev pub unmarked : Bool → Option SoFar → Option SoFar
 unmarked mark none = none
 unmarked mark (some x) = some (record { output = mark then dropMark (x .output) else x .output; held = x .held })
+
+-- by rule 2 nothing is put out and all is held while a mark is still possible
+abbrev pub standardBefore : Tables → ℕ → ℕ → List ℕ → Option SoFar
+standardBefore t e rule xs =
+    let k = markBy e rule xs in
+    eqb rule 2 && waits marks xs then some (record { output = []; held = xs }) else
+    standardSoFar t (family (k .encoding)) (drop (length (k .bytes)) xs)
 
 abbrev pub heldIn : Option SoFar → Option (List ℕ)
 heldIn none = none
@@ -143,7 +159,7 @@ pub record Demand2 (t : Tables) (e m rule : ℕ) : Type 0 where
   -- before the finish, too, refused feeds among them
   pub so-far : (cs : List Call) → AllFeeds t cs →
       let h = after (start e m rule) cs in Bytes (h .taken) → h .decoder .ended ≡ 0 →
-      some (soFar h) ≡ unmarked (drops e rule) (standardSoFar t (family e) (h .taken))
+      some (soFar h) ≡ unmarked (drops e rule) (standardBefore t e rule (h .taken))
 
 -- Refused calls change nothing: left out of any list of calls, on any record, the history and the account are the same.
 pub record RefusedNothing (h : History) (cs : List Call) : Type 0 where
@@ -153,18 +169,20 @@ pub record RefusedNothing (h : History) (cs : List Call) : Type 0 where
 -- Demand 3, for every opening, refused or not, and every list of calls, refused or not, of any tables, chunks and rooms,
 -- that leads to the history h.
 pub record Demand3 (e m rule : ℕ) (calls : List Call) (h : History) : Type 0 where
-  pub separators-kept : m ≡ 0 → T (traits (family e) .separators) → separators (h .handed) ≡ separators (h .taken)
+  -- in replacing mode, where the encoding that reads keeps them
+  pub separators-kept : m ≡ 0 → T (traits (family (markBy e rule (h .taken) .encoding)) .separators) →
+      separators (h .handed) ≡ separators (h .taken)
   pub counted : length (h .handed) + length (heldOf (h .decoder)) ≤ length (h .taken)
   pub three : length (heldOf (h .decoder)) ≤ 3
   pub number : h .decoder .held ≡ length (heldOf (h .decoder))
   -- the bytes held are the last of those taken, and those that 000's variables hold, whatever tables t it has
   pub last : heldOf (h .decoder) ≡ drop (length (h .taken) - length (heldOf (h .decoder))) (h .taken)
   pub unfinished : (t : Tables) → Bytes (h .taken) → hasEnded e m rule calls ≡ false →
-      some (heldOf (h .decoder)) ≡ heldIn (standardSoFar t (family e) (h .taken))
+      some (heldOf (h .decoder)) ≡ heldIn (standardBefore t e rule (h .taken))
   pub none-after-end : hasEnded e m rule calls ≡ true → heldOf (h .decoder) ≡ []
   pub ended : h .decoder .ended ≡ bit (hasEnded e m rule calls)
   pub feed-room : (t : Tables) (chunk room : List ℕ) → length chunk + 3 ≤ length room → feedRefusal (h .decoder) t chunk room ≡ 7 → ⊥
-  pub finish-room : (room : List ℕ) → 3 ≤ length room → finishRefusal (h .decoder) room ≡ 7 → ⊥
+  pub finish-room : (t : Tables) (room : List ℕ) → 3 ≤ length room → finishRefusal (h .decoder) t room ≡ 7 → ⊥
   -- both totals are counts over the whole history
   pub taken-total : h .decoder .taken ≡ length (h .taken)
   pub lines-total : h .decoder .lines ≡ lineFeeds (h .handed)
@@ -173,7 +191,7 @@ pub record Demand3 (e m rule : ℕ) (calls : List Call) (h : History) : Type 0 w
 -- No call writes past the room: whatever the record and what is lent, the room keeps its length.
 pub record RoomKept (d : Decoder) : Type 0 where
   pub fed : (t : Tables) (chunk room : List ℕ) → length (feeding d t chunk room .room) ≡ length room
-  pub finished : (room : List ℕ) → length (finishing d room .room) ≡ length room
+  pub finished : (t : Tables) (room : List ℕ) → length (finishing d t room .room) ≡ length room
 
 -- Refusal 5 is given exactly when no calls leave the record. (A record's fields are bytes, and the bytes taken a number of 32 bits.)
 pub record Refusal5 (d : Decoder) : Type 0 where

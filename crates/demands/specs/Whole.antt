@@ -5,9 +5,10 @@ use Prim.Native.Nat.{ℕ, _+_}
 use lib.Dec.{eqb}
 use lib.ListN.{length}
 use Rattle.standard.specs.Base.{_then_else_, lineFeeds}
-use Rattle.standard.specs.Encodings.{family, Tables}
-use Rattle.standard.specs.Decode.{Item, shown, broken, before, reach, everything}
-use Rattle.decoder.specs.Record.{closed, newShift}
+use Rattle.standard.specs.Encodings.{Tables}
+use Rattle.standard.specs.Items.{Item, shown, broken, before, reach}
+use Rattle.standard.specs.Choice.{everythingFrom}
+use Rattle.decoder.specs.Record.{closed, newSpot}
 use Rattle.demands.specs.Statements.{Report, Account}
 
 -- An account that an error stops at a place, and one that is complete, with `out` handed out.
@@ -26,4 +27,4 @@ dealt e m n is out =
     completed e m (out ++ shown is)
 
 unfoldable pub wholeAccount : Tables → ℕ → ℕ → ℕ → List ℕ → Account
-wholeAccount t e m rule xs = dealt e m 0 (everything t (family e) (newShift e rule) xs) []
+wholeAccount t e m rule xs = dealt e m 0 (everythingFrom t e (newSpot e rule) xs) []

@@ -1,5 +1,5 @@
 // The public calls by their C names: include/hamvukile.h is their manual. Each answers what the call of its own crate answers.
-// A slice is a pointer and a length. Trimming, whose result is a part of the caller's bytes, reaches C as start and length of the label call.
+// A slice is a pointer and a length. Trimming, whose result is part of the caller's bytes, reaches C as start and length of the label call.
 ghost use mathlib.Core.Path.{_≡_};
 ghost use Rattle.standard.specs.Encodings.{lent};
 ghost use Rattle.labels_spec.specs.Labels.{label, naming};
@@ -15,12 +15,12 @@ use index_spec::Line;
 use labels_spec::Found;
 use labels_spec::Named;
 
-// The version of the library, 0.2.0: 10,000 times major, 100 times minor, and patch.
+// The version of the library, 0.3.0: 10,000 times major, 100 times minor, and patch.
 #[no_mangle]
 pub extern "C" fn hamvukile_version() -> u32
-    ensures { λ r. ⌜ r ≡ 200 ⌝ }
+    ensures { λ r. ⌜ r ≡ 300 ⌝ }
 {
-    200
+    300
 }
 
 // The label call.
@@ -66,17 +66,26 @@ pub extern "C" fn hamvukile_feed(
     second: &[u32],
     room: &mut [u32],
 ) -> Answer
-    ensures { λ r. ⌜ (r ≡ feeding decoder (lent (now (first .entry)) (now (second .entry))) (now (chunk .entry)) (now (room .entry)) .answer) × (now (room .exit) ≡ feeding decoder (lent (now (first .entry)) (now (second .entry))) (now (chunk .entry)) (now (room .entry)) .room) ⌝ }
+    ensures { λ r. ⌜ (r ≡ feeding decoder (lent (now (first .entry)) (now (second .entry)))
+        (now (chunk .entry)) (now (room .entry)) .answer) ×
+        (now (room .exit) ≡ feeding decoder (lent (now (first .entry)) (now (second .entry)))
+        (now (chunk .entry)) (now (room .entry)) .room) ⌝ }
 {
     decoder.feed(chunk, first, second, room)
 }
 
 // Finish.
 #[no_mangle]
-pub extern "C" fn hamvukile_finish(decoder: Decoder, room: &mut [u32]) -> Answer
-    ensures { λ r. ⌜ (r ≡ finishing decoder (now (room .entry)) .answer) × (now (room .exit) ≡ finishing decoder (now (room .entry)) .room) ⌝ }
+pub extern "C" fn hamvukile_finish(
+    decoder: Decoder,
+    first: &[u32],
+    second: &[u32],
+    room: &mut [u32],
+) -> Answer
+    ensures { λ r. ⌜ (r ≡ finishing decoder (lent (now (first .entry)) (now (second .entry))) (now (room .entry)) .answer) ×
+        (now (room .exit) ≡ finishing decoder (lent (now (first .entry)) (now (second .entry))) (now (room .entry)) .room) ⌝ }
 {
-    decoder.finish(room)
+    decoder.finish(first, second, room)
 }
 
 // Is a list clean?
@@ -102,8 +111,10 @@ pub extern "C" fn hamvukile_encode(
     second: &[u32],
     room: &mut [u8],
 ) -> Written
-    ensures { λ r. ⌜ (r ≡ writerCall encoding mode (lent (now (first .entry)) (now (second .entry))) (now (scalars .entry)) (now (room .entry)) .answer) ×
-        (now (room .exit) ≡ writerCall encoding mode (lent (now (first .entry)) (now (second .entry))) (now (scalars .entry)) (now (room .entry)) .room) ⌝ }
+    ensures { λ r. ⌜ (r ≡ writerCall encoding mode (lent (now (first .entry)) (now (second .entry)))
+        (now (scalars .entry)) (now (room .entry)) .answer) ×
+        (now (room .exit) ≡ writerCall encoding mode (lent (now (first .entry)) (now (second .entry)))
+        (now (scalars .entry)) (now (room .entry)) .room) ⌝ }
 {
     encoder::encode(encoding, mode, scalars, first, second, room)
 }

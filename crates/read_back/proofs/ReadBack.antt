@@ -16,7 +16,10 @@ use Rattle.standard.specs.Encoders.{encoder}
 use Rattle.standard.specs.Sequence.{shift, plain}
 use Rattle.standard.specs.Next.{next}
 use Rattle.standard.specs.Decode.{Read, decode, oneError, ending, shown, everything}
-use Rattle.decoder.specs.Record.{holding, closed, newShift}
+use Rattle.standard.specs.Choice.{reader, spot, Parsed, lift, readFrom, everythingFrom}
+use Rattle.standard.proofs.Stages.{read-on}
+use Rattle.standard.proofs.Sniffing.{all-read}
+use Rattle.decoder.specs.Record.{holding, closed, newSpot}
 use Rattle.decoder.specs.Calls.{openRefusal}
 use Rattle.demands.specs.Histories.{Call, after, start}
 use Rattle.demands.specs.Statements.{Piece, joined, cutting, account, Accepts, AllFeeds}
@@ -82,20 +85,23 @@ opens e m p q = rw (le-ltb 39 e p, le-ltb 1 m q)
 
 -- Such bytes through the decoder's calls.
 module _ (e m : ℕ) (t : Tables) (cs bs : List ℕ) (m-number : m ≤ 1) (g : Good e t cs bs) where
-  new-reads : (xs : List ℕ) → xs ≡ bs → decode (next t (family e)) (newShift e 1) xs ≡ readAll (g .encode) cs
-  new-reads xs q = rw (kept-new e, q) (g .reads)
+  new-reads : (xs : List ℕ) → xs ≡ bs → readFrom t e (newSpot e 1) xs ≡ lift 0 (readAll (g .encode) cs)
+  unfolding reader
+  new-reads xs q = rw (kept-new e, q) (read-on t e (spot 0 plain) bs refl ∙ ap (lift 0) (g .reads))
 
   fed : (calls : List Call) → AllFeeds t calls → after (start e m 1) calls .taken ≡ bs →
-      (after (start e m 1) calls .handed ≡ cs) × (after (start e m 1) calls .decoder ≡ holding e m (length bs) (lineFeeds cs) plain [])
+      (after (start e m 1) calls .handed ≡ cs) ×
+      (after (start e m 1) calls .decoder ≡ holding e m (length bs) (lineFeeds cs) (spot 0 plain) [])
   fed calls a q =
       let d = new-reads (after (start e m 1) calls .taken) q in
       let f = feeds-give t e m 1 (opens e m (g .number) m-number) calls a (rw (d, single-whole (g .encode) cs) (and-false (eqb m 1))) in
-      let out = f .0 ∙ ap (λ (r : Read). shown (r .items)) d ∙ single-shown (g .encode) cs in
-      (out, f .1 ∙ (λ i. holding e m (length (q i)) (lineFeeds (out i)) (d i .shift) (d i .rest)))
+      let out = f .0 ∙ ap (λ (r : Parsed). shown (r .items)) d ∙ single-shown (g .encode) cs in
+      (out, f .1 ∙ (λ i. holding e m (length (q i)) (lineFeeds (out i)) (d i .spot) (d i .rest)))
 
-  all : everything t (family e) (newShift e 1) bs ≡ map (single (g .encode)) cs
-  unfolding everything
-  all = ap (λ (r : Read). r .items ++ ending t (family e) (r .shift) (r .rest)) (new-reads bs refl) ∙ rw (g .ends, append-nil)
+  all : everythingFrom t e (newSpot e 1) bs ≡ map (single (g .encode)) cs
+  unfolding everything reader
+  all = rw (kept-new e) (all-read t e (spot 0 plain) bs refl ∙
+      ap (λ (r : Read). r .items ++ ending t (family e) (r .shift) (r .rest)) (g .reads) ∙ rw (g .ends, append-nil))
 
   whole : wholeAccount t e m 1 bs ≡ record { handed = cs; reports = []; decoder = closed e m 0 (lineFeeds cs) }
   unfolding wholeAccount dealt

@@ -6,6 +6,7 @@ use lib.ListN.{length, take}
 use Rattle.standard.specs.Base.{lineFeeds}
 use Rattle.standard.specs.Encodings.{Tables}
 use Rattle.standard.specs.Sequence.{plain}
+use Rattle.standard.specs.Choice.{spot}
 use Rattle.decoder.specs.Record.{holding, closed}
 use Rattle.demands.specs.Histories.{Call, after, start}
 use Rattle.demands.specs.Statements.{Piece, joined, cutting, account, Accepts, AllFeeds}
@@ -15,7 +16,8 @@ use Rattle.encoder_spec.specs.Writer.{Outcome, writerCall}
 pub record ReadBack (e m : ℕ) (t : Tables) (cs bs : List ℕ) : Type 0 where
   -- any feeds that take these bytes: nothing is held
   pub fed : (calls : List Call) → AllFeeds t calls → after (start e m 1) calls .taken ≡ bs →
-      (after (start e m 1) calls .handed ≡ cs) × (after (start e m 1) calls .decoder ≡ holding e m (length bs) (lineFeeds cs) plain [])
+      (after (start e m 1) calls .handed ≡ cs) ×
+      (after (start e m 1) calls .decoder ≡ holding e m (length bs) (lineFeeds cs) (spot 0 plain) [])
   -- any cutting into accepted feeds, and a finish
   pub finished : (ps : List Piece) (last : List ℕ) → joined ps ≡ bs → Accepts t (start e m 1) ps last →
       account (start e m 1) (cutting t ps last) ≡ record { handed = cs; reports = []; decoder = closed e m 0 (lineFeeds cs) }

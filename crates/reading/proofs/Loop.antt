@@ -1,35 +1,36 @@
--- The feed loop: the bytes held and then the chunk, what is still to be handed out, and what one turn does. Assumes nothing.
+-- The feed loop: the bytes held and then the chunk, and what one turn does. Assumes nothing.
 use mathlib.Core.Path.{_≡_, refl, sym, ap, _∙_, subst}
-use mathlib.Core.Bool.{Bool, true, false, _&&_, and-false}
-use mathlib.Core.List.{List, [], _∷_, _++_, append-assoc, append-nil}
+use mathlib.Core.Bool.{Bool, true, false, _&&_}
+use mathlib.Core.List.{List, [], _∷_, _++_}
 use Prim.Native.Nat.{ℕ, zero, suc, _+_, _-_, _≤_, _<_}
 use native.Mathlib.Omega.{arith}
-use native.Mathlib.Nat.{add-zero, zero-add}
-use lib.Dec.{T, leb, eqb}
-use lib.ListN.{length, take, drop, getD, List·getD-append, length-append, length-drop, take-append-drop}
-use lib.Seq.{sets, sets-eq, length-take-le, getD-take, getD-drop, getD-append-add, take-all, drop-drop, take-nil, length-sets, take-at, drop-at}
-use borrow.Author.Tests.{leb-true, leb-false, eqb-true, ne-eqb, eq-eqb}
-use Rattle.standard.specs.Base.{_then_else_, lineFeeds}
-use Rattle.standard.specs.Encodings.{Family, family, Tables, lent}
-use Rattle.standard.specs.Sequence.{Shift, Out, text, error, Next, more, item, shift, plain}
+use native.Mathlib.Nat.{add-zero}
+use lib.Dec.{T, eqb}
+use lib.ListN.{length, take, drop, getD, List·getD-append, length-append, length-drop}
+use lib.Seq.{length-take-le, getD-take, getD-drop, getD-append-add, take-all, drop-drop, drop-at}
+use borrow.Author.Tests.{eqb-true, ne-eqb, eq-eqb}
+use Rattle.standard.specs.Base.{lineFeeds}
+use Rattle.standard.specs.Encodings.{family, lent}
+use Rattle.standard.specs.Sequence.{Shift, text, error, Next, more, item, shift, plain}
 use Rattle.standard.specs.Next.{next}
-use Rattle.standard.specs.Decode.{Item, span, Read, put, decode, given, shown, broken, before, widths, reach}
+use Rattle.standard.specs.Decode.{Read, put, decode, given, widths}
+use Rattle.standard.specs.Choice.{spot, Parsed, lift}
 use Rattle.standard.proofs.Tests.{and-left, and-right}
-use Rattle.standard.proofs.Items.{shown-cons}
 use Rattle.standard.proofs.LineFeeds.{line-feeds-append, line-feeds-length}
 use Rattle.standard.proofs.Laws.{Laws, Law}
 use Rattle.standard.proofs.FamilyLaws.{keeps, next-laws}
-use Rattle.standard.proofs.Walk.{stop, at-item, at-more, nothing, decode-more, decode-item}
-use Rattle.sequences.specs.Code.{nextOf, outOf, front}
+use Rattle.standard.proofs.Walk.{at-item, at-more, nothing, decode-more, decode-item}
+use Rattle.sequences.specs.Code.{nextOf, outOf}
 use Rattle.sequences.specs.declared.Sequence.{Sequence}
 use Rattle.runs.specs.Run.{patch, puts, Runs}
 use Rattle.line_feeds.specs.Parts.{part}
-use Rattle.runs.proofs.Patches.{patch-sets, patch-none, patch-length, patch-patch}
+use Rattle.runs.proofs.Patches.{patch-length}
 use Rattle.runs.proofs.Running.{ran-widths}
-use Rattle.runs.proofs.Counting.{shown-none, runs-part, runs-fewer}
-use Rattle.reading.specs.Reading.{bytesOf, hold, bit, leaves, Result, wrote, handed, reached}
+use Rattle.runs.proofs.Counting.{runs-part, runs-fewer}
+use Rattle.reading.specs.Reading.{bytesOf, bit, leaves, Result, past}
 use Rattle.reading.specs.declared.Held.{Held}
 use Rattle.reading.specs.declared.Left.{Left}
+use Rattle.reading.proofs.Handing.{emit, emit-start, emit-stop, emit-report, emit-put, emit-puts}
 
 -- what a sequence gives, by its count
 pub out-error : (q : Sequence) → q .count ≡ 3 → given (outOf q) ≡ 0xFFFD ∷ []
@@ -53,11 +54,13 @@ out-some q h g = rw (ne-eqb (q .count) 3 h) (go (q .count) g)
 
 -- the bytes held and then the chunk
 module _ (held : Held) (chunk : List ℕ) (h : held .count ≤ 3) where
-  held-length : length (bytesOf held) ≡ held .count
+  pub held-length : length (bytesOf held) ≡ held .count
   held-length = length-take-le (held .count) (held .first ∷ held .second ∷ held .third ∷ []) h
 
   pub byte-held : (i : ℕ) → i < held .count → getD (bytesOf held ++ chunk) i 0 ≡ getD (held .first ∷ held .second ∷ held .third ∷ []) i 0
-  byte-held i g = List·getD-append (bytesOf held) chunk 0 i (omega (arith, held-length)) ∙ getD-take (held .count) (held .first ∷ held .second ∷ held .third ∷ []) i 0 g
+  byte-held i g =
+      List·getD-append (bytesOf held) chunk 0 i (omega (arith, held-length)) ∙
+      getD-take (held .count) (held .first ∷ held .second ∷ held .third ∷ []) i 0 g
 
   pub byte-chunk : (i : ℕ) → held .count ≤ i → getD (bytesOf held ++ chunk) i 0 ≡ getD chunk (i - held .count) 0
   byte-chunk i g =
@@ -89,99 +92,16 @@ pub feeds-two : (q : Sequence) → (q .count ≡ 3 → ⊥) → (q .count ≡ 0 
     lineFeeds (q .first ∷ []) + lineFeeds (q .second ∷ []) ≡ lineFeeds (given (outOf q))
 feeds-two q h g k = rw (out-two q h g k) (sym (line-feeds-append (q .first ∷ []) (q .second ∷ [])))
 
--- What is still to be handed out, where `at` bytes are read, and w scalars with l line feeds are written.
-abbrev written : ℕ → ℕ → ℕ → ℕ → List ℕ → Shift → List ℕ → List ℕ → Result
-written n place l w cs s xs room = record { left = leaves n (w + length cs) place (l + lineFeeds cs) s xs; room = patch w cs room }
-
-unfoldable pub emit : ℕ → Read → ℕ → ℕ → ℕ → List ℕ → Result
-emit m r at l w room =
-    eqb m 1 && broken (r .items) then written 11 (at + reach (r .items)) l w (before (r .items)) plain [] room else
-    written 0 0 l w (shown (r .items)) (r .shift) (r .rest) room
-
-emit-start : (m : ℕ) (r : Read) (room : List ℕ) → handed m r room ≡ emit m r 0 0 0 room
-unfolding emit
-emit-start m r room = go (eqb m 1 && broken (r .items))
-  where
-    same : (n place : ℕ) (cs : List ℕ) (s : Shift) (xs : List ℕ) → wrote n place cs s xs room ≡ written n place 0 0 cs s xs room
-    same n place cs s xs = rw (zero-add (length cs), zero-add (lineFeeds cs))
-
-    go : (b : Bool) → (b then wrote 11 (reach (r .items)) (before (r .items)) plain [] room else wrote 0 0 (shown (r .items)) (r .shift) (r .rest) room) ≡
-        (b then written 11 (0 + reach (r .items)) 0 0 (before (r .items)) plain [] room else written 0 0 0 0 (shown (r .items)) (r .shift) (r .rest) room)
-    go true = rw (zero-add (reach (r .items))) (same 11 (reach (r .items)) (before (r .items)) plain [])
-    go false = same 0 0 (shown (r .items)) (r .shift) (r .rest)
-
--- at the end: nothing more is written
-emit-stop : (m : ℕ) (s : Shift) (xs : List ℕ) (at l w : ℕ) (room : List ℕ) →
-    emit m (stop s xs) at l w room ≡ record { left = leaves 0 w 0 l s xs; room = room }
-unfolding emit broken shown lineFeeds
-emit-stop m s xs at l w room = rw (and-false (eqb m 1), add-zero w, add-zero l, append-nil (take w room), take-append-drop w room)
-
--- an error in refusing mode: the report
-emit-report : (m k : ℕ) (r : Read) (at l w : ℕ) (room : List ℕ) → m ≡ 1 →
-    emit m (put k error r) at l w room ≡ record { left = leaves 11 w at l plain []; room = room }
-unfolding emit broken before reach lineFeeds
-emit-report m k r at l w room h = rw (eq-eqb m 1 h, add-zero w, add-zero l, add-zero at, append-nil (take w room), take-append-drop w room)
-
--- any other sequence: its scalars are written, and the rest from there on
-written-put : (n place l w : ℕ) (us vs : List ℕ) (s : Shift) (xs room : List ℕ) → w + length us ≤ length room →
-    written n place l w (us ++ vs) s xs room ≡ written n place (l + lineFeeds us) (w + length us) vs s xs (patch w us room)
-written-put n place l w us vs s xs room h =
-    let z : w + length (us ++ vs) ≡ w + length us + length vs = omega (arith, length-append us vs) in
-    let y : l + lineFeeds (us ++ vs) ≡ l + lineFeeds us + lineFeeds vs = omega (arith, line-feeds-append us vs) in
-    λ i. record { left = leaves n (z i) place (y i) s xs; room = sym (patch-patch w us vs room h) i }
-
-emit-put : (m k : ℕ) (o : Out) (r : Read) (at l w : ℕ) (room : List ℕ) → (m ≡ 1 → o ≡ error → ⊥) → w + length (given o) ≤ length room →
-    emit m (put k o r) at l w room ≡ emit m r (at + k) (l + lineFeeds (given o)) (w + length (given o)) (patch w (given o) room)
-unfolding emit broken before shown reach
-emit-put m k (text cs) r at l w room n h = go (eqb m 1 && broken (r .items))
-  where
-    go : (b : Bool) →
-        (b then written 11 (at + (k + reach (r .items))) l w (cs ++ before (r .items)) plain [] room else
-        written 0 0 l w (cs ++ shown (r .items)) (r .shift) (r .rest) room) ≡
-        (b then written 11 (at + k + reach (r .items)) (l + lineFeeds cs) (w + length cs) (before (r .items)) plain [] (patch w cs room) else
-        written 0 0 (l + lineFeeds cs) (w + length cs) (shown (r .items)) (r .shift) (r .rest) (patch w cs room))
-    go true =
-        let p : at + (k + reach (r .items)) ≡ at + k + reach (r .items) = omega arith in
-        rw p (written-put 11 (at + k + reach (r .items)) l w cs (before (r .items)) plain [] room h)
-    go false = written-put 0 0 l w cs (shown (r .items)) (r .shift) (r .rest) room h
-emit-put m k error r at l w room n h =
-    rw (ne-eqb m 1 (λ z. n z refl)) (written-put 0 0 l w (0xFFFD ∷ []) (shown (r .items)) (r .shift) (r .rest) room h)
-
-sound-cons : (m k : ℕ) (o : Out) (is : List Item) → (m ≡ 1 → broken (span k o ∷ is) ≡ false) → (m ≡ 1 → o ≡ error → ⊥) × (m ≡ 1 → broken is ≡ false)
-unfolding broken
-sound-cons m k (text cs) is h = (λ e q. let z : _≡_ {A = ℕ} 0 1 = cc in absurd (omega arith), h)
-sound-cons m k error is h = (λ e q. subst T (h e) tt, λ e. absurd (subst T (h e) tt))
-
--- the same for some sequences at once, as a run reads them
-emit-puts : (m : ℕ) (is : List Item) (r : Read) (at l w : ℕ) (room : List ℕ) → (m ≡ 1 → broken is ≡ false) → w + length (shown is) ≤ length room →
-    emit m (puts is r) at l w room ≡ emit m r (at + widths is) (l + lineFeeds (shown is)) (w + length (shown is)) (patch w (shown is) room)
-unfolding puts widths lineFeeds
-emit-puts m [] r at l w room n h =
-    rw shown-none (λ i. emit m r (sym (add-zero at) i) (sym (add-zero l) i) (sym (add-zero w) i) (patch-none room w i))
-emit-puts m (span n o ∷ is) r at l w room sound h =
-    let k = sound-cons m n o is sound in
-    let joined = shown-cons n o is in
-    let c : length (shown (span n o ∷ is)) ≡ length (given o) + length (shown is) = ap length joined ∙ length-append (given o) (shown is) in
-    let here : w + length (given o) ≤ length room = omega (arith, h, c) in
-    let x : at + n + widths is ≡ at + (n + widths is) = omega arith in
-    let y : l + lineFeeds (given o) + lineFeeds (shown is) ≡ l + lineFeeds (shown (span n o ∷ is)) =
-    omega (arith, ap lineFeeds joined, line-feeds-append (given o) (shown is)) in
-    let z : w + length (given o) + length (shown is) ≡ w + length (shown (span n o ∷ is)) = omega (arith, c) in
-    let p : patch (w + length (given o)) (shown is) (patch w (given o) room) ≡ patch w (shown (span n o ∷ is)) room =
-    patch-patch w (given o) (shown is) room here ∙ ap (λ (cs : List ℕ). patch w cs room) (sym joined) in
-    emit-put m n o (puts is r) at l w room (k .0) here ∙
-    emit-puts m is r (at + n) (l + lineFeeds (given o)) (w + length (given o)) (patch w (given o) room) (k .1)
-    (omega (arith, h, c, patch-length room w (given o) here)) ∙
-    (λ i. emit m r (x i) (y i) (z i) (p i))
-
 -- How the loop was called.
 pub record Args : Type 0 where
   pub encoding : ℕ
   pub mode : ℕ
+  pub stage : ℕ
   pub held : Held
   pub chunk : List ℕ
   pub first : List ℕ
   pub second : List ℕ
+  pub mark : ℕ
   pub state : ℕ
   pub flag : ℕ
 
@@ -196,7 +116,12 @@ abbrev pub countIn : Args → ℕ
 countIn a = a .held .count + length (a .chunk)
 
 abbrev pub wanted : Args → List ℕ → Result
-wanted a room = reached (a .encoding) (a .mode) (a .state) (a .flag) (a .held) (lent (a .first) (a .second)) (a .chunk) room
+wanted a room =
+    past (a .encoding) (a .mode) (a .stage) (a .state) (a .flag) (a .held) (a .mark) (lent (a .first) (a .second)) (a .chunk) room
+
+-- what is still read from a shift and a place on
+abbrev pub readIn : Args → Shift → ℕ → Parsed
+readIn a s at = lift (a .stage) (decode (nextIn a) s (drop at (bytesIn a)))
 
 -- the laws of the encoding that reads
 laws : (a : Args) → Laws (keeps (family (a .encoding))) (nextIn a)
@@ -210,18 +135,18 @@ pub record Running (a : Args) (room₀ room : List ℕ) (at state flag w l : ℕ
   pub space : countIn a - at + w ≤ length room
   pub size : length room ≡ length room₀
   pub fewer : l ≤ w
-  pub outcome : wanted a room₀ ≡ emit (a .mode) (decode (nextIn a) (shift state (eqb flag 1)) (drop at (bytesIn a))) at l w room
+  pub outcome : wanted a room₀ ≡ emit (a .mode) (readIn a (shift state (eqb flag 1)) at) at l w room
 
-pub start-running : (a : Args) (room : List ℕ) → a .held .count ≤ 3 → length (a .chunk) ≤ 65536 → length (a .chunk) + a .held .count ≤ length room →
-    Running a room room 0 (a .state) (a .flag) 0 0
-start-running a room h l r = record {
+pub start-running : (a : Args) (room : List ℕ) → a .held .count ≤ 3 → length (a .chunk) ≤ 65536 →
+    length (a .chunk) + a .held .count ≤ length room → a .mark ≤ countIn a → Running a room room (a .mark) (a .state) (a .flag) 0 0
+start-running a room h l r k = record {
   few = h;
   short = l;
   place = omega arith;
   space = omega arith;
   size = refl;
   fewer = omega arith;
-  outcome = emit-start (a .mode) (decode (nextIn a) (shift (a .state) (eqb (a .flag) 1)) (bytesIn a)) room;
+  outcome = emit-start (a .mode) (a .mark) (readIn a (shift (a .state) (eqb (a .flag) 1)) (a .mark)) room;
 }
 
 pub item-of : (q : Sequence) → (q .width ≡ 0 → ⊥) → nextOf q ≡ item (q .width) (shift (q .state) (eqb (q .flag) 1)) (outOf q)
@@ -232,25 +157,46 @@ error-count q h = go (eqb (q .count) 3) refl
   where
     go : (b : Bool) → eqb (q .count) 3 ≡ b → q .count ≡ 3
     go true e = eqb-true (q .count) 3 e
-    go false e = let k : text (take (q .count) (q .first ∷ q .second ∷ [])) ≡ error = rw e at h in let z : _≡_ {A = ℕ} 0 1 = cc in absurd (omega arith)
+    go false e =
+        let k : text (take (q .count) (q .first ∷ q .second ∷ [])) ≡ error = rw e at h in
+        let z : _≡_ {A = ℕ} 0 1 = cc in
+        absurd (omega arith)
 
 count-error : (q : Sequence) → q .count ≡ 3 → outOf q ≡ error
 count-error q h = rw (eq-eqb (q .count) 3 h)
 
 -- at most three bytes behind a place, as bytes held
-pub leaves-is : (held : Held) (chunk : List ℕ) (at state flag w l : ℕ) → held .count ≤ 3 →
+pub leaves-is : (held : Held) (chunk : List ℕ) (at stage state flag w l : ℕ) → held .count ≤ 3 →
     (kept have b0 b1 b2 : ℕ) → kept ≡ bit (eqb flag 1) → have ≡ held .count + length chunk - at →
     b0 ≡ getD (bytesOf held ++ chunk) at 0 → b1 ≡ getD (bytesOf held ++ chunk) (at + 1) 0 → b2 ≡ getD (bytesOf held ++ chunk) (at + 2) 0 →
     _≡_ {A = Left}
-    (record { written = w; place = 0; lines = l; refusal = 0; state = state; flag = kept; held = record { count = have; first = b0; second = b1; third = b2 } })
-    (leaves 0 w 0 l (shift state (eqb flag 1)) (drop at (bytesOf held ++ chunk)))
-leaves-is held chunk at state flag w l h kept have b0 b1 b2 k c p0 p1 p2 =
+    (record {
+      written = w;
+      place = 0;
+      lines = l;
+      refusal = 0;
+      stage = stage;
+      state = state;
+      flag = kept;
+      held = record { count = have; first = b0; second = b1; third = b2 };
+    })
+    (leaves 0 w 0 l (spot stage (shift state (eqb flag 1))) (drop at (bytesOf held ++ chunk)))
+leaves-is held chunk at stage state flag w l h kept have b0 b1 b2 k c p0 p1 p2 =
     let xs = bytesOf held ++ chunk in
     let n : have ≡ length (drop at xs) = c ∙ sym (left-count held chunk h at) in
     let f0 = p0 ∙ ap (λ (k : ℕ). getD xs k 0) (sym (add-zero at)) ∙ sym (getD-drop at xs 0 0) in
     let f1 = p1 ∙ sym (getD-drop at xs 1 0) in
     let f2 = p2 ∙ sym (getD-drop at xs 2 0) in
-    λ i. record { written = w; place = 0; lines = l; refusal = 0; state = state; flag = k i; held = record { count = n i; first = f0 i; second = f1 i; third = f2 i } }
+    λ i. record {
+      written = w;
+      place = 0;
+      lines = l;
+      refusal = 0;
+      stage = stage;
+      state = state;
+      flag = k i;
+      held = record { count = n i; first = f0 i; second = f1 i; third = f2 i };
+    }
 
 -- One turn, with the sequence found at the place.
 module _ {a : Args} {room₀ room : List ℕ} {at state flag w l : ℕ} (R : Running a room₀ room at state flag w l) (q : Sequence)
@@ -271,14 +217,16 @@ module _ {a : Args} {room₀ room : List ℕ} {at state flag w l : ℕ} (R : Run
     pub turn-few : countIn a - at ≤ 3
     turn-few = omega (arith, left, at-more (keeps (family (a .encoding))) (nextIn a) (laws a) s left-over waits .0)
 
-    pub turn-more : wanted a room₀ ≡ record { left = leaves 0 w 0 l s left-over; room = room }
-    turn-more = R .outcome ∙ rw (decode-more (keeps (family (a .encoding))) (nextIn a) (laws a) s left-over waits) (emit-stop (a .mode) s left-over at l w room)
+    pub turn-more : wanted a room₀ ≡ record { left = leaves 0 w 0 l (spot (a .stage) s) left-over; room = room }
+    turn-more = R .outcome ∙ rw (decode-more (keeps (family (a .encoding))) (nextIn a) (laws a) s left-over waits)
+        (emit-stop (a .mode) (spot (a .stage) s) left-over at l w room)
 
   module _ (z : q .width ≡ 0 → ⊥) where
     goes : nextIn a s left-over ≡ item (q .width) (shift (q .state) (eqb (q .flag) 1)) (outOf q)
     goes = sym here ∙ item-of q z
 
-    law : Law (keeps (family (a .encoding))) left-over (item (q .width) (shift (q .state) (eqb (q .flag) 1)) (outOf q)) (nextIn a s (left-over ++ []))
+    law : Law (keeps (family (a .encoding))) left-over (item (q .width) (shift (q .state) (eqb (q .flag) 1)) (outOf q))
+        (nextIn a s (left-over ++ []))
     law = at-item (keeps (family (a .encoding))) (nextIn a) (laws a) s left-over goes []
 
     pub turn-width : (1 ≤ q .width) × (q .width ≤ countIn a - at)
@@ -287,18 +235,24 @@ module _ {a : Args} {room₀ room : List ℕ} {at state flag w l : ℕ} (R : Run
     pub turn-space : w + length (given (outOf q)) ≤ length room
     turn-space = omega (arith, left, law .2, law .3, R .space)
 
-    read : decode (nextIn a) s left-over ≡ put (q .width) (outOf q) (decode (nextIn a) (shift (q .state) (eqb (q .flag) 1)) (drop (q .width) left-over))
+    read : decode (nextIn a) s left-over ≡
+        put (q .width) (outOf q) (decode (nextIn a) (shift (q .state) (eqb (q .flag) 1)) (drop (q .width) left-over))
     read = decode-item (keeps (family (a .encoding))) (nextIn a) (laws a) s left-over goes
 
-    pub turn-report : a .mode ≡ 1 → q .count ≡ 3 → wanted a room₀ ≡ record { left = leaves 11 w at l plain []; room = room }
+    pub turn-report : a .mode ≡ 1 → q .count ≡ 3 → wanted a room₀ ≡ record { left = leaves 11 w at l (spot 0 plain) []; room = room }
     turn-report m k = R .outcome ∙ rw (read, count-error q k) (emit-report (a .mode) (q .width) _ at l w room m)
 
     -- the sum of line feeds stays below that of scalars
     pub turn-fewer : l + lineFeeds (given (outOf q)) ≤ w + length (given (outOf q))
     turn-fewer = omega (arith, R .fewer, line-feeds-length (given (outOf q)))
 
+    -- the place after it stays small
+    pub turn-at : at + q .width ≤ 65539
+    turn-at = omega (arith, R .few, R .short, R .place, turn-width .1)
+
     pub turn-on : (a .mode ≡ 1 → q .count ≡ 3 → ⊥) →
-        Running a room₀ (patch w (given (outOf q)) room) (at + q .width) (q .state) (q .flag) (w + length (given (outOf q))) (l + lineFeeds (given (outOf q)))
+        Running a room₀ (patch w (given (outOf q)) room) (at + q .width) (q .state) (q .flag)
+        (w + length (given (outOf q))) (l + lineFeeds (given (outOf q)))
     turn-on k = record {
       few = R .few;
       short = R .short;
@@ -312,12 +266,13 @@ module _ {a : Args} {room₀ room : List ℕ} {at state flag w l : ℕ} (R : Run
 
 -- No byte is left.
 pub turn-done : {a : Args} {room₀ room : List ℕ} {at state flag w l : ℕ} → Running a room₀ room at state flag w l → countIn a ≤ at →
-    wanted a room₀ ≡ record { left = leaves 0 w 0 l (shift state (eqb flag 1)) (drop at (bytesIn a)); room = room }
+    wanted a room₀ ≡ record { left = leaves 0 w 0 l (spot (a .stage) (shift state (eqb flag 1))) (drop at (bytesIn a)); room = room }
 turn-done {a} {room₀} {room} {at} {state} {flag} {w} {l} R h =
     let s = shift state (eqb flag 1) in
     let z : length (drop at (bytesIn a)) ≤ 0 = omega (arith, left-count (a .held) (a .chunk) (R .few) at) in
     let none = nothing (keeps (family (a .encoding))) (nextIn a) (laws a) s (drop at (bytesIn a)) z in
-    R .outcome ∙ rw (decode-more (keeps (family (a .encoding))) (nextIn a) (laws a) s (drop at (bytesIn a)) none) (emit-stop (a .mode) s (drop at (bytesIn a)) at l w room)
+    R .outcome ∙ rw (decode-more (keeps (family (a .encoding))) (nextIn a) (laws a) s (drop at (bytesIn a)) none)
+    (emit-stop (a .mode) (spot (a .stage) s) (drop at (bytesIn a)) at l w room)
 
 pub stops-no : (m n : ℕ) → eqb m 1 && eqb n 3 ≡ false → m ≡ 1 → n ≡ 3 → ⊥
 stops-no m n h p q = let k : true ≡ false = rw (p, q) at h in subst T k tt
@@ -327,8 +282,8 @@ stops-yes m n h = (eqb-true m 1 (and-left (eqb m 1) (eqb n 3) h), eqb-true n 3 (
 
 -- From a place of the chunk to a place of the bytes held and then the chunk.
 module _ (held : Held) (chunk : List ℕ) (few : held .count ≤ 3) where
-  past : (k : ℕ) → drop (held .count + k) (bytesOf held ++ chunk) ≡ drop k chunk
-  past k = sym (drop-drop k (held .count) (bytesOf held ++ chunk)) ∙
+  in-chunk : (k : ℕ) → drop (held .count + k) (bytesOf held ++ chunk) ≡ drop k chunk
+  in-chunk k = sym (drop-drop k (held .count) (bytesOf held ++ chunk)) ∙
       ap (drop k) (drop-at (bytesOf held) chunk (held .count) (held-length held chunk few))
 
   pub held-runs : {f : Shift → List ℕ → Next} {m at k w w′ : ℕ} {s s′ : Shift} {room room′ : List ℕ} → held .count ≤ at →
@@ -336,17 +291,19 @@ module _ (held : Held) (chunk : List ℕ) (few : held .count ≤ 3) where
   held-runs {f} {m} {at} {k} {w} {w′} {s} {s′} {room} {room′} h r =
       let n = all-count held chunk few in
       let z : held .count + (at - held .count) ≡ at = omega arith in
-      let from : drop at (bytesOf held ++ chunk) ≡ drop (at - held .count) chunk = ap (λ (n : ℕ). drop n (bytesOf held ++ chunk)) (sym z) ∙ past (at - held .count) in
+      let from : drop at (bytesOf held ++ chunk) ≡ drop (at - held .count) chunk =
+      ap (λ (n : ℕ). drop n (bytesOf held ++ chunk)) (sym z) ∙ in-chunk (at - held .count) in
       record {
         ahead = omega (arith, r .ahead);
         inside = λ l. let i = r .inside (omega (arith, n)) in omega (arith, n);
         space = omega (arith, n, r .space, r .ahead);
         size = r .size;
-        ran = rw (from, past k) (r .ran);
+        ran = rw (from, in-chunk k) (r .ran);
       }
 
 -- A run with k line feeds carries what holds at the loop's head.
-pub carried : {a : Args} {room₀ room room′ : List ℕ} {at at′ state state′ flag flag′ w w′ l k : ℕ} → Running a room₀ room at state flag w l →
+pub carried : {a : Args} {room₀ room room′ : List ℕ} {at at′ state state′ flag flag′ w w′ l k : ℕ} →
+    Running a room₀ room at state flag w l →
     Runs (nextIn a) (a .mode) (bytesIn a) at at′ (shift state (eqb flag 1)) (shift state′ (eqb flag′ 1)) w w′ room room′ →
     k ≡ lineFeeds (part room′ w (w′ - w)) → Running a room₀ room′ at′ state′ flag′ w′ (l + k)
 carried {a} {room₀} {room} {room′} {at} {at′} {state} {state′} {flag} {flag′} {w} {w′} {l} {k} R r e =
@@ -362,8 +319,9 @@ carried {a} {room₀} {room} {room′} {at} {at′} {state} {state′} {flag} {f
       to,
     ) in
     let rest = decode (nextIn a) (shift state′ (eqb flag′ 1)) (drop at′ (bytesIn a)) in
-    let on : emit (a .mode) (puts (r .ran .items) rest) at l w room ≡ emit (a .mode) rest at′ (l + k) w′ room′ =
-    emit-puts (a .mode) (r .ran .items) rest at l w room (r .ran .sound) (omega (arith, r .ran .count, r .space, n, R .space)) ∙
+    let on : emit (a .mode) (lift (a .stage) (puts (r .ran .items) rest)) at l w room ≡
+    emit (a .mode) (lift (a .stage) rest) at′ (l + k) w′ room′ =
+    emit-puts (a .mode) (a .stage) (r .ran .items) rest at l w room (r .ran .sound) (omega (arith, r .ran .count, r .space, n, R .space)) ∙
     rw (r .ran .count, r .ran .wrote, wide, e, runs-part r) refl in
     record {
       few = R .few;
@@ -372,5 +330,5 @@ carried {a} {room₀} {room} {room′} {at} {at′} {state} {state′} {flag} {f
       space = omega (arith, r .space, r .size, n, R .space);
       size = r .size ∙ R .size;
       fewer = runs-fewer r e (R .fewer);
-      outcome = R .outcome ∙ ap (λ (x : Read). emit (a .mode) x at l w room) (r .ran .read) ∙ on;
+      outcome = R .outcome ∙ ap (λ (x : Read). emit (a .mode) (lift (a .stage) x) at l w room) (r .ran .read) ∙ on;
     }

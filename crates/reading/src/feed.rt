@@ -2,6 +2,8 @@
 
 use crate::Held;
 use crate::Left;
+use crate::choice::choose;
+use crate::choice::reader;
 use crate::ended;
 use crate::run::run;
 use crate::run::uncounted;
@@ -22,10 +24,11 @@ ghost use Rattle.standard.specs.Encodings.{family, lent};
 ghost use Rattle.standard.specs.Sequence.{shift};
 ghost use Rattle.standard.specs.Next.{next};
 ghost use Rattle.standard.specs.Decode.{given};
+ghost use Rattle.standard.specs.Choice.{spot};
 ghost use Rattle.sequences.specs.Code.{nextOf, outOf};
 ghost use Rattle.runs.specs.Run.{patch, placed};
 ghost use Rattle.runs.specs.Counts.{Counts};
-ghost use Rattle.reading.specs.Reading.{bytesOf, bit, leaves, reached, readChunk};
+ghost use Rattle.reading.specs.Reading.{bytesOf, bit, leaves, past, startOf, readChunk};
 
 // The byte at a place of the bytes held and then the chunk; 0 past their end.
 fn byte_at(held: Held, chunk: &[u8], i: usize) -> u8
@@ -50,7 +53,7 @@ fn byte_at(held: Held, chunk: &[u8], i: usize) -> u8
 }
 
 // The scalars of a sequence, written from a place on; an error is U+FFFD. The place after them.
-fn put(room: &mut [u32], written: usize, q: Sequence) -> usize
+pub(crate) fn put(room: &mut [u32], written: usize, q: Sequence) -> usize
     requires { ⌜ written + length (given (outOf q)) ≤ length (now room) ⌝ }
     ensures { λ r. ⌜ (r ≡ written + length (given (outOf q))) × (now (room .exit) ≡ patch written (given (outOf q)) (now (room .entry))) ⌝ }
 {
@@ -73,7 +76,7 @@ fn put(room: &mut [u32], written: usize, q: Sequence) -> usize
 }
 
 // The line feeds among the scalars of a sequence.
-fn feeds(q: Sequence) -> usize
+pub(crate) fn feeds(q: Sequence) -> usize
     ensures { λ r. ⌜ r ≡ lineFeeds (given (outOf q)) ⌝ }
 {
     let count = q.count;
@@ -92,7 +95,7 @@ fn feeds(q: Sequence) -> usize
 }
 
 // Does an error end the reading?
-fn stops(mode: u8, count: u8) -> bool
+pub(crate) fn stops(mode: u8, count: u8) -> bool
     ensures { λ r. ⌜ r ≡ (eqb mode 1 && eqb count 3) ⌝ }
 {
     if mode == 1 {
@@ -112,7 +115,7 @@ fn bit(flag: u8) -> u8
 }
 
 // The sequence at a place of the bytes held and then the chunk.
-fn sequence_at(
+pub(crate) fn sequence_at(
     encoding: u8,
     held: Held,
     chunk: &[u8],
@@ -135,10 +138,11 @@ fn sequence_at(
 }
 
 // All sequences read: at most three bytes are left, and held.
-fn holds(
+pub(crate) fn holds(
     held: Held,
     chunk: &[u8],
     at: usize,
+    stage: u8,
     state: u8,
     flag: u8,
     written: usize,
@@ -146,7 +150,7 @@ fn holds(
 ) -> Left
     requires { ⌜ (held .count ≤ 3) × (length (now chunk) ≤ 65536) × (at ≤ held .count + length (now chunk))
         × (held .count + length (now chunk) - at ≤ 3) ⌝ }
-    ensures { λ r. ⌜ r ≡ leaves 0 written 0 lines (shift state (eqb flag 1)) (drop at (bytesOf held ++ now (chunk .entry))) ⌝ }
+    ensures { λ r. ⌜ r ≡ leaves 0 written 0 lines (spot stage (shift state (eqb flag 1))) (drop at (bytesOf held ++ now (chunk .entry))) ⌝ }
 {
     let have = held.count as usize + chunk.len() - at;
     let first = byte_at(held, chunk, at);
@@ -158,6 +162,7 @@ fn holds(
         place: 0,
         lines,
         refusal: 0,
+        stage,
         state,
         flag: kept,
         held: Held {
@@ -218,23 +223,28 @@ fn run_from(
     }
 }
 
-// Sequence after sequence, a run at a time, until no whole one is left or an error ends it.
+// Sequence after sequence behind a mark of so many bytes, a run at a time, until no whole one is left or an error ends it.
 fn read_all(
     encoding: u8,
     mode: u8,
+    stage: u8,
     held: Held,
     chunk: &[u8],
     t1: &[u32],
     t2: &[u32],
+    mark: usize,
     room: &mut [u32],
     state: u8,
     flag: u8,
 ) -> Left
-    requires { ⌜ (held .count ≤ 3) × (length (now chunk) ≤ 65536) × (length (now chunk) + held .count ≤ length (now room)) ⌝ }
-    ensures { λ r. ⌜ (r ≡ reached encoding mode state flag held (lent (now (t1 .entry)) (now (t2 .entry))) (now (chunk .entry)) (now (room .entry)) .left)
-        × (now (room .exit) ≡ reached encoding mode state flag held (lent (now (t1 .entry)) (now (t2 .entry))) (now (chunk .entry)) (now (room .entry)) .room) ⌝ }
+    requires { ⌜ (held .count ≤ 3) × (length (now chunk) ≤ 65536) × (length (now chunk) + held .count ≤ length (now room))
+        × (mark ≤ held .count + length (now chunk)) ⌝ }
+    ensures { λ r. ⌜ (r ≡ past encoding mode stage state flag held mark
+        (lent (now (t1 .entry)) (now (t2 .entry))) (now (chunk .entry)) (now (room .entry)) .left)
+        × (now (room .exit) ≡ past encoding mode stage state flag held mark
+        (lent (now (t1 .entry)) (now (t2 .entry))) (now (chunk .entry)) (now (room .entry)) .room) ⌝ }
 {
-    let mut at: usize = 0;
+    let mut at = mark;
     let mut s = state;
     let mut f = flag;
     let mut written: usize = 0;
@@ -247,11 +257,11 @@ fn read_all(
         s = p.state;
         f = p.flag;
         if at == held.count as usize + chunk.len() {
-            return holds(held, chunk, at, s, f, written, lines);
+            return holds(held, chunk, at, stage, s, f, written, lines);
         }
         let q = sequence_at(encoding, held, chunk, t1, t2, at, s, f);
         if q.width == 0 {
-            return holds(held, chunk, at, s, f, written, lines);
+            return holds(held, chunk, at, stage, s, f, written, lines);
         }
         if stops(mode, q.count) {
             return ended(11, written, at, lines);
@@ -264,10 +274,49 @@ fn read_all(
     }
 }
 
-// A chunk behind the bytes held, read from a shift into the room, where at most so many bytes may be read.
+// Where reading starts: the encoding that reads, the stage, the bytes of a mark before it, and the shift. Stage 1 says that the bytes wait.
+pub(crate) struct Start {
+    reads: u8,
+    stage: u8,
+    mark: u8,
+    state: u8,
+    flag: u8,
+}
+
+// Reading starts at a spot, or where the first bytes choose.
+fn start_of(encoding: u8, stage: u8, held: Held, chunk: &[u8], state: u8, flag: u8) -> Start
+    requires { ⌜ (held .count ≤ 3) × (length (now chunk) ≤ 65536) ⌝ }
+    ensures { λ r. ⌜ r ≡ startOf encoding stage state flag (bytesOf held ++ now (chunk .entry)) ⌝ }
+{
+    if stage != 1 {
+        let reads = reader(encoding, stage);
+        return Start {
+            reads,
+            stage,
+            mark: 0,
+            state,
+            flag,
+        };
+    }
+    let first = byte_at(held, chunk, 0);
+    let second = byte_at(held, chunk, 1);
+    let third = byte_at(held, chunk, 2);
+    let c = choose(first, second, third, held.count as usize + chunk.len());
+    let reads = reader(encoding, c.stage);
+    Start {
+        reads,
+        stage: c.stage,
+        mark: c.width,
+        state: 0,
+        flag: 0,
+    }
+}
+
+// A chunk behind the bytes held, read from a spot into the room, where at most so many bytes may be read.
 pub fn read(
     encoding: u8,
     mode: u8,
+    stage: u8,
     held: Held,
     most: u32,
     chunk: &[u8],
@@ -277,22 +326,40 @@ pub fn read(
     state: u8,
     flag: u8,
 ) -> Left
-    ensures { λ r. ⌜ (r ≡ readChunk encoding mode state flag held most (lent (now (t1 .entry)) (now (t2 .entry))) (now (chunk .entry)) (now (room .entry)) .left)
-        × (now (room .exit) ≡ readChunk encoding mode state flag held most (lent (now (t1 .entry)) (now (t2 .entry))) (now (chunk .entry)) (now (room .entry)) .room) ⌝ }
+    ensures { λ r. ⌜ (r ≡ readChunk encoding mode stage state flag held most
+        (lent (now (t1 .entry)) (now (t2 .entry))) (now (chunk .entry)) (now (room .entry)) .left)
+        × (now (room .exit) ≡ readChunk encoding mode stage state flag held most
+        (lent (now (t1 .entry)) (now (t2 .entry))) (now (chunk .entry)) (now (room .entry)) .room) ⌝ }
 {
     if 3 < held.count {
-        return unread(5, state, flag, held);
+        return unread(5, stage, state, flag, held);
     }
     if 65536 < chunk.len() {
-        return unread(8, state, flag, held);
+        return unread(8, stage, state, flag, held);
     }
     let most = most as usize;
     let all = chunk.len() + held.count as usize;
     if most < chunk.len() {
-        return unread(14, state, flag, held);
+        return unread(14, stage, state, flag, held);
     }
     if room.len() < all {
-        return unread(7, state, flag, held);
+        return unread(7, stage, state, flag, held);
     }
-    read_all(encoding, mode, held, chunk, t1, t2, room, state, flag)
+    let s = start_of(encoding, stage, held, chunk, state, flag);
+    if s.stage == 1 {
+        return holds(held, chunk, 0, 1, 0, 0, 0, 0);
+    }
+    read_all(
+        s.reads,
+        mode,
+        s.stage,
+        held,
+        chunk,
+        t1,
+        t2,
+        s.mark as usize,
+        room,
+        s.state,
+        s.flag,
+    )
 }

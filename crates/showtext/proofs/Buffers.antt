@@ -12,7 +12,8 @@ use borrow.Author.Tests.{lt-ltb, le-ltb, eq-eqb, ne-eqb, ltb-true, ltb-false, eq
 use Rattle.standard.specs.Base.{_then_else_}
 use Rattle.standard.specs.Text.{bytes}
 use Rattle.standard.specs.Encodings.{Tables, noTables}
-use Rattle.standard.specs.Decode.{Item, Read, shown, before}
+use Rattle.standard.specs.Decode.{Item, shown, before}
+use Rattle.standard.specs.Choice.{Parsed}
 use Rattle.standard.proofs.Tests.{split}
 use Rattle.labels_spec.specs.Labels.{label, name}
 use Rattle.labels_spec.specs.declared.Found.{Found}
@@ -60,20 +61,20 @@ pub feed-few : (d : Decoder) (t : Tables) (chunk room : List ℕ) → feeding d 
 unfolding Few
 feed-few d t chunk room = feed-is (Few room) d t chunk room (λ z. fed-few) (λ q h. omega arith) (room-kept d .fed t chunk room)
   where
-    r : Read
+    r : Parsed
     r = readOn d t chunk
 
     n : ℕ
     n = d .taken + length chunk
 
     fed-few : Few room (fedOut d t chunk room)
-    fed-few = handed-few (d .encoding) (d .mode) (d .taken - d .held) n (d .lines) (r .items) (λ l. holding (d .encoding) (d .mode) n l (r .shift) (r .rest)) room
+    fed-few = handed-few (d .encoding) (d .mode) (d .taken - d .held) n (d .lines) (r .items) (λ l. holding (d .encoding) (d .mode) n l (r .spot) (r .rest)) room
 
-pub finish-few : (d : Decoder) (room : List ℕ) → finishing d room .answer .written ≤ length room
+pub finish-few : (d : Decoder) (room : List ℕ) → finishing d noTables room .answer .written ≤ length room
 unfolding Few
-finish-few d room = finish-is (Few room) d room
-    (λ z. handed-few (d .encoding) (d .mode) (d .taken - d .held) (d .taken) (d .lines) (readEnd d) (closed (d .encoding) (d .mode) (d .taken)) room)
-    (λ q h. omega arith) (room-kept d .finished room)
+finish-few d room = finish-is (Few room) d noTables room
+    (λ z. handed-few (d .encoding) (d .mode) (d .taken - d .held) (d .taken) (d .lines) (readEnd d noTables) (closed (d .encoding) (d .mode) (d .taken)) room)
+    (λ q h. omega arith) (room-kept d .finished noTables room)
 
 -- What a call wrote fits the room before it and after it.
 fitting : (o : Outcome) (room : List ℕ) → o .answer .written ≤ length room → length (o .room) ≡ length room → {a : Answer} {room′ : List ℕ} → a ≡ o .answer → room′ ≡ o .room → (a .written ≤ length room) × (a .written ≤ length room′)
@@ -82,8 +83,8 @@ fitting o room few kept p q = let w = ap (λ (a : Answer). a .written) p in (ome
 pub fed-fits : (d : Decoder) (chunk room : List ℕ) {a : Answer} {room′ : List ℕ} → a ≡ feeding d noTables chunk room .answer → room′ ≡ feeding d noTables chunk room .room → (a .written ≤ length room) × (a .written ≤ length room′)
 fed-fits d chunk room p q = fitting (feeding d noTables chunk room) room (feed-few d noTables chunk room) (room-kept d .fed noTables chunk room) p q
 
-pub finished-fits : (d : Decoder) (room : List ℕ) {a : Answer} {room′ : List ℕ} → a ≡ finishing d room .answer → room′ ≡ finishing d room .room → (a .written ≤ length room) × (a .written ≤ length room′)
-finished-fits d room p q = fitting (finishing d room) room (finish-few d room) (room-kept d .finished room) p q
+pub finished-fits : (d : Decoder) (room : List ℕ) {a : Answer} {room′ : List ℕ} → a ≡ finishing d noTables room .answer → room′ ≡ finishing d noTables room .room → (a .written ≤ length room) × (a .written ≤ length room′)
+finished-fits d room p q = fitting (finishing d noTables room) room (finish-few d room) (room-kept d .finished noTables room) p q
 
 pub shown-few : (n w : ℕ) (room : List ℕ) → length (scalarLines n (take w room)) ≤ 32 * w
 shown-few n w room = omega (arith, lines-few n (take w room), length-take w room)
@@ -141,12 +142,12 @@ unfolding goingOn feedingOn
 going-is d n chunk room out = refl
 
 -- The end of input.
-pub closed-up : (d : Decoder) (n : ℕ) (room out : List ℕ) {a : Answer} {room′ : List ℕ} {shown : Shown} {after after′ : List ℕ} {end : ℕ} → a ≡ finishing d room .answer → room′ ≡ finishing d room .room →
+pub closed-up : (d : Decoder) (n : ℕ) (room out : List ℕ) {a : Answer} {room′ : List ℕ} {shown : Shown} {after after′ : List ℕ} {end : ℕ} → a ≡ finishing d noTables room .answer → room′ ≡ finishing d noTables room .room →
     Answers (a .decoder) (n + a .written) (a .refusal) out 0 (scalarLines n (take (a .written) room′)) shown after → Put after (shown .length) (line (bytes "end") (count (shown .count))) end after′ →
     32 * length room + 32 ≤ length out → Left (closing d n room out) (record { decoder = shown .decoder; refusal = shown .refusal; length = end; count = shown .count }) room′ after′
 unfolding closing bytes
 closed-up d n room out {a} {room′} {shown} {after} {after′} {end} p q s e h =
-    let o = finishing d room in
+    let o = finishing d noTables room in
     let s′ : Answers (o .answer .decoder) (n + o .answer .written) (o .answer .refusal) out 0 (linesOf n o) shown after = rw (p, q) at s in
     let f : Put after (shown .length) (line (bytes "end") (count (n + o .answer .written))) end after′ = rw (s′ .count) at e in
     left (record { decoder = s′ .decoder; count = s′ .count; refusal = s′ .refusal; put = then-put (s′ .put) f })
@@ -229,7 +230,7 @@ module _ {shown : Shown} {room′ out′ : List ℕ} where
       (shown .count ≤ n + length room) × (shown .length ≤ length out)
   unfolding closing bytes
   closed-few d n room out h l =
-      let o = finishing d room in
+      let o = finishing d noTables room in
       let few = finish-few d room in
       rw (l .answer) (
         omega (arith, few),

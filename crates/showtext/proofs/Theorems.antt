@@ -20,12 +20,14 @@ use Rattle.standard.specs.Sequences.SingleByte.{singleByte}
 use Rattle.standard.specs.Next.{next}
 use Rattle.standard.specs.Decode.{reads, decode, oneError, ending, shown, everything}
 use Rattle.standard.proofs.Tests.{split}
-use Rattle.standard.proofs.Reading.{empty}
 use Rattle.labels_spec.specs.Labels.{table, trimmed, fold, same, among, find, answer, label, name}
 use Rattle.labels_spec.specs.Labels.{start as startOf}
 use Rattle.labels_spec.specs.declared.Found.{Found}
 use Rattle.labels_spec.proofs.Known.{encodings}
-use Rattle.decoder.specs.Record.{holding, newShift}
+use Rattle.standard.specs.Choice.{reader}
+use Rattle.standard.proofs.Stages.{none-rest}
+use Rattle.standard.proofs.Sniffing.{all-read}
+use Rattle.decoder.specs.Record.{holding, newShift, newSpot}
 use Rattle.decoder.specs.Calls.{Outcome, openRefusal, opening, feedRefusal, feeding, finishing}
 use Rattle.demands.specs.Histories.{Call, History, noted, after, start}
 use Rattle.demands.specs.Statements.{Piece, cutting, Account, account, Roomy, Accepts}
@@ -157,8 +159,8 @@ unfolding later closing GoesOn calls pieces lastRoom cutting after
 later-is [] l taken handed g k =
     let d = l .shown .decoder in
     let n = l .shown .count in
-    let o = finishing d (l .room) in
-    let few : o .answer .written ≤ length (o .room) = omega (arith, finish-few d (l .room), room-kept d .finished (l .room)) in
+    let o = finishing d noTables (l .room) in
+    let few : o .answer .written ≤ length (o .room) = omega (arith, finish-few d (l .room), room-kept d .finished noTables (l .room)) in
     ap (λ (t : List ℕ). scalarLines 0 handed ++ t) (text-is (o .answer .decoder) (n + o .answer .written) (o .answer .refusal) (linesOf n o ++ line (bytes "end") (count (n + o .answer .written))) (o .room) (l .out)) ∙
     behind handed n k o few (line (bytes "end") (count (n + o .answer .written))) ∙
     ap (λ (m : ℕ). scalarLines 0 (now handed n k o few) ++ line (bytes "end") (count m)) (counted handed n k o few)
@@ -228,14 +230,14 @@ module _ (e : ℕ) (o : openRefusal e 0 0 ≡ 0) (chunk room : List ℕ) where
   abbrev new : Decoder
   new = opening e 0 0 .decoder
 
-  new-is : new ≡ holding e 0 0 0 (newShift e 0) []
+  new-is : new ≡ holding e 0 0 0 (newSpot e 0) []
   unfolding start
   new-is = ap (λ (h : History). h .decoder) (opened-is e 0 0 o)
 
   feed-accepted : feedRefusal new noTables chunk room ≡ 0 → feeding new noTables chunk room .answer .refusal ≡ 0
   feed-accepted z =
-      let z′ : feedRefusal (holding e 0 0 0 (newShift e 0) []) noTables chunk room ≡ 0 = rw new-is at z in
-      rw (new-is, feed-holding e 0 0 0 (newShift e 0) [] noTables chunk room (empty noTables (family e) (newShift e 0)) z′)
+      let z′ : feedRefusal (holding e 0 0 0 (newSpot e 0) []) noTables chunk room ≡ 0 = rw new-is at z in
+      rw (new-is, feed-holding e 0 0 0 (newSpot e 0) [] noTables chunk room (none-rest e (newSpot e 0)) z′)
 
   feed-refused : fits (family e) noTables ≡ false → feeding new noTables chunk room .answer .refusal ≡ 4
   unfolding feeding feedRefusal
@@ -326,8 +328,9 @@ module _ (room out first : List ℕ) (bs : List (List ℕ)) (h : 4099 ≤ length
 
         -- what the calls hand out in all
         handed : after (start (F .encoding) 0 0) (cutting noTables ps last) .handed ≡ all
-        unfolding account wholeAccount dealt all
+        unfolding account wholeAccount dealt all reader
         handed = ap (λ (a : Account). a .handed) (cut-is-whole noTables (F .encoding) 0 0 opens ps last accepts) ∙
+            ap shown (all-read noTables (F .encoding) (newSpot (F .encoding) 0) (joinedPieces ps) refl) ∙
             ap (λ (xs : List ℕ). shown (everything noTables (family (F .encoding)) (newShift (F .encoding) 0) xs)) fed-bytes
 
         -- the lines behind the first

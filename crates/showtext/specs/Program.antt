@@ -63,10 +63,10 @@ goingOn d n chunk room out =
     eqb (a .refusal) 0 then leave (a .decoder) (n + a .written) 0 (linesOf n fed) (fed .room) out else
     leave d 0 (a .refusal) (refused (a .refusal)) (fed .room) out
 
--- The end of input, after n scalars.
+-- The end of input, after n scalars, with empty tables.
 unfoldable pub closing : Decoder → ℕ → List ℕ → List ℕ → Leaves
 closing d n room out =
-    let last = finishing d room in
+    let last = finishing d noTables room in
     let a = last .answer in
     let all = n + a .written in
     leave (a .decoder) all (a .refusal) (linesOf n last ++ line (bytes "end") (count all)) (last .room) out

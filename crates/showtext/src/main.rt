@@ -14,7 +14,7 @@ ghost use mathlib.Core.Path.{_≡_};
 ghost use Prim.Native.Nat.{_+_, _*_, _≤_, _<_, _^_};
 ghost use lib.ListN.{length, take};
 ghost use Rattle.standard.specs.Encodings.{noTables};
-ghost use Rattle.decoder.specs.Calls.{feeding};
+ghost use Rattle.decoder.specs.Calls.{feeding, finishing};
 ghost use Rattle.labels_spec.specs.Labels.{label};
 ghost use Rattle.showtext.specs.Output.{firstLine, afterLine, refused, scalarLines};
 ghost use Rattle.showtext.specs.Code.{labelRefusal, heading, feedingOn};
@@ -119,6 +119,16 @@ fn feed(decoder: Decoder, chunk: &[u8], room: &mut [u32]) -> Answer
     decoder.feed(chunk, empty, empty, room)
 }
 
+// A finish with empty tables.
+fn finish(decoder: Decoder, room: &mut [u32]) -> Answer
+    ensures { λ r. ⌜ (r ≡ finishing decoder noTables (now (room .entry)) .answer) ×
+        (now (room .exit) ≡ finishing decoder noTables (now (room .entry)) .room) ⌝ }
+{
+    let none = [0u32; 1];
+    let empty = &none[0..0];
+    decoder.finish(empty, empty, room)
+}
+
 // The first bytes of a text: behind the line of the encoding's name, the lines of their scalars.
 fn begin_text(
     decoder: Decoder,
@@ -169,7 +179,7 @@ fn close(decoder: Decoder, count: u64, room: &mut [u32], out: &mut [u8]) -> Show
     requires { ⌜ (32 * length (now room) + 32 ≤ length (now out)) × (count + length (now room) < 2 ^ 64) ⌝ }
     ensures { λ r. ⌜ Left (closing decoder count (now (room .entry)) (now (out .entry))) r (now (room .exit)) (now (out .exit)) ⌝ }
 {
-    let last = decoder.finish(room);
+    let last = finish(decoder, room);
     let mut s = show(last, count, room, out, 0);
     s.length = put_number(out, s.length, b"end", s.count);
     s

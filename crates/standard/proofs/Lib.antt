@@ -28,3 +28,5 @@ pub mod Paused
 pub mod FamilyScalars
 pub mod OnlyScalars
 pub mod Families
+pub mod Stages
+pub mod Sniffing

@@ -118,10 +118,10 @@ pub fn feed(record: Record, chunk: &[u8], tables: Tables, room: usize) -> Result
     )
 }
 
-pub fn finish(record: Record, room: usize) -> Result<Answer, String> {
+pub fn finish(record: Record, tables: Tables, room: usize) -> Result<Answer, String> {
     let mut cells: Vec<u32> = (0..room + BEHIND).map(cell_before).collect();
-    let library = calls::finish(record, &mut cells[..room]);
-    answers(library, &cells, reference::finish(record, room))
+    let library = calls::finish(record, tables.first, tables.second, &mut cells[..room]);
+    answers(library, &cells, reference::finish(record, tables, room))
 }
 
 pub fn check(encoding: u8, text: &[u8], tables: Tables) -> Result<Checked, String> {

@@ -18,7 +18,7 @@ fn fed(encoding: u8, tables: Tables, bytes: &[u8]) -> Result<(Vec<u32>, Record),
 /// What it hands out with the finish.
 fn whole(encoding: u8, tables: Tables, bytes: &[u8]) -> Result<Vec<u32>, String> {
     let (mut scalars, record) = fed(encoding, tables, bytes)?;
-    scalars.extend(compare::finish(record, record.held.into())?.output);
+    scalars.extend(compare::finish(record, tables, record.held.into())?.output);
     Ok(scalars)
 }
 

@@ -108,7 +108,7 @@ fn compare_text(
             return Ok(());
         }
     }
-    compare::finish(record, record.held.into()).map(drop)
+    compare::finish(record, tables, record.held.into()).map(drop)
 }
 
 /// All pairs with one of 16 leads, a separator behind each: long enough for the tables that a run makes.

@@ -14,6 +14,7 @@ mod fields;
 mod labels;
 mod lines;
 mod long;
+mod marks;
 mod order;
 mod program;
 mod published;
@@ -49,6 +50,7 @@ fn compare_all(number: usize, seed: u64) -> Result<(), String> {
     show("records", exhaustive::records)?;
     show("bytes and pairs", || exhaustive::pairs(&tables))?;
     show("short texts", || exhaustive::texts(&tables))?;
+    show("marks that choose", || marks::marks(&tables))?;
     show("leads of UTF-8", || exhaustive::leads(&tables))?;
     show("four bytes", || exhaustive::four_bytes(&tables))?;
     show("writers", || exhaustive::scalars(&tables))?;

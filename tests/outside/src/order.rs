@@ -55,10 +55,13 @@ fn lead(encoding: u8) -> Option<u8> {
     }
 }
 
-fn opened(encoding: u8, causes: &[u8]) -> Result<Record, String> {
-    let mut record = compare::open(encoding, 1, 0)?.record;
+/// A decoder in refusing mode. With cause 14 it has taken most of what it may; by rule 2 behind a mark of UTF-8.
+fn opened(encoding: u8, rule: u8, causes: &[u8], tables: Tables) -> Result<Record, String> {
+    let mut record = compare::open(encoding, 1, rule)?.record;
     if causes.contains(&6) {
-        record = compare::finish(record, 0)?.record;
+        record = compare::finish(record, tables, 0)?.record;
+    } else if causes.contains(&14) && rule == 2 {
+        record.stage = 2;
     }
     if causes.contains(&14) {
         record.taken = u32::MAX - 1;
@@ -92,19 +95,21 @@ fn feeds(published: &Published, calls: &mut Calls) -> Result<(), String> {
             if causes.contains(&11) && !has_errors(encoding) {
                 continue;
             }
-            // The first byte of replacement ends it in refusing mode, so it takes no more than a chunk.
-            if causes.contains(&14) && encoding == 36 {
-                continue;
-            }
-            for which in 0..2 {
-                let record = opened(encoding, &causes)?;
+            for number in 0..4 {
+                let (which, rule) = (number % 2, (number / 2 * 2) as u8);
+                // The first byte of replacement ends it in refusing mode, so that, not ended, it takes none.
+                if causes.contains(&14) && encoding == 36 && rule == 0 && !causes.contains(&6) {
+                    continue;
+                }
+                let record = opened(encoding, rule, &causes, published.tables(encoding))?;
                 let (first, second) = zeros(published, encoding, &causes, which);
                 let mut chunk = if causes.contains(&11) {
                     ERROR.to_vec()
                 } else {
                     b"\0A".to_vec()
                 };
-                if encoding == 36 && !causes.contains(&11) {
+                let utf_8 = rule == 2 && causes.contains(&14);
+                if encoding == 36 && !causes.contains(&11) && !utf_8 {
                     chunk.clear();
                 }
                 if causes.contains(&8) {
@@ -133,32 +138,52 @@ fn feeds(published: &Published, calls: &mut Calls) -> Result<(), String> {
     Ok(())
 }
 
+/// Finishes with a byte held, where there is one, by rule 0 and by rule 2 while it waits for the choice. The tables do
+/// not matter by rule 0: then 4 is no cause.
 fn finishes(published: &Published, calls: &mut Calls) -> Result<(), String> {
-    let order = [5, 6, 7, 11];
-    for encoding in 0..40 {
-        for set in 0..1 << order.len() {
-            let causes = causes(&order, set);
-            let holds = causes.contains(&7) || causes.contains(&11);
-            let chunk: Vec<u8> = lead(encoding).filter(|_| holds).into_iter().collect();
-            if holds && chunk.is_empty() {
-                continue;
-            }
-            let refusing = causes.contains(&11);
-            let open = compare::open(encoding, u8::from(refusing), 0)?.record;
-            let tables = published.tables(encoding);
-            let mut record = compare::feed(open, &chunk, tables, chunk.len())?.record;
-            let held = usize::from(record.held);
-            if causes.contains(&6) {
-                record = compare::finish(record, held)?.record;
-            }
-            if causes.contains(&5) {
-                record.third = 1;
-            }
-            let room = held - usize::from(causes.contains(&7));
-            let call = format!("finish {record:02X?}, room {room}");
-            let answer = compare::finish(record, room);
-            calls.expect(&causes, call, answer.map(|answer| answer.refusal));
+    let order = [5, 6, 4, 7, 11];
+    for number in 0..160 * (1 << order.len()) {
+        let (encoding, rule) = ((number % 40) as u8, (number / 40 % 2 * 2) as u8);
+        let which = number / 80 % 2;
+        let mut causes = causes(&order, number / 160);
+        let holds = causes.contains(&7) || causes.contains(&11);
+        let byte = match rule {
+            0 => lead(encoding),
+            _ => Some(0xEF).filter(|_| has_errors(encoding) || !causes.contains(&11)),
+        };
+        let chunk: Vec<u8> = byte.filter(|_| holds).into_iter().collect();
+        if holds && chunk.is_empty() {
+            continue;
         }
+        let refusing = causes.contains(&11);
+        let open = compare::open(encoding, u8::from(refusing), rule)?.record;
+        let (first, second) = zeros(published, encoding, &[], 0);
+        let tables = Tables {
+            first: &first,
+            second: &second,
+        };
+        let mut record = compare::feed(open, &chunk, tables, chunk.len())?.record;
+        let held = usize::from(record.held);
+        if causes.contains(&6) {
+            record = compare::finish(record, tables, held)?.record;
+        }
+        if causes.contains(&5) {
+            record.third = 1;
+        }
+        let (first, second) = zeros(published, encoding, &causes, which);
+        let tables = Tables {
+            first: &first,
+            second: &second,
+        };
+        causes.retain(|&cause| cause != 4 || rule == 2);
+        let room = held - usize::from(causes.contains(&7));
+        let call = format!(
+            "finish {record:02X?}, tables of {} and {} cells, room {room}",
+            first.len(),
+            second.len()
+        );
+        let answer = compare::finish(record, tables, room);
+        calls.expect(&causes, call, answer.map(|answer| answer.refusal));
     }
     Ok(())
 }
@@ -166,12 +191,12 @@ fn finishes(published: &Published, calls: &mut Calls) -> Result<(), String> {
 fn opens(calls: &mut Calls) {
     for encoding in 0..=255 {
         for mode in [0, 1, 2, 255] {
-            for rule in [0, 1, 2, 255] {
+            for rule in [0, 1, 2, 3, 255] {
                 let mut causes = Vec::new();
                 if encoding > 39 {
                     causes.push(2);
                 }
-                if mode > 1 || rule > 1 {
+                if mode > 1 || rule > 2 {
                     causes.push(3);
                 }
                 let call = format!("open {encoding} mode {mode} rule {rule}");

@@ -159,7 +159,12 @@ impl Reader<'_> {
 
     fn finish(&mut self) -> (u8, Vec<u32>) {
         let mut room = vec![0; usize::from(self.decoder.held)];
-        let answer = calls::finish(self.decoder, &mut room);
+        let answer = calls::finish(
+            self.decoder,
+            self.tables.first,
+            self.tables.second,
+            &mut room,
+        );
         self.decoder = answer.decoder;
         room.truncate(answer.written);
         (answer.refusal, room)

@@ -79,6 +79,8 @@ enum Call {
         forge: Option<(u8, u32)>,
     },
     Finish {
+        tables: usize,
+        flaw: usize,
         room: isize,
         forge: Option<(u8, u32)>,
     },
@@ -120,7 +122,15 @@ impl fmt::Display for Call {
                     "feed {shown:02X?} ({length} bytes) tables {tables} flaw {flaw} room {room:+} forged {forge:?}"
                 )
             }
-            Call::Finish { room, forge } => write!(to, "finish room {room:+} forged {forge:?}"),
+            Call::Finish {
+                tables,
+                flaw,
+                room,
+                forge,
+            } => write!(
+                to,
+                "finish tables {tables} flaw {flaw} room {room:+} forged {forge:?}"
+            ),
             Call::Check {
                 encoding,
                 text,
@@ -269,6 +279,11 @@ impl Lists {
 
     /// A text, seldom of about the most bytes that a call takes.
     fn chunk(&self, encoding: u8, random: &mut Random) -> Vec<u8> {
+        if random.one_in(16) {
+            // a mark, or a part of one
+            let (mark, ..) = random.pick(&reference::MARKS);
+            return mark[..1 + random.below(mark.len())].to_vec();
+        }
         let text = self.text(encoding, random);
         if !random.one_in(3000) {
             return text;
@@ -319,7 +334,7 @@ impl Lists {
             _ => random.pick(&[0, 29, 30, 31, 32, 33, 33, 34, 35, 36, 37, 38]),
         };
         let mode = if random.one_in(3) { 1 } else { 0 };
-        let rule = random.below(2) as u8;
+        let rule = random.below(3) as u8;
         match random.below(100) {
             0 => Call::Open {
                 encoding,
@@ -329,7 +344,7 @@ impl Lists {
             1 => Call::Open {
                 encoding,
                 mode,
-                rule: 255,
+                rule: random.pick(&[3, 255]),
             },
             _ => Call::Open {
                 encoding,
@@ -352,7 +367,7 @@ impl Lists {
                 1 => random.pick(EDGES).into(),
                 _ => random.number() as u32,
             };
-            (random.below(15) as u8, value)
+            (random.below(16) as u8, value)
         });
         let tables = random.below(VARIANTS);
         let flaw = if random.one_in(12) {
@@ -361,7 +376,12 @@ impl Lists {
             0
         };
         match random.below(20) {
-            0 => Call::Finish { room, forge },
+            0 => Call::Finish {
+                tables,
+                flaw,
+                room,
+                forge,
+            },
             1 => self.open(random),
             4 => Call::Check {
                 encoding,
@@ -419,6 +439,9 @@ pub fn keeps_separators(encoding: u8) -> bool {
 struct Taken {
     encoding: u8,
     mode: u8,
+    rule: u8,
+    /// The first three bytes.
+    front: Vec<u8>,
     bytes: usize,
     scalars: usize,
     line_feeds: usize,
@@ -427,8 +450,18 @@ struct Taken {
 }
 
 impl Taken {
+    /// The encoding that reads what was taken.
+    fn reads(&self) -> u8 {
+        let chosen = reference::MARKS
+            .iter()
+            .find(|(mark, ..)| self.rule == 2 && self.front.starts_with(mark));
+        chosen.map_or(self.encoding, |(_, encoding, _)| *encoding)
+    }
+
     fn after(&mut self, chunk: &[u8], output: &[u32], record: Record) -> Result<(), String> {
         let below = |number: &u32| *number < 0x30;
+        let missing = 3 - self.front.len();
+        self.front.extend(chunk.iter().take(missing));
         self.bytes += chunk.len();
         self.scalars += output.len();
         self.line_feeds += output.iter().filter(|&&scalar| scalar == 0x0A).count();
@@ -436,7 +469,7 @@ impl Taken {
             .extend(chunk.iter().map(|&byte| u32::from(byte)).filter(below));
         self.scalars_below_30
             .extend(output.iter().copied().filter(below));
-        let all = self.mode == 0 && keeps_separators(self.encoding);
+        let all = self.mode == 0 && keeps_separators(self.reads());
         if all && self.bytes_below_30 != self.scalars_below_30 {
             return Err("demand 3: a byte below 30 is lost or invented".to_string());
         }
@@ -501,6 +534,7 @@ fn forged(record: Record, forge: Option<(u8, u32)>) -> Record {
             5 => &mut record.first,
             6 => &mut record.second,
             7 => &mut record.third,
+            15 => &mut record.stage,
             _ => &mut record.ended,
         };
         *place = value as u8;
@@ -532,6 +566,7 @@ impl Place<'_> {
                 self.taken = Taken {
                     encoding: answer.record.encoding,
                     mode: answer.record.mode,
+                    rule: *rule,
                     ..Taken::default()
                 };
                 Ok(answer.refusal)
@@ -553,9 +588,16 @@ impl Place<'_> {
                 }
                 self.after(chunk, answer, forge.is_some())
             }
-            Call::Finish { room, forge } => {
+            Call::Finish {
+                tables,
+                flaw,
+                room,
+                forge,
+            } => {
                 let record = forged(self.record, *forge);
-                let answer = compare::finish(record, room_of(record.held.into(), *room))?;
+                let tables = self.lists.tables(record.encoding, *tables, *flaw);
+                let room = room_of(record.held.into(), *room);
+                let answer = compare::finish(record, tables, room)?;
                 self.after(&[], answer, forge.is_some())
             }
             Call::Check {

@@ -665,10 +665,23 @@ impl Variables {
     }
 }
 
+/// The table of "BOM sniff": the bytes of a mark, the encoding that it chooses, and the library's number for that.
+pub const MARKS: [(&[u8], u8, u8); 3] = [
+    (b"\xEF\xBB\xBF", 0, 2),
+    (b"\xFE\xFF", 37, 3),
+    (b"\xFF\xFE", 38, 4),
+];
+
 /// A decoder that has not ended.
 #[derive(Clone, Copy)]
 struct Decoder {
+    /// The encoding of the opening.
+    label: u8,
+    /// The encoding that reads, and the library's number for how it came to that.
     encoding: u8,
+    stage: u8,
+    /// The bytes that wait for a mark to choose, and how many they are; `None` where no mark is to choose.
+    waiting: Option<([u8; 2], usize)>,
     mode: u8,
     /// A byte order mark that comes now is dropped.
     drop_mark: bool,
@@ -701,7 +714,10 @@ fn line_feeds(scalars: &[u32]) -> u64 {
 impl Decoder {
     fn new(encoding: u8, mode: u8, rule: u8) -> Decoder {
         Decoder {
+            label: encoding,
             encoding,
+            stage: u8::from(rule == 2),
+            waiting: (rule == 2).then_some(([0; 2], 0)),
             mode,
             drop_mark: rule == 0 && has_mark(encoding),
             variables: Variables::new(encoding),
@@ -710,8 +726,54 @@ impl Decoder {
         }
     }
 
+    /// The bytes that it holds: those that wait for the choice, or those of the handler's variables.
+    fn held(&self) -> Vec<u8> {
+        match self.waiting {
+            Some((bytes, count)) => bytes[..count].to_vec(),
+            None => self.variables.held(),
+        }
+    }
+
+    /// Puts the waiting bytes back to the front of the queue and looks for a mark there. False while one is possible.
+    fn chooses(&mut self, queue: &mut Queue) -> bool {
+        for byte in self.held().into_iter().rev() {
+            queue.push_front(Some(byte));
+        }
+        let front: Vec<u8> = queue.iter().map_while(|&byte| byte).take(3).collect();
+        let at_end = queue.len() > bytes_of(queue) as usize;
+        if !at_end
+            && MARKS
+                .iter()
+                .any(|(mark, ..)| mark.starts_with(&front) && mark.len() > front.len())
+        {
+            let mut bytes = [0; 2];
+            bytes[..front.len()].copy_from_slice(&front);
+            self.waiting = Some((bytes, front.len()));
+            queue.clear();
+            return false;
+        }
+        self.waiting = None;
+        self.stage = 0;
+        if let Some((mark, encoding, stage)) =
+            MARKS.iter().find(|(mark, ..)| front.starts_with(mark))
+        {
+            queue.drain(..mark.len());
+            self.encoding = *encoding;
+            self.stage = *stage;
+            self.variables = Variables::new(*encoding);
+        }
+        true
+    }
+
     /// Takes the bytes of the queue and runs the handler until it is empty or the handler has finished.
     fn run(&mut self, mut queue: Queue, tables: Tables) -> Run {
+        self.taken += bytes_of(&queue);
+        if self.waiting.is_some() && !self.chooses(&mut queue) {
+            return Run {
+                output: Vec::new(),
+                error: None,
+            };
+        }
         let tables = match self.encoding {
             21 => Tables {
                 first: WINDOWS_1252.get().expect("the index is read first"),
@@ -720,7 +782,6 @@ impl Decoder {
             _ => tables,
         };
         let mut output = Vec::new();
-        self.taken += bytes_of(&queue);
         let mut error = None;
         loop {
             let (before, left) = (self.variables, bytes_of(&queue));
@@ -760,8 +821,9 @@ impl Decoder {
         let mut record = Record {
             taken: self.taken as u32,
             lines: self.lines as u32,
-            encoding: self.encoding,
+            encoding: self.label,
             mode: self.mode,
+            stage: self.stage,
             flag: u8::from(self.drop_mark),
             ..Record::default()
         };
@@ -778,7 +840,7 @@ impl Decoder {
             Variables::Replacement { error_returned } => record.flag = u8::from(error_returned),
             _ => {}
         }
-        let held = self.variables.held();
+        let held = self.held();
         record.held = held.len() as u8;
         for (field, byte) in [&mut record.first, &mut record.second, &mut record.third]
             .into_iter()
@@ -794,7 +856,7 @@ impl Decoder {
         Record {
             taken: self.taken as u32,
             lines: self.lines as u32,
-            ..ended(self.encoding, self.mode)
+            ..ended(self.label, self.mode)
         }
     }
 
@@ -874,45 +936,73 @@ struct Way {
     /// The bytes of a character that may stand before the text any number of times, and its line feeds if it is one.
     /// `None` where the decoder is then another one.
     character: Option<(u64, u64)>,
+    /// Some byte behind the text is held.
+    holds: bool,
+    /// Some byte behind the text is an error that ends the decoder at once.
+    fails: bool,
 }
 
-fn ways(encoding: u8, mode: u8) -> Vec<Way> {
+/// The short texts of which bytes an encoding's ways are made.
+fn short_texts(encoding: u8) -> Vec<Vec<u8>> {
     let longest = if encoding == 33 { 5 } else { 2 };
     let mut texts: Vec<Vec<u8>> = vec![Vec::new()];
-    let mut ways: Vec<Way> = Vec::new();
     let mut next = 0;
     while next < texts.len() {
-        let text = texts[next].clone();
-        next += 1;
-        if text.len() < longest {
+        if texts[next].len() < longest {
             for &byte in shifting(encoding) {
-                texts.push([&text[..], &[byte]].concat());
+                texts.push([&texts[next][..], &[byte]].concat());
             }
         }
-        for rule in 0..2 {
-            let Some(decoder) = after(encoding, mode, rule, &text) else {
-                continue;
-            };
-            let record = decoder.record();
-            let same = |way: &Way| {
-                untotalled(way.decoder.record()) == untotalled(record)
-                    && leads_to(way, decoder.taken, decoder.lines)
-            };
-            if record.held != 0 || ways.iter().any(same) {
-                continue;
-            }
-            let before = |character: &[u8]| {
-                after(encoding, mode, rule, &[character, &text].concat())
-                    .filter(|longer| untotalled(longer.record()) == untotalled(record))
-            };
-            let [plain, line_feed] = characters(encoding).map(before);
-            let character = plain
-                .and(line_feed)
-                .map(|longer| (longer.taken - decoder.taken, longer.lines - decoder.lines));
-            ways.push(Way { decoder, character });
-        }
+        next += 1;
+    }
+    texts
+}
+
+/// The ways of a label's encoding: by each rule, and behind each mark by the rule that lets it choose.
+fn ways(label: u8, mode: u8) -> Vec<Way> {
+    let mut ways = Vec::new();
+    for rule in 0..3 {
+        add_ways(&mut ways, label, mode, rule, (b"", label));
+    }
+    for (mark, encoding, _) in MARKS {
+        add_ways(&mut ways, label, mode, 2, (mark, encoding));
     }
     ways
+}
+
+/// Adds the ways behind a front, where an encoding reads.
+fn add_ways(ways: &mut Vec<Way>, label: u8, mode: u8, rule: u8, (front, encoding): (&[u8], u8)) {
+    for text in short_texts(encoding) {
+        let Some(decoder) = after(label, mode, rule, &[front, &text].concat()) else {
+            continue;
+        };
+        let record = decoder.record();
+        let same = |way: &Way| {
+            untotalled(way.decoder.record()) == untotalled(record)
+                && leads_to(way, decoder.taken, decoder.lines)
+        };
+        if record.held != 0 || ways.iter().any(same) {
+            continue;
+        }
+        let before = |character: &[u8]| {
+            after(label, mode, rule, &[front, character, &text].concat())
+                .filter(|longer| untotalled(longer.record()) == untotalled(record))
+        };
+        let [plain, line_feed] = characters(encoding).map(before);
+        let behind = |byte: u8| {
+            let mut decoder = decoder;
+            let run = decoder.run(Queue::from([Some(byte)]), FEW_MAPPED);
+            (run.error.is_some(), decoder.held().len() == 1)
+        };
+        ways.push(Way {
+            decoder,
+            character: plain
+                .and(line_feed)
+                .map(|longer| (longer.taken - decoder.taken, longer.lines - decoder.lines)),
+            holds: (0..=255).any(|byte| behind(byte).1),
+            fails: (0..=255).any(|byte| behind(byte).0),
+        });
+    }
 }
 
 /// Whether some text leaves a decoder holding nothing with these totals, by a way and characters before it.
@@ -930,35 +1020,11 @@ fn leads_to(way: &Way, taken: u64, lines: u64) -> bool {
     }
 }
 
-/// What texts come to in an encoding and mode.
-struct Texts {
-    ways: Vec<Way>,
-    /// Some byte is held behind a way.
-    holds: bool,
-    /// Some byte is an error that ends a decoder at once.
-    fails: bool,
-}
-
-impl Texts {
-    fn new(encoding: u8, mode: u8) -> Texts {
-        let after_byte = |byte: u8| after(encoding, mode, 1, &[byte]);
-        Texts {
-            ways: ways(encoding, mode),
-            holds: (0..=255).any(|byte| after_byte(byte).is_some_and(|d| d.record().held == 1)),
-            fails: (0..=255).any(|byte| after_byte(byte).is_none()),
-        }
-    }
-
-    fn of(encoding: u8, mode: u8) -> &'static Texts {
-        static TEXTS: [OnceLock<Texts>; 80] = [const { OnceLock::new() }; 80];
-        let number = usize::from(encoding) * 2 + usize::from(mode);
-        TEXTS[number].get_or_init(|| Texts::new(encoding, mode))
-    }
-
-    /// Whether some text leaves a decoder holding nothing with these totals.
-    fn lead_to(&self, taken: u64, lines: u64) -> bool {
-        self.ways.iter().any(|way| leads_to(way, taken, lines))
-    }
+/// The ways of a label's encoding in a mode, searched once.
+fn ways_of(label: u8, mode: u8) -> &'static [Way] {
+    static WAYS: [OnceLock<Vec<Way>>; 80] = [const { OnceLock::new() }; 80];
+    let number = usize::from(label) * 2 + usize::from(mode);
+    WAYS[number].get_or_init(|| ways(label, mode))
 }
 
 enum Known {
@@ -969,14 +1035,16 @@ enum Known {
 /// Whether some calls end a decoder with these totals: a finish with nothing or one byte held, or an error at once behind
 /// what was read, with the rest of its chunk.
 fn ends_with(record: Record) -> bool {
-    let texts = Texts::of(record.encoding, record.mode);
     let (taken, lines) = (u64::from(record.taken), u64::from(record.lines));
-    let finished = |held: u64| taken >= held && texts.lead_to(taken - held, lines);
-    let reported =
-        |rest: u64| (1..=65536.min(taken)).contains(&rest) && texts.lead_to(taken - rest, lines);
-    finished(0)
-        || texts.holds && finished(1)
-        || texts.fails && [1, 2, 3, taken].into_iter().any(reported)
+    ways_of(record.encoding, record.mode).iter().any(|way| {
+        let finished = |held: u64| taken >= held && leads_to(way, taken - held, lines);
+        let reported = |rest: u64| {
+            (1..=65536.min(taken)).contains(&rest) && leads_to(way, taken - rest, lines)
+        };
+        finished(0)
+            || way.holds && finished(1)
+            || way.fails && [1, 2, 3, taken].into_iter().any(reported)
+    })
 }
 
 /// The decoder of a record, where some calls leave it: those that feed a way with characters before it and then the
@@ -992,7 +1060,7 @@ fn decoder_of(record: Record) -> Option<Known> {
     let held = [record.first, record.second, record.third];
     let held = &held[..usize::from(record.held)];
     let taken = u64::from(record.taken).checked_sub(held.len() as u64)?;
-    for way in &Texts::of(record.encoding, record.mode).ways {
+    for way in ways_of(record.encoding, record.mode) {
         if !leads_to(way, taken, record.lines.into()) {
             continue;
         }
@@ -1048,7 +1116,7 @@ fn fits(encoding: u8, tables: Tables) -> bool {
 pub fn open(encoding: u8, mode: u8, rule: u8) -> Answer {
     match (encoding, mode, rule) {
         (40.., _, _) => refused(2, ended(0, 0)),
-        (_, 2.., _) | (_, _, 2..) => refused(3, ended(0, 0)),
+        (_, 2.., _) | (_, _, 3..) => refused(3, ended(0, 0)),
         _ => refused(0, Decoder::new(encoding, mode, rule).record()),
     }
 }
@@ -1059,7 +1127,7 @@ pub fn feed(record: Record, chunk: &[u8], tables: Tables, room: usize) -> Answer
         Some(Known::Ended) => return refused(6, record),
         Some(Known::Open(decoder)) => decoder,
     };
-    if !fits(decoder.encoding, tables) {
+    if !fits(decoder.label, tables) {
         return refused(4, record);
     }
     if chunk.len() > 65536 {
@@ -1068,24 +1136,29 @@ pub fn feed(record: Record, chunk: &[u8], tables: Tables, room: usize) -> Answer
     if decoder.taken + chunk.len() as u64 > u64::from(u32::MAX) {
         return refused(14, record);
     }
-    if room < chunk.len() + decoder.variables.held().len() {
+    if room < chunk.len() + decoder.held().len() {
         return refused(7, record);
     }
     let run = decoder.run(chunk.iter().map(|&byte| Some(byte)).collect(), tables);
     decoder.answer(run, decoder.record())
 }
 
-pub fn finish(record: Record, room: usize) -> Answer {
+pub fn finish(record: Record, tables: Tables, room: usize) -> Answer {
     let mut decoder = match decoder_of(record) {
         None => return refused(5, record),
         Some(Known::Ended) => return refused(6, record),
         Some(Known::Open(decoder)) => decoder,
     };
-    if room < decoder.variables.held().len() {
+    let waits = decoder.waiting.is_some();
+    if waits && !fits(decoder.label, tables) {
+        return refused(4, record);
+    }
+    if room < decoder.held().len() {
         return refused(7, record);
     }
-    // End-of-stream is read until the handler has finished, at most twice. No step then reads a table.
-    let run = decoder.run(Queue::from([None, None]), NO_TABLES);
+    // End-of-stream is read until the handler has finished, at most twice. Only bytes that waited are looked up.
+    let tables = if waits { tables } else { NO_TABLES };
+    let run = decoder.run(Queue::from([None, None]), tables);
     decoder.answer(run, decoder.ended())
 }
 

@@ -30,7 +30,7 @@ impl Text {
     }
 
     fn finish(&mut self, lines: &mut Vec<u8>) {
-        let answer = reference::finish(self.record, self.record.held.into());
+        let answer = reference::finish(self.record, NO_TABLES, self.record.held.into());
         self.show(&answer.output, lines);
         lines.extend(format!("end\t{}\n", self.count).bytes());
     }

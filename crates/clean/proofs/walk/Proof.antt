@@ -145,7 +145,7 @@ faulty-requires-2 : tie.Need-faulty-requires-2 Inv-loop μ-loop
 faulty-requires-2 c κs = search needs
 
 same-length-2 : tie.Need-same-length-2 Inv-loop μ-loop
-same-length-2 c = let f = c .before .before .before .before .before in f .finish .kept .1 .0 ∙ end f .loop .inv .2
+same-length-2 c = let f = c .before .before .before .before .before in f .finish .kept .1 .1 .1 .0 ∙ end f .loop .inv .2
 
 returns-2 : tie.Need-returns-2 Inv-loop μ-loop
 returns-2 c =
@@ -158,7 +158,7 @@ clean-requires : tie.Need-clean-requires Inv-loop μ-loop
 clean-requires c κs = search needs
 
 same-length-3 : tie.Need-same-length-3 Inv-loop μ-loop
-same-length-3 c = let f = c .before .before .before .before .before in f .finish .kept .1 .0 ∙ end f .loop .inv .2
+same-length-3 c = let f = c .before .before .before .before .before in f .finish .kept .1 .1 .1 .0 ∙ end f .loop .inv .2
 
 returns-3 : tie.Need-returns-3 Inv-loop μ-loop
 returns-3 c =

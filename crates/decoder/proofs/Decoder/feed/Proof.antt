@@ -71,7 +71,7 @@ within c = omega arith
 abbrev as-read : tie.Start → Held → Result
 as-read c held =
     let a = c .args in
-    readChunk (a .self .encoding) (a .self .mode) (a .self .state) (a .self .flag) held (stillToTake (a .self))
+    readChunk (a .self .encoding) (a .self .mode) (a .self .stage) (a .self .state) (a .self .flag) held (stillToTake (a .self))
     (tables c) (a .chunk .now) (a .room .now)
 
 abbrev whole : tie.After-read → Result

@@ -32,7 +32,7 @@ returns-3 : tie.Need-returns-3
 returns-3 c =
     let args = c .before .before .before .before .args in
     c .unopened3 .ensures ∙ sym (open-3 (args .encoding) (args .mode) (args .rule) (omega arith)
-    (rw (lt-ltb 1 (args .rule) (omega arith)) (or-true (ltb 1 (args .mode)))))
+    (rw (lt-ltb 2 (args .rule) (omega arith)) (or-true (ltb 1 (args .mode)))))
 
 new-requires : tie.Need-new-requires
 new-requires c κs = search needs

@@ -1,48 +1,43 @@
-use borrow.Author.Tests.{eq-eqb, ne-eqb}
 use mathlib.Core.Path.{sym, _∙_}
+use Prim.Native.Nat.{ℕ, _+_}
 use native.Mathlib.Omega.{arith}
 use borrow.Author.Needs.{needs}
-use Rattle.decoder.proofs.Numbers.{totals-is, half}
+use borrow.Author.Tests.{le-leb, lt-leb}
+use Rattle.decoder.specs.Code.{mostLines}
+use Rattle.decoder.proofs.Numbers.{totals-is, behind-mark}
 use Rattle.decoder.proofs.refusals.ended_totals.Statement.{statement}
 use Rattle.decoder.proofs.refusals.ended_totals.Tie as tie
 
-replaced-totals-requires : tie.Need-replaced-totals-requires
-replaced-totals-requires c κs = search needs
+-- the most line feeds of the label's encoding
+abbrev most : tie.Start → ℕ
+most c = mostLines (c .args .encoding) (c .args .n)
+
+most-lines-requires : tie.Need-most-lines-requires
+most-lines-requires c κs = search needs
 
 returns : tie.Need-returns
 returns c =
-    let args = c .before .before .args in
-    let is = totals-is (args .encoding) (args .mode) (args .n) (args .l) in
-    c .replaced-totals .ensures ∙ sym (is ∙ rw (eq-eqb (args .encoding) 36 (omega arith)))
+    let at-most = c .before in
+    let args = at-most .before .args in
+    sym (totals-is (args .encoding) (args .n) (args .l) ∙
+    rw (le-leb (args .l) (most (at-most .before)) (omega (arith, at-most .most-lines .ensures))))
 
 returns-2 : tie.Need-returns-2
 returns-2 c =
-    let args = c .before .before .args in
-    let is = totals-is (args .encoding) (args .mode) (args .n) (args .l) in
-    half (args .n) (args .l) ∙
-    sym (is ∙ rw (ne-eqb (args .encoding) 36 (omega arith), eq-eqb (args .encoding) 37 (omega arith)))
+    let at-most = c .before .before in
+    let args = at-most .before .args in
+    sym (totals-is (args .encoding) (args .n) (args .l) ∙
+    rw (
+      lt-leb (args .l) (most (at-most .before)) (omega (arith, at-most .most-lines .ensures)),
+      lt-leb (args .l + 3) (args .n) (omega arith),
+    ))
 
 returns-3 : tie.Need-returns-3
 returns-3 c =
-    let args = c .before .before .before .args in
-    let is = totals-is (args .encoding) (args .mode) (args .n) (args .l) in
-    half (args .n) (args .l) ∙
-    sym (is ∙ rw (
-      ne-eqb (args .encoding) 36 (omega arith),
-      ne-eqb (args .encoding) 37 (omega arith),
-      eq-eqb (args .encoding) 38 (omega arith),
-    ))
-
-returns-4 : tie.Need-returns-4
-returns-4 c =
-    let args = c .before .before .before .args in
-    let is = totals-is (args .encoding) (args .mode) (args .n) (args .l) in
-    sym (is ∙ rw (
-      ne-eqb (args .encoding) 36 (omega arith),
-      ne-eqb (args .encoding) 37 (omega arith),
-      ne-eqb (args .encoding) 38 (omega arith),
-    ))
+    let at-most = c .before .before in
+    let args = at-most .before .args in
+    behind-mark (args .n) (args .l) (omega arith) ∙ sym (totals-is (args .encoding) (args .n) (args .l) ∙
+    rw (lt-leb (args .l) (most (at-most .before)) (omega (arith, at-most .most-lines .ensures))))
 
 pub ended-totals-spec : {M : Type 1} → statement M
-ended-totals-spec =
-    tie.close (tie.spec replaced-totals-requires returns returns-2 returns-3 returns-4)
+ended-totals-spec = tie.close (tie.spec most-lines-requires returns returns-2 returns-3)

@@ -39,48 +39,37 @@ returns-3 c =
       eq-eqb (args .encoding) 36 (omega arith),
     ))
 
+utf-16-requires : tie.Need-utf-16-requires
+utf-16-requires c κs = search needs
+
 paired-requires : tie.Need-paired-requires
 paired-requires c κs = search needs
 
 returns-4 : tie.Need-returns-4
 returns-4 c =
-    let args = c .before .before .before .before .before .args in
+    let at-test = c .before .before in
+    let args = at-test .before .before .before .before .args in
     let is = possible-is (args .encoding) (args .mode) (shift (args .state) (eqb (args .flag) 1)) (args .c) (args .l) in
     c .paired .ensures ∙ sym (is ∙ rw (
       ne-eqb (args .encoding) 0 (omega arith),
       ne-eqb (args .encoding) 33 (omega arith),
       ne-eqb (args .encoding) 36 (omega arith),
-      eq-eqb (args .encoding) 37 (omega arith),
-    ))
-
-paired-requires-2 : tie.Need-paired-requires-2
-paired-requires-2 c κs = search needs
-
-returns-5 : tie.Need-returns-5
-returns-5 c =
-    let args = c .before .before .before .before .before .before .args in
-    let is = possible-is (args .encoding) (args .mode) (shift (args .state) (eqb (args .flag) 1)) (args .c) (args .l) in
-    c .paired2 .ensures ∙ sym (is ∙ rw (
-      ne-eqb (args .encoding) 0 (omega arith),
-      ne-eqb (args .encoding) 33 (omega arith),
-      ne-eqb (args .encoding) 36 (omega arith),
-      ne-eqb (args .encoding) 37 (omega arith),
-      eq-eqb (args .encoding) 38 (omega arith),
+      sym (at-test .utf-16 .ensures) ∙ c .before .if4 .taken,
     ))
 
 unshifted-requires : tie.Need-unshifted-requires
 unshifted-requires c κs = search needs
 
-returns-6 : tie.Need-returns-6
-returns-6 c =
-    let args = c .before .before .before .before .before .before .args in
+returns-5 : tie.Need-returns-5
+returns-5 c =
+    let at-test = c .before .before in
+    let args = at-test .before .before .before .before .args in
     let is = possible-is (args .encoding) (args .mode) (shift (args .state) (eqb (args .flag) 1)) (args .c) (args .l) in
     c .unshifted .ensures ∙ sym (is ∙ rw (
       ne-eqb (args .encoding) 0 (omega arith),
       ne-eqb (args .encoding) 33 (omega arith),
       ne-eqb (args .encoding) 36 (omega arith),
-      ne-eqb (args .encoding) 37 (omega arith),
-      ne-eqb (args .encoding) 38 (omega arith),
+      sym (at-test .utf-16 .ensures) ∙ c .before .if4 .left,
     ))
 
 pub possible-spec : {M : Type 1} → statement M
@@ -93,9 +82,8 @@ possible-spec =
     returns-2
     replaced-requires
     returns-3
+    utf-16-requires
     paired-requires
     returns-4
-    paired-requires-2
-    returns-5
     unshifted-requires
-    returns-6)
+    returns-5)

@@ -24,8 +24,8 @@ returns-2 c =
     let d = start (c .before) .args .d in
     sym (rest-open d (omega arith) ∙ rw (lt-leb (d .held) (d .taken) (omega arith)))
 
-possible-requires : tie.Need-possible-requires
-possible-requires c κs = search needs
+possible-at-requires : tie.Need-possible-at-requires
+possible-at-requires c κs = search needs
 
 started-requires : tie.Need-started-requires
 started-requires c κs = search needs
@@ -35,16 +35,16 @@ returns-3 c =
     let at-possible = c .before .before in
     let d = start (at-possible .before .before .before) .args .d in
     c .started .ensures ∙ sym (rest-open d (omega arith) ∙
-    rw (le-leb (d .held) (d .taken) (omega arith), sym (at-possible .possible .ensures) ∙ c .before .if3 .taken))
+    rw (le-leb (d .held) (d .taken) (omega arith), sym (at-possible .possible-at .ensures) ∙ c .before .if3 .taken))
 
 returns-4 : tie.Need-returns-4
 returns-4 c =
     let at-possible = c .before in
     let d = start (at-possible .before .before .before) .args .d in
     sym (rest-open d (omega arith) ∙
-    rw (le-leb (d .held) (d .taken) (omega arith), sym (at-possible .possible .ensures) ∙ c .if3 .left))
+    rw (le-leb (d .held) (d .taken) (omega arith), sym (at-possible .possible-at .ensures) ∙ c .if3 .left))
 
 pub valid-rest-spec : {M : Type 1} → statement M
 valid-rest-spec =
     tie.close
-    (tie.spec valid-ended-requires returns cast-held returns-2 possible-requires started-requires returns-3 returns-4)
+    (tie.spec valid-ended-requires returns cast-held returns-2 possible-at-requires started-requires returns-3 returns-4)

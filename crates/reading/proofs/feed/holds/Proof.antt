@@ -32,8 +32,8 @@ byte-at-requires-3 c κs = search needs
 bit-requires : tie.Need-bit-requires
 bit-requires c κs = search needs
 
-cast-t16 : tie.Need-cast-t16
-cast-t16 c = search needs
+cast-t17 : tie.Need-cast-t17
+cast-t17 c = search needs
 
 returns : tie.Need-returns
 returns c =
@@ -45,6 +45,7 @@ returns c =
     (args .held)
     (args .chunk .now)
     (args .at)
+    (args .stage)
     (args .state)
     (args .flag)
     (args .written)
@@ -74,5 +75,5 @@ holds-spec =
     add-byte-at-2
     byte-at-requires-3
     bit-requires
-    cast-t16
+    cast-t17
     returns)

@@ -6,7 +6,8 @@ use lib.ListN.{length}
 use native.Mathlib.Omega.{arith}
 use borrow.Author.Needs.{needs}
 use Rattle.reading.specs.Reading.{Result}
-use Rattle.reading.proofs.Loop.{Args, Running, start-running, carried, turn-done, turn-few, turn-more, turn-width, turn-space, turn-report, turn-fewer, turn-on, stops-no, stops-yes}
+use Rattle.reading.proofs.Loop.{Args, Running, start-running, carried, turn-done, turn-few, turn-more, turn-width}
+use Rattle.reading.proofs.Loop.{turn-space, turn-report, turn-fewer, turn-at, turn-on, stops-no, stops-yes}
 use Rattle.reading.proofs.feed.read_all.Statement.{statement}
 use Rattle.reading.proofs.feed.read_all.Tie as tie
 
@@ -14,20 +15,41 @@ use Rattle.reading.proofs.feed.read_all.Tie as tie
 -- where `lines` line feeds are written.
 -- The bytes behind `at` fall at each turn, since a run goes on and a sequence has a byte or more.
 abbrev Inv-loop : tie.InvT-loop
-Inv-loop encoding mode held chunk t1 t2 room₀ state flag at₀ s₀ f₀ written₀ lines₀ room at s f written lines =
-    Running (record { encoding = encoding; mode = mode; held = held; chunk = chunk; first = t1; second = t2; state = state; flag = flag }) room₀ room at s f written lines
+Inv-loop encoding mode stage held chunk t1 t2 mark room₀ state flag at₀ s₀ f₀ written₀ lines₀ room at s f written lines =
+    Running (record {
+      encoding = encoding;
+      mode = mode;
+      stage = stage;
+      held = held;
+      chunk = chunk;
+      first = t1;
+      second = t2;
+      mark = mark;
+      state = state;
+      flag = flag;
+    }) room₀ room at s f written lines
 
 abbrev μ-loop : tie.MeasureT-loop
-μ-loop encoding mode held chunk t1 t2 room₀ state flag at₀ s₀ f₀ written₀ lines₀ room at s f written lines = held .count + length chunk - at
+μ-loop encoding mode stage held chunk t1 t2 mark room₀ state flag at₀ s₀ f₀ written₀ lines₀ room at s f written lines =
+    held .count + length chunk - at
 
 -- how the loop was called, and its room at the start
 abbrev start : tie.At-loop Inv-loop μ-loop → tie.Start Inv-loop μ-loop
 start c = c .before .before .before .before .before
 
-abbrev called : tie.At-loop Inv-loop μ-loop → Args
-called c =
-    let a = start c .args in
-    record { encoding = a .encoding; mode = a .mode; held = a .held; chunk = a .chunk .now; first = a .t1 .now; second = a .t2 .now; state = a .state; flag = a .flag }
+abbrev call : tie.Start Inv-loop μ-loop → Args
+call c = let a = c .args in record {
+  encoding = a .encoding;
+  mode = a .mode;
+  stage = a .stage;
+  held = a .held;
+  chunk = a .chunk .now;
+  first = a .t1 .now;
+  second = a .t2 .now;
+  mark = a .mark;
+  state = a .state;
+  flag = a .flag;
+}
 
 -- after the run of a turn: the loop's head, the run, and what holds behind it
 abbrev head : tie.After-struct-known Inv-loop μ-loop → tie.At-loop Inv-loop μ-loop
@@ -37,7 +59,7 @@ abbrev run : tie.After-struct-known Inv-loop μ-loop → tie.After-run-from Inv-
 run c = c .before .before .before
 
 abbrev Behind : tie.After-struct-known Inv-loop μ-loop → Type 0
-Behind c = (room : List ℕ) × Running (called (head c)) (start (head c) .args .room .now) room (run c .run-from .result .at)
+Behind c = (room : List ℕ) × Running (call (start (head c))) (start (head c) .args .room .now) room (run c .run-from .result .at)
     (run c .run-from .result .state) (run c .run-from .result .flag) (run c .run-from .result .written)
     (head c .loop .lines + run c .run-from .result .lines)
 
@@ -54,13 +76,8 @@ ran c = carry (c .before)
 
 loop-holds : tie.Need-loop-holds Inv-loop μ-loop
 loop-holds c =
-    let a = c .before .before .before .before .args in
-    start-running
-    (record { encoding = a .encoding; mode = a .mode; held = a .held; chunk = a .chunk .now; first = a .t1 .now; second = a .t2 .now; state = a .state; flag = a .flag })
-    (a .room .now)
-    (omega arith)
-    (omega arith)
-    (omega arith)
+    let begin = c .before .before .before .before in
+    start-running (call begin) (begin .args .room .now) (omega arith) (omega arith) (omega arith) (omega arith)
 
 run-from-requires : tie.Need-run-from-requires Inv-loop μ-loop
 run-from-requires c κs = let R = c .before .loop .inv in (R .few, R .short, R .place, R .space)
@@ -128,7 +145,8 @@ returns-3 c =
     let at-stops = c .before .before in
     let at-sequence = found (whole at-stops) .sequence-at in
     let k = stops-yes _ _ (sym (at-stops .stops .ensures) ∙ c .before .if3 .taken) in
-    let e = turn-report (ran (behind (whole at-stops)) .1) (at-sequence .result) (at-sequence .ensures) (at-stops .before .if2 .left) (k .0) (k .1) in
+    let e = turn-report (ran (behind (whole at-stops)) .1) (at-sequence .result) (at-sequence .ensures) (at-stops .before .if2 .left)
+    (k .0) (k .1) in
     (c .ended .ensures ∙ ap (λ (o : Result). o .left) (sym e), ap (λ (o : Result). o .room) (sym e))
 
 -- no error that ends it
@@ -152,14 +170,7 @@ add-lines-2 c =
     let at-stops = on (turned c) in
     let at-sequence = found (whole at-stops) .sequence-at in
     let R = ran (behind (whole at-stops)) .1 in
-    let z = at-stops .before .if2 .left in
-    omega (
-      arith,
-      c .feeds .ensures,
-      turn-fewer R (at-sequence .result) (at-sequence .ensures) z,
-      turn-space R (at-sequence .result) (at-sequence .ensures) z,
-      R .size,
-    )
+    omega (arith, c .feeds .ensures, turn-fewer R (at-sequence .result) (at-sequence .ensures) (at-stops .before .if2 .left))
 
 cast-at : tie.Need-cast-at Inv-loop μ-loop
 cast-at c = search needs
@@ -169,8 +180,7 @@ add-at c =
     let at-stops = on (turned (c .before)) in
     let at-sequence = found (whole at-stops) .sequence-at in
     let R = ran (behind (whole at-stops)) .1 in
-    let width = turn-width R (at-sequence .result) (at-sequence .ensures) (at-stops .before .if2 .left) in
-    omega (arith, R .few, R .short, R .place, width .1)
+    omega (arith, turn-at R (at-sequence .result) (at-sequence .ensures) (at-stops .before .if2 .left))
 
 loop-less : tie.Need-loop-less Inv-loop μ-loop
 loop-less c =
@@ -187,7 +197,8 @@ loop-again c =
     let at-stops = on (turned at-feeds) in
     let at-sequence = found (whole at-stops) .sequence-at in
     let goes = stops-no _ _ (sym (at-stops .stops .ensures) ∙ turned at-feeds .before .if3 .left) in
-    rw (at-put .ensures .0, at-put .ensures .1, at-feeds .feeds .ensures) (turn-on (ran (behind (whole at-stops)) .1) (at-sequence .result) (at-sequence .ensures) (at-stops .before .if2 .left) goes)
+    rw (at-put .ensures .0, at-put .ensures .1, at-feeds .feeds .ensures)
+    (turn-on (ran (behind (whole at-stops)) .1) (at-sequence .result) (at-sequence .ensures) (at-stops .before .if2 .left) goes)
 
 pub read-all-spec : {M : Type 1} → statement M
 read-all-spec =
