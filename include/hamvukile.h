@@ -44,14 +44,14 @@ extern "C" {
 
 /* ---- Version --------------------------------------------------------------------------------------------------- */
 
-#define HAMVUKILE_VERSION "0.3.0"
+#define HAMVUKILE_VERSION "0.4.0"
 #define HAMVUKILE_VERSION_MAJOR 0
-#define HAMVUKILE_VERSION_MINOR 3
+#define HAMVUKILE_VERSION_MINOR 4
 #define HAMVUKILE_VERSION_PATCH 0
 
 /* The version as one number: 10,000 times major, 100 times minor, and patch. Records and calls of another version may
  * differ, so a program that finds another number than this in the library has been linked with the wrong one. */
-#define HAMVUKILE_VERSION_NUMBER 300
+#define HAMVUKILE_VERSION_NUMBER 400
 
 /* The version of the library. */
 uint32_t hamvukile_version(void);
@@ -266,6 +266,25 @@ hamvukile_answer hamvukile_feed(hamvukile_decoder decoder, const uint8_t *chunk,
  * HAMVUKILE_WRONG_TABLE, HAMVUKILE_SMALL_ROOM, in this order; then, in refusing mode, HAMVUKILE_MALFORMED. */
 hamvukile_answer hamvukile_finish(hamvukile_decoder decoder, const uint32_t *first, size_t first_length,
                                   const uint32_t *second, size_t second_length, uint32_t *room, size_t room_length);
+
+/* What feed and finish answer of a decoder that is lent: as `hamvukile_answer`, without the decoder. */
+typedef struct {
+    size_t written;
+    uint32_t place;
+    uint32_t line;
+    uint8_t refusal;
+} hamvukile_reply;
+
+/* The same two calls on a decoder that is lent and altered where it stands: the reply is the answer that
+ * `hamvukile_feed` and `hamvukile_finish` give for *decoder, and *decoder is then the decoder of that answer; a refused
+ * call leaves it as it was. `decoder` has to be valid, and the room may not overlap it. One decoder may be fed in both
+ * forms in turn. */
+hamvukile_reply hamvukile_feed_in_place(hamvukile_decoder *decoder, const uint8_t *chunk, size_t chunk_length,
+                                        const uint32_t *first, size_t first_length, const uint32_t *second,
+                                        size_t second_length, uint32_t *room, size_t room_length);
+hamvukile_reply hamvukile_finish_in_place(hamvukile_decoder *decoder, const uint32_t *first, size_t first_length,
+                                          const uint32_t *second, size_t second_length, uint32_t *room,
+                                          size_t room_length);
 
 /* What `hamvukile_check` answers. */
 typedef struct {

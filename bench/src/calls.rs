@@ -1,7 +1,7 @@
 //! The cost of single calls: an empty feed, a label, the lines of an index file.
 
 use crate::data::{Indexes, ENCODINGS};
-use crate::decoders::{Decoder, Host, Ours};
+use crate::decoders::{Decoder, Host, Lent, Ours};
 use crate::measure::{self, nanoseconds};
 use crate::simple::Simple;
 use crate::table::{rate, Counts};
@@ -17,21 +17,22 @@ fn empty<D: Decoder>(mut decoder: D, rounds: usize) -> f64 {
     })
 }
 
-/// A feed of an empty chunk.
+/// A feed of an empty chunk: the decoder handed over, and lent.
 pub fn empty_feeds(indexes: &Indexes) -> Result<(), String> {
     let rounds = 200;
     println!();
     println!("Feed of an empty chunk, in nanoseconds");
     println!(
-        "{:<24} {:>7} {:>7} {:>7}",
-        "encoding", "ours", "simple", "iconv"
+        "{:<24} {:>7} {:>7} {:>7} {:>7}",
+        "encoding", "ours", "lent", "simple", "iconv"
     );
     for encoding in ENCODINGS {
         let tables = indexes.tables(encoding);
         println!(
-            "{:<24} {:>7.1} {:>7.1} {:>7.1}",
+            "{:<24} {:>7.1} {:>7.1} {:>7.1} {:>7.1}",
             encoding.name(),
             empty(Ours::open(encoding, tables), rounds),
+            empty(Lent::open(encoding, tables), rounds),
             empty(Simple::open(encoding, tables), rounds),
             empty(Host::open(encoding)?, rounds),
         );

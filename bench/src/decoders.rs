@@ -56,6 +56,33 @@ impl Decoder for Ours<'_> {
     }
 }
 
+/// The library, with a decoder that is lent to each call.
+pub struct Lent<'a>(Ours<'a>);
+
+impl<'a> Lent<'a> {
+    pub fn open(encoding: Encoding, tables: Tables<'a>) -> Lent<'a> {
+        Lent(Ours::open(encoding, tables))
+    }
+}
+
+impl Decoder for Lent<'_> {
+    type Unit = u32;
+
+    fn feed(&mut self, chunk: &[u8], room: &mut [u32]) -> usize {
+        let Ours { decoder, tables } = &mut self.0;
+        let reply = calls::feed_in_place(decoder, chunk, tables.first, tables.second, room);
+        assert_eq!(reply.refusal, 0);
+        reply.written
+    }
+
+    fn finish(&mut self, room: &mut [u32]) -> usize {
+        let Ours { decoder, tables } = &mut self.0;
+        let reply = calls::finish_in_place(decoder, tables.first, tables.second, room);
+        assert_eq!(reply.refusal, 0);
+        reply.written
+    }
+}
+
 impl Decoder for Simple<'_> {
     type Unit = u32;
 

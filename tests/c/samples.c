@@ -381,6 +381,47 @@ static void choices(void) {
     check("5: fewer bytes than the mark has", finish(b.decoder, jis, room, 0).refusal == HAMVUKILE_FORGED_DECODER);
 }
 
+/* A decoder that is lent, in turn with one that is handed over: the same answers, and a refused call leaves it. */
+static void in_place(void) {
+    static const uint8_t text[] = "a\n\xE2\x82\xAC" "b\xFF\n\xE2";
+    uint32_t room[16], other[16];
+    unsigned mix, at;
+    for (mix = 0; mix < 1024; mix++) {
+        hamvukile_decoder d = hamvukile_open(0, HAMVUKILE_REPLACING, HAMVUKILE_DROP_MARK).decoder, before;
+        hamvukile_answer a;
+        hamvukile_reply r;
+        for (at = 0; at < 10; at++) {
+            size_t i;
+            before = d;
+            /* too small a room, and then room enough */
+            r = hamvukile_feed_in_place(&d, text + at, 1, NULL, 0, NULL, 0, room, d.held);
+            check("7: a lent decoder stays", r.refusal == HAMVUKILE_SMALL_ROOM && r.written == 0 && same_decoder(d, before));
+            a = hamvukile_feed(d, text + at, at < 9, NULL, 0, NULL, 0, room, 4);
+            if (mix >> at & 1) {
+                d = a.decoder;
+                continue;
+            }
+            r = hamvukile_feed_in_place(&d, text + at, at < 9, NULL, 0, NULL, 0, other, 4);
+            check("lent: the answer", r.written == a.written && r.place == a.place && r.line == a.line && r.refusal == a.refusal);
+            check("lent: the decoder", same_decoder(d, a.decoder));
+            for (i = 0; i < a.written; i++) check("lent: the scalars", room[i] == other[i]);
+        }
+        before = d;
+        r = hamvukile_finish_in_place(&d, NULL, 0, NULL, 0, room, 0);
+        check("7: a finish leaves a lent decoder", r.refusal == HAMVUKILE_SMALL_ROOM && same_decoder(d, before));
+        a = hamvukile_finish(d, NULL, 0, NULL, 0, room, 1);
+        r = hamvukile_finish_in_place(&d, NULL, 0, NULL, 0, other, 1);
+        check("lent: finish", r.refusal == 0 && r.written == 1 && other[0] == 0xFFFD && same_decoder(d, a.decoder) && d.ended == 1);
+        r = hamvukile_finish_in_place(&d, NULL, 0, NULL, 0, other, 1);
+        check("6: a second finish", r.refusal == HAMVUKILE_ENDED_DECODER && same_decoder(d, a.decoder));
+    }
+    {
+        hamvukile_decoder d = hamvukile_open(0, HAMVUKILE_REFUSING, HAMVUKILE_DROP_MARK).decoder;
+        hamvukile_reply r = hamvukile_feed_in_place(&d, text, 8, NULL, 0, NULL, 0, room, 8);
+        check("11: place and line of a reply", r.refusal == HAMVUKILE_MALFORMED && r.written == 4 && r.place == 6 && r.line == 2 && d.ended == 1 && d.taken == 8);
+    }
+}
+
 /* Labels and names. */
 static void labels(void) {
     hamvukile_found f = hamvukile_label((const uint8_t *)" Latin1", 7);
@@ -513,6 +554,7 @@ int main(void) {
     part("clean lists", lists);
     part("writing, with sample 15", writing);
     part("marks that choose in every cut", choices);
+    part("a decoder that is lent", in_place);
     part("refusals, with sample 16", refusals);
     part("labels and names", labels);
     part("constants of the header", constants);

@@ -1,6 +1,6 @@
 //! The calls of `include/hamvukile.h`, with slices for pointers and lengths. They answer as they do through C.
 
-use crate::ffi::{self, Answer, Checked, Decoder, Found, Line, Named, Written};
+use crate::ffi::{self, Answer, Checked, Decoder, Found, Line, Named, Reply, Written};
 
 #[inline]
 pub fn version() -> u32 {
@@ -61,6 +61,51 @@ pub fn finish(decoder: Decoder, first: &[u32], second: &[u32], room: &mut [u32])
     // SAFETY: each slice is valid for its length; the room, borrowed mutably, overlaps no other.
     unsafe {
         ffi::hamvukile_finish(
+            decoder,
+            first.as_ptr(),
+            first.len(),
+            second.as_ptr(),
+            second.len(),
+            room.as_mut_ptr(),
+            room.len(),
+        )
+    }
+}
+
+#[inline]
+pub fn feed_in_place(
+    decoder: &mut Decoder,
+    chunk: &[u8],
+    first: &[u32],
+    second: &[u32],
+    room: &mut [u32],
+) -> Reply {
+    // SAFETY: each slice is valid for its length; decoder and room, borrowed mutably, overlap nothing.
+    unsafe {
+        ffi::hamvukile_feed_in_place(
+            decoder,
+            chunk.as_ptr(),
+            chunk.len(),
+            first.as_ptr(),
+            first.len(),
+            second.as_ptr(),
+            second.len(),
+            room.as_mut_ptr(),
+            room.len(),
+        )
+    }
+}
+
+#[inline]
+pub fn finish_in_place(
+    decoder: &mut Decoder,
+    first: &[u32],
+    second: &[u32],
+    room: &mut [u32],
+) -> Reply {
+    // SAFETY: each slice is valid for its length; decoder and room, borrowed mutably, overlap nothing.
+    unsafe {
+        ffi::hamvukile_finish_in_place(
             decoder,
             first.as_ptr(),
             first.len(),

@@ -48,6 +48,14 @@ pub struct Answer {
 }
 
 #[repr(C)]
+pub struct Reply {
+    pub written: usize,
+    pub place: u32,
+    pub line: u32,
+    pub refusal: u8,
+}
+
+#[repr(C)]
 pub struct Checked {
     pub place: u32,
     pub line: u32,
@@ -93,6 +101,26 @@ extern "C" {
         room: *mut u32,
         room_length: usize,
     ) -> Answer;
+    pub fn hamvukile_feed_in_place(
+        decoder: *mut Decoder,
+        chunk: *const u8,
+        chunk_length: usize,
+        first: *const u32,
+        first_length: usize,
+        second: *const u32,
+        second_length: usize,
+        room: *mut u32,
+        room_length: usize,
+    ) -> Reply;
+    pub fn hamvukile_finish_in_place(
+        decoder: *mut Decoder,
+        first: *const u32,
+        first_length: usize,
+        second: *const u32,
+        second_length: usize,
+        room: *mut u32,
+        room_length: usize,
+    ) -> Reply;
     pub fn hamvukile_check(
         encoding: u8,
         text: *const u8,

@@ -18,7 +18,10 @@
 //! ```
 #![warn(missing_docs)]
 
+// The tests and the benchmark use all of the calls, this wrapper some.
+#[allow(dead_code)]
 mod calls;
+#[allow(dead_code)]
 mod ffi;
 
 use std::fmt;
@@ -41,7 +44,7 @@ const MAX_NAME: usize = 14;
 /// The version of the library that is linked: 10,000 times major, 100 times minor, and patch.
 ///
 /// ```
-/// assert_eq!(hamvukile::version(), 300); // 0.3.0
+/// assert_eq!(hamvukile::version(), 400); // 0.4.0
 /// ```
 pub fn version() -> u32 {
     calls::version()
@@ -174,7 +177,7 @@ fn refused(refusal: u8) -> Error {
 }
 
 /// What a decoder's call comes to.
-fn decoded(answer: &ffi::Answer) -> Result<usize, Error> {
+fn decoded(answer: &ffi::Reply) -> Result<usize, Error> {
     match answer.refusal {
         0 => Ok(answer.written),
         n => Err(Error {
@@ -529,9 +532,14 @@ impl Decoder {
         tables: &Tables<'_>,
         room: &mut [u32],
     ) -> Result<usize, Error> {
-        let answer = calls::feed(self.state, chunk, tables.first, tables.second, room);
-        self.state = answer.decoder;
-        decoded(&answer)
+        let state = &mut self.state;
+        decoded(&calls::feed_in_place(
+            state,
+            chunk,
+            tables.first,
+            tables.second,
+            room,
+        ))
     }
 
     /// The end of the text: writes what the bytes held give, and returns how many scalars. The decoder has ended then.
@@ -541,9 +549,13 @@ impl Decoder {
         tables: &Tables<'_>,
         room: &mut [u32; MAX_HELD],
     ) -> Result<usize, Error> {
-        let answer = calls::finish(self.state, tables.first, tables.second, room);
-        self.state = answer.decoder;
-        decoded(&answer)
+        let state = &mut self.state;
+        decoded(&calls::finish_in_place(
+            state,
+            tables.first,
+            tables.second,
+            room,
+        ))
     }
 }
 

@@ -5,22 +5,24 @@ ghost use Rattle.standard.specs.Encodings.{lent};
 ghost use Rattle.labels_spec.specs.Labels.{label, naming};
 ghost use Rattle.index_spec.specs.IndexCall.{indexLine};
 ghost use Rattle.decoder.specs.Calls.{opening, feeding, finishing};
+ghost use Rattle.in_place.specs.Replies.{Leaves};
 ghost use Rattle.clean.specs.Checking.{checking};
 ghost use Rattle.encoder_spec.specs.Writer.{writerCall};
 use clean::Checked;
 use decoder::Answer;
 use decoder::Decoder;
 use encoder_spec::Written;
+use in_place::Reply;
 use index_spec::Line;
 use labels_spec::Found;
 use labels_spec::Named;
 
-// The version of the library, 0.3.0: 10,000 times major, 100 times minor, and patch.
+// The version of the library, 0.4.0: 10,000 times major, 100 times minor, and patch.
 #[no_mangle]
 pub extern "C" fn hamvukile_version() -> u32
-    ensures { λ r. ⌜ r ≡ 300 ⌝ }
+    ensures { λ r. ⌜ r ≡ 400 ⌝ }
 {
-    300
+    400
 }
 
 // The label call.
@@ -86,6 +88,36 @@ pub extern "C" fn hamvukile_finish(
         (now (room .exit) ≡ finishing decoder (lent (now (first .entry)) (now (second .entry))) (now (room .entry)) .room) ⌝ }
 {
     decoder.finish(first, second, room)
+}
+
+// Feed, on a decoder that is lent.
+#[no_mangle]
+pub extern "C" fn hamvukile_feed_in_place(
+    decoder: &mut Decoder,
+    chunk: &[u8],
+    first: &[u32],
+    second: &[u32],
+    room: &mut [u32],
+) -> Reply
+    ensures { λ r. ⌜ Leaves
+        (feeding (now (decoder .entry)) (lent (now (first .entry)) (now (second .entry))) (now (chunk .entry)) (now (room .entry)))
+        r (now (decoder .exit)) (now (room .exit)) ⌝ }
+{
+    in_place::feed(decoder, chunk, first, second, room)
+}
+
+// Finish, on a decoder that is lent.
+#[no_mangle]
+pub extern "C" fn hamvukile_finish_in_place(
+    decoder: &mut Decoder,
+    first: &[u32],
+    second: &[u32],
+    room: &mut [u32],
+) -> Reply
+    ensures { λ r. ⌜ Leaves (finishing (now (decoder .entry)) (lent (now (first .entry)) (now (second .entry))) (now (room .entry)))
+        r (now (decoder .exit)) (now (room .exit)) ⌝ }
+{
+    in_place::finish(decoder, first, second, room)
 }
 
 // Is a list clean?

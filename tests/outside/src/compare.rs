@@ -102,6 +102,18 @@ pub fn open(encoding: u8, mode: u8, rule: u8) -> Result<Answer, String> {
         .map_err(|error| format!("open {encoding} mode {mode} rule {rule}: {error}"))
 }
 
+/// The answer of a call on a lent decoder, with the decoder as the call left it.
+fn answer_of(reply: ffi::Reply, decoder: Record) -> ffi::Answer {
+    ffi::Answer {
+        written: reply.written,
+        place: reply.place,
+        line: reply.line,
+        refusal: reply.refusal,
+        decoder,
+    }
+}
+
+/// A feed in both forms: by value, and on a lent decoder.
 pub fn feed(record: Record, chunk: &[u8], tables: Tables, room: usize) -> Result<Answer, String> {
     let mut cells: Vec<u32> = (0..room + BEHIND).map(cell_before).collect();
     let library = calls::feed(
@@ -111,17 +123,32 @@ pub fn feed(record: Record, chunk: &[u8], tables: Tables, room: usize) -> Result
         tables.second,
         &mut cells[..room],
     );
-    answers(
+    let reference = answers(
         library,
         &cells,
         reference::feed(record, chunk, tables, room),
-    )
+    )?;
+    let mut lent = record;
+    let mut again: Vec<u32> = (0..room + BEHIND).map(cell_before).collect();
+    let reply = calls::feed_in_place(
+        &mut lent,
+        chunk,
+        tables.first,
+        tables.second,
+        &mut again[..room],
+    );
+    answers(answer_of(reply, lent), &again, reference).map_err(|error| format!("lent, {error}"))
 }
 
+/// A finish in both forms.
 pub fn finish(record: Record, tables: Tables, room: usize) -> Result<Answer, String> {
     let mut cells: Vec<u32> = (0..room + BEHIND).map(cell_before).collect();
     let library = calls::finish(record, tables.first, tables.second, &mut cells[..room]);
-    answers(library, &cells, reference::finish(record, tables, room))
+    let reference = answers(library, &cells, reference::finish(record, tables, room))?;
+    let mut lent = record;
+    let mut again: Vec<u32> = (0..room + BEHIND).map(cell_before).collect();
+    let reply = calls::finish_in_place(&mut lent, tables.first, tables.second, &mut again[..room]);
+    answers(answer_of(reply, lent), &again, reference).map_err(|error| format!("lent, {error}"))
 }
 
 pub fn check(encoding: u8, text: &[u8], tables: Tables) -> Result<Checked, String> {
