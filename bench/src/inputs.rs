@@ -11,6 +11,8 @@ use Language::*;
 #[derive(Clone, Copy, Debug, PartialEq, Eq)]
 pub enum Kind {
     Ascii,
+    /// English, and a phrase of the language in each line.
+    Sparse(Language),
     /// An options list.
     List(Language),
     Dense(Language),
@@ -58,6 +60,9 @@ pub fn inputs() -> Vec<Input> {
     };
     for encoding in [Utf8, Windows1252, ShiftJis, Gbk] {
         add(encoding, "ascii", Kind::Ascii);
+    }
+    for encoding in [Utf8, Windows1252, ShiftJis, Gbk] {
+        add(encoding, "sparse", Kind::Sparse(language(encoding)));
     }
     for encoding in crate::data::ENCODINGS {
         add(encoding, "list", Kind::List(language(encoding)));
@@ -218,6 +223,10 @@ pub fn make(input: &Input, indexes: &Indexes, size: usize) -> Vec<u8> {
         match input.kind {
             Kind::Random => bytes.extend(random.number().to_le_bytes()),
             Kind::Ascii => text::line(&characters, English, random, &mut text),
+            Kind::Sparse(language) => {
+                characters.phrase(language, random, &mut text);
+                text::line(&characters, English, random, &mut text)
+            }
             Kind::List(language) => text::option(&characters, language, random, &mut text),
             Kind::Dense(language) | Kind::Damaged(language) => {
                 text::line(&characters, language, random, &mut text)

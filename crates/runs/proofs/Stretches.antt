@@ -15,7 +15,7 @@ use Rattle.standard.proofs.FamilyLaws.{keeps, next-laws}
 use Rattle.standard.proofs.Walk.{decode-item}
 use Rattle.runs.specs.Run.{patch, puts, Ran, Ready}
 use Rattle.runs.specs.Stretch.{Copied, Begins}
-use Rattle.runs.proofs.Patches.{patch-sets, patch-none, patch-patch}
+use Rattle.runs.proofs.Patches.{patch-sets, patch-none, patch-patch, patch-over}
 use Rattle.runs.proofs.Below.{below-add}
 use Rattle.runs.proofs.Fronts.{byte-at}
 use Rattle.runs.proofs.Running.{Going, going-runs}
@@ -46,8 +46,8 @@ wrote-on chunk from j k w r {r′} {r″} inside h a b =
     b ∙ q ∙ patch-patch w us (take k (drop j (drop from chunk))) r (omega (arith, l)) ∙ ap (λ (cs : List ℕ). patch w cs r) (sym (take-add j k (drop from chunk)))
 
 -- bytes below 80 after others
-pub low-on : (chunk : List ℕ) (from j k : ℕ) → ((i : ℕ) → i < j → getD chunk (from + i) 0 < 0x80) → ((i : ℕ) → i < k → getD chunk (from + j + i) 0 < 0x80) →
-    (i : ℕ) → i < j + k → getD chunk (from + i) 0 < 0x80
+low-on : (chunk : List ℕ) (from j k : ℕ) → ((i : ℕ) → i < j → getD chunk (from + i) 0 < 0x80) →
+    ((i : ℕ) → i < k → getD chunk (from + j + i) 0 < 0x80) → (i : ℕ) → i < j + k → getD chunk (from + i) 0 < 0x80
 low-on chunk from j k a b =
     below-add (λ i. getD chunk (from + i) 0 < 0x80) j k a (λ i h. let z : from + j + i ≡ from + (j + i) = omega arith in subst (λ (x : ℕ). getD chunk x 0 < 0x80) z (b i h))
 
@@ -61,17 +61,40 @@ copied-on {chunk} {from} {j} {k} {w} {r} h l a b = record {
   wrote = wrote-on chunk from j k w r (omega (arith, a .inside)) l (a .wrote) (b .wrote);
 }
 
+-- four bytes, one after another
+pub copied-four : (chunk : List ℕ) (at w : ℕ) (room : List ℕ) → at + 4 ≤ length chunk → w + 4 ≤ length room →
+    ((j : ℕ) → j < 4 → getD chunk (at + j) 0 < 0x80) →
+    let byte : ℕ → ℕ = λ j. getD chunk (at + j) 0 in
+    Copied chunk at 4 w room (set (set (set (set room w (getD chunk at 0)) (w + 1) (byte 1)) (w + 2) (byte 2)) (w + 3) (byte 3))
+copied-four chunk at w room h l low =
+    let first : getD chunk at 0 < 0x80 = rw (add-zero at) at (low 0 (omega arith)) in
+    let one = copied-one chunk at w room (omega arith) first (omega arith) in
+    let two = more 1 one (omega arith) (omega arith) in
+    let three = more 2 two (omega arith) (omega arith) in
+    more 3 three (omega arith) (omega arith)
+  where
+    more : (j : ℕ) {r : List ℕ} → Copied chunk at j w room r → j < 4 → w + j < length r →
+        Copied chunk at (j + 1) w room (set r (w + j) (getD chunk (at + j) 0))
+    more j {r} c k q = copied-on (omega arith) (omega arith) c (copied-one chunk (at + j) (w + j) r (omega arith) (low j k) q)
+
 -- the number of bytes, known to be another
 pub copied-as : {chunk : List ℕ} {at j k w : ℕ} {r r′ : List ℕ} → j ≡ k → Copied chunk at j w r r′ → Copied chunk at k w r r′
 copied-as e c = rw e at c
 
--- what a copy of at most one byte has copied, if anything
-pub one-copied : {chunk : List ℕ} {at k w : ℕ} {r r′ : List ℕ} → (Copied chunk at k w r r′) × (k ≤ 1) × Begins chunk at k → (k ≡ 0 → ⊥) → Copied chunk at 1 w r r′
-one-copied {k = k} e n = copied-as (omega arith) (e .0)
-
--- a stretch after an empty one
-pub copied-after-none : {chunk : List ℕ} {from k w : ℕ} {r r′ r″ : List ℕ} → Copied chunk from 0 w r r′ → Copied chunk from k w r′ r″ → Copied chunk from k w r r″
-copied-after-none {chunk} {from} {k} {w} {r} {r′} {r″} a b = subst (λ (x : List ℕ). Copied chunk from k w x r″) (a .wrote ∙ sym (patch-none r w)) b
+-- a stretch copied over a shorter one
+pub copied-over : {chunk : List ℕ} {at j k w : ℕ} {r r′ r″ : List ℕ} → Copied chunk at k w r′ r″ → Copied chunk at j w r r′ →
+    j ≤ k → w + k ≤ length r → Copied chunk at k w r r″
+copied-over {chunk} {at} {j} {k} {w} {r} b a h l =
+    let us = take j (drop at chunk) in
+    let vs = take k (drop at chunk) in
+    let m : length us ≡ j = length-take-le j (drop at chunk) (omega (arith, length-drop at chunk, a .inside)) in
+    let n : length vs ≡ k = length-take-le k (drop at chunk) (omega (arith, length-drop at chunk, b .inside)) in
+    record {
+      inside = b .inside;
+      ascii = b .ascii;
+      size = b .size ∙ a .size;
+      wrote = b .wrote ∙ ap (patch w vs) (a .wrote) ∙ patch-over w us vs r (omega (arith, m, n)) (omega (arith, n));
+    }
 
 -- a stretch on its way, from a place where a run could begin
 pub record Copying (chunk : List ℕ) (from w k : ℕ) (room₀ room : List ℕ) : Type 0 where
@@ -88,10 +111,19 @@ copying-on C c = record { copied = copied-on (C .began .begun) (omega (arith, C 
 pub copying-stop : {chunk : List ℕ} {from w k : ℕ} {room₀ room room′ : List ℕ} {j : ℕ} → Copying chunk from w k room₀ room → Copied chunk (from + k) j (w + k) room room′ → j ≡ 0 → Copied chunk from k w room₀ room′
 copying-stop {k = k} {j = j} C c e = let z : k + j ≡ k = omega arith in rw z at (copying-on C c .copied)
 
--- a stretch that stops where the first byte is not below 80
-pub begins-stop : (chunk : List ℕ) (from k : ℕ) {j : ℕ} → Begins chunk (from + k) j → j ≡ 0 → Begins chunk from k
-begins-stop chunk from zero b e l q = absurd (omega (arith, b (omega arith) (rw (add-zero from) q)))
-begins-stop chunk from (suc k) b e l q = omega arith
+-- a run could begin where it has come to, too
+pub copying-ready : {chunk : List ℕ} {from w k : ℕ} {room₀ room : List ℕ} → Copying chunk from w k room₀ room →
+    Ready chunk (from + k) room (w + k)
+copying-ready C = record {
+  begun = omega (arith, C .copied .inside, C .began .begun);
+  short = C .began .short;
+  fits = omega (arith, C .copied .inside, C .copied .size, C .began);
+}
+
+-- what begins where a stretch has come to
+pub begins-on : (chunk : List ℕ) (from k : ℕ) {j : ℕ} → Begins chunk (from + k) j → Begins chunk from (k + j)
+begins-on chunk from zero {j} b l q = omega (arith, b (omega arith) (rw (add-zero from) q))
+begins-on chunk from (suc k) b l q = omega arith
 
 -- each byte as a sequence
 singles : List ℕ → List Item

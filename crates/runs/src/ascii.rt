@@ -3,6 +3,7 @@
 use crate::ready;
 use crate::wide;
 use line_feeds::in_block;
+use line_feeds::in_bytes;
 ghost use mathlib.Core.Path.{_≡_};
 ghost use Prim.Native.Nat.{ℕ, _+_, _≤_, _<_};
 ghost use lib.ListN.{length, getD};
@@ -23,64 +24,18 @@ fn copy_one(chunk: &[u8], at: usize, room: &mut [u32], o: usize) -> usize
     1
 }
 
-// Copies the bytes below 80 in front of four; how many. Each is stored once it is tested, so that no loop has to find the end again.
-fn copy_four(chunk: &[u8], at: usize, room: &mut [u32], o: usize) -> usize
-    requires { ⌜ (at + 4 ≤ length (now chunk)) × (o + 4 ≤ length (now room)) ⌝ }
-    ensures { λ r. ⌜ (Copied (now (chunk .entry)) at r o (now (room .entry)) (now (room .exit))) × (r ≤ 4) ⌝ }
+// Copies the bytes below 80 in front of n, one by one; how many. Each is stored once it is tested: no loop has to find the end again.
+fn copy_each(chunk: &[u8], at: usize, n: usize, room: &mut [u32], o: usize) -> usize
+    requires { ⌜ (Ready (now chunk) at (now room) o) × (at + n ≤ length (now chunk)) ⌝ }
+    ensures { λ r. ⌜ (Copied (now (chunk .entry)) at r o (now (room .entry)) (now (room .exit)))
+        × (1 ≤ n → Begins (now (chunk .entry)) at r) ⌝ }
 {
-    if copy_one(chunk, at, room, o) == 0 {
-        return 0;
-    }
-    if copy_one(chunk, at + 1, room, o + 1) == 0 {
-        return 1;
-    }
-    if copy_one(chunk, at + 2, room, o + 2) == 0 {
-        return 2;
-    }
-    3 + copy_one(chunk, at + 3, room, o + 3)
-}
-
-// The smaller of two numbers.
-fn least(a: usize, b: usize) -> usize
-    ensures { λ r. ⌜ (r ≤ a) × (r ≤ b) ⌝ }
-{
-    if a < b {
-        return a;
-    }
-    b
-}
-
-// Copies bytes below 80 while there are four, 32 at most; how many.
-fn copy_fours(chunk: &[u8], from: usize, room: &mut [u32], place: usize) -> usize
-    requires { ⌜ Ready (now chunk) from (now room) place ⌝ }
-    ensures { λ r. ⌜ Copied (now (chunk .entry)) from r place (now (room .entry)) (now (room .exit)) ⌝ }
-{
-    let n = least(chunk.len() - from, 32);
-    let mut k: usize = 0;
-    while n - k >= 4 {
-        let c = copy_four(chunk, from + k, room, place + k);
-        k += c;
-        if c < 4 {
+    for k in 0..n {
+        if copy_one(chunk, at + k, room, o + k) == 0 {
             return k;
         }
     }
-    k
-}
-
-// Copies bytes below 80 one by one; how many.
-fn copy_each(chunk: &[u8], from: usize, room: &mut [u32], place: usize) -> usize
-    requires { ⌜ Ready (now chunk) from (now room) place ⌝ }
-    ensures { λ r. ⌜ (Copied (now (chunk .entry)) from r place (now (room .entry)) (now (room .exit))) × Begins (now (chunk .entry)) from r ⌝ }
-{
-    let n = chunk.len() - from;
-    let mut k: usize = 0;
-    while k < n {
-        if copy_one(chunk, from + k, room, place + k) == 0 {
-            return k;
-        }
-        k += 1;
-    }
-    k
+    n
 }
 
 // At least each of n bytes; below 80 only if each is.
@@ -95,18 +50,50 @@ fn joined(chunk: &[u8], at: usize, n: usize) -> u8
     all
 }
 
-// How many bytes from a place on are below 80, in blocks of 32.
-fn ascii_blocks(chunk: &[u8], from: usize) -> usize
-    requires { ⌜ from ≤ length (now chunk) ⌝ }
-    ensures { λ r. ⌜ (from + r ≤ length (now (chunk .entry))) × ((j : ℕ) → j < r → getD (now (chunk .entry)) (from + j) 0 < 0x80) ⌝ }
+// Copies four bytes, which are below 80. All are read before one is stored: so the compiler reads and stores them at once.
+fn copy_four(chunk: &[u8], at: usize, room: &mut [u32], o: usize)
+    requires { ⌜ (Ready (now chunk) at (now room) o) × (at + 4 ≤ length (now chunk))
+        × ((j : ℕ) → j < 4 → getD (now chunk) (at + j) 0 < 0x80) ⌝ }
+    ensures { λ r. ⌜ Copied (now (chunk .entry)) at 4 o (now (room .entry)) (now (room .exit)) ⌝ }
+{
+    let b0 = chunk[at];
+    let b1 = chunk[at + 1];
+    let b2 = chunk[at + 2];
+    let b3 = chunk[at + 3];
+    room[o] = wide(b0);
+    room[o + 1] = wide(b1);
+    room[o + 2] = wide(b2);
+    room[o + 3] = wide(b3);
+}
+
+// The step of every stretch: eight bytes, tested together and copied if each is below 80; else those in front of one that is not. How many.
+// The first is stored ahead of the others: behind a store the bytes are read anew, so that the test can read them as one number.
+fn copy_eight(chunk: &[u8], at: usize, room: &mut [u32], o: usize) -> usize
+    requires { ⌜ (Ready (now chunk) at (now room) o) × (at + 8 ≤ length (now chunk)) ⌝ }
+    ensures { λ r. ⌜ (Copied (now (chunk .entry)) at r o (now (room .entry)) (now (room .exit))) × Begins (now (chunk .entry)) at r ⌝ }
+{
+    if 0x80 <= joined(chunk, at, 8) {
+        return copy_each(chunk, at, 7, room, o);
+    }
+    room[o] = wide(chunk[at]);
+    copy_four(chunk, at, room, o);
+    copy_four(chunk, at + 4, room, o + 4);
+    8
+}
+
+// Copies bytes below 80 while there are eight; how many.
+fn copy_eights(chunk: &[u8], from: usize, room: &mut [u32], place: usize) -> usize
+    requires { ⌜ (Ready (now chunk) from (now room) place) × (from + 8 ≤ length (now chunk)) ⌝ }
+    ensures { λ r. ⌜ (Copied (now (chunk .entry)) from r place (now (room .entry)) (now (room .exit))) × Begins (now (chunk .entry)) from r ⌝ }
 {
     let n = chunk.len() - from;
     let mut k: usize = 0;
-    while n - k >= 32 {
-        if 0x80 <= joined(chunk, from + k, 32) {
+    while n - k >= 8 {
+        let c = copy_eight(chunk, from + k, room, place + k);
+        k += c;
+        if c < 8 {
             return k;
         }
-        k += 32;
     }
     k
 }
@@ -135,36 +122,6 @@ fn copy_block(chunk: &[u8], from: usize, room: &mut [u32], place: usize) -> usiz
     192
 }
 
-// Copies bytes below 80 in blocks of 32; how many.
-fn copy_blocks(chunk: &[u8], from: usize, room: &mut [u32], place: usize) -> usize
-    requires { ⌜ Ready (now chunk) from (now room) place ⌝ }
-    ensures { λ r. ⌜ Copied (now (chunk .entry)) from r place (now (room .entry)) (now (room .exit)) ⌝ }
-{
-    let n = ascii_blocks(chunk, from);
-    copy_bytes(chunk, from, n, room, place);
-    n
-}
-
-// Copies bytes below 80; how many. A single byte, a short and a long stretch have each their own way.
-fn copy_stretch(chunk: &[u8], from: usize, room: &mut [u32], place: usize) -> usize
-    requires { ⌜ Ready (now chunk) from (now room) place ⌝ }
-    ensures { λ r. ⌜ (Copied (now (chunk .entry)) from r place (now (room .entry)) (now (room .exit))) × Begins (now (chunk .entry)) from r ⌝ }
-{
-    if 2 <= chunk.len() - from {
-        if 0x80 <= chunk[from + 1] {
-            return copy_one(chunk, from, room, place);
-        }
-    }
-    let k = copy_fours(chunk, from, room, place);
-    if k == 32 {
-        return 32 + copy_blocks(chunk, from + 32, room, place + 32);
-    }
-    if 1 <= k {
-        return k;
-    }
-    copy_each(chunk, from, room, place)
-}
-
 // Copies bytes below 80 from a place on; how many. It may stop before another, and copies none where no run can begin.
 pub fn copy_ascii(chunk: &[u8], from: usize, room: &mut [u32], place: usize) -> usize
     ensures { λ r. ⌜ (Copied (now (chunk .entry)) from r place (now (room .entry)) (now (room .exit)))
@@ -173,7 +130,11 @@ pub fn copy_ascii(chunk: &[u8], from: usize, room: &mut [u32], place: usize) -> 
     if !ready(chunk.len(), from, room.len(), place) {
         return 0;
     }
-    copy_stretch(chunk, from, room, place)
+    let n = chunk.len() - from;
+    if n < 8 {
+        return copy_each(chunk, from, n, room, place);
+    }
+    copy_eights(chunk, from, room, place)
 }
 
 // A stretch of ASCII: its bytes, and the line feeds among them.
@@ -201,16 +162,45 @@ fn count_blocks(chunk: &[u8], from: usize, room: &mut [u32], place: usize) -> St
     Stretch { length: k, lines }
 }
 
-// Copies a long stretch of bytes below 80 from a place on, with its line feeds. It may stop before another, and copies none where no run can begin.
+// Copies bytes below 80 in blocks, and what is left of them as any stretch, with their line feeds.
+fn count_stretch(chunk: &[u8], from: usize, room: &mut [u32], place: usize) -> Stretch
+    requires { ⌜ Ready (now chunk) from (now room) place ⌝ }
+    ensures { λ r. ⌜ (Copied (now (chunk .entry)) from (r .length) place (now (room .entry)) (now (room .exit)))
+        × (r .lines ≡ lineFeeds (part (now (chunk .entry)) from (r .length))) ⌝ }
+{
+    let a = count_blocks(chunk, from, room, place);
+    let at = from + a.length;
+    let k = copy_ascii(chunk, at, room, place + a.length);
+    let lines = in_bytes(chunk, at, at + k);
+    Stretch {
+        length: a.length + k,
+        lines: a.lines + lines,
+    }
+}
+
+// No stretch.
+fn none() -> Stretch
+    ensures { λ r. ⌜ (r .length ≡ 0) × (r .lines ≡ 0) ⌝ }
+{
+    Stretch {
+        length: 0,
+        lines: 0,
+    }
+}
+
+// Copies bytes below 80 from a place on, with their line feeds. It may stop before another, and copies none where no run can begin.
 pub fn count_ascii(chunk: &[u8], from: usize, room: &mut [u32], place: usize) -> Stretch
     ensures { λ r. ⌜ (Copied (now (chunk .entry)) from (r .length) place (now (room .entry)) (now (room .exit)))
         × (r .lines ≡ lineFeeds (part (now (chunk .entry)) from (r .length))) ⌝ }
 {
     if !ready(chunk.len(), from, room.len(), place) {
-        return Stretch {
-            length: 0,
-            lines: 0,
-        };
+        return none();
     }
-    count_blocks(chunk, from, room, place)
+    if chunk.len() == from {
+        return none();
+    }
+    if 0x80 <= chunk[from] {
+        return none();
+    }
+    count_stretch(chunk, from, room, place)
 }

@@ -179,11 +179,15 @@ fn sequences(mode: u8, chunk: &[u8], from: usize, room: &mut [u32], place: usize
 }
 
 // A run of UTF-8, for any tables.
+// Two calls keep the loop a function of its own, with its places in registers: what is called once becomes part of its caller.
 pub fn utf8_run(mode: u8, chunk: &[u8], room: &mut [u32], p: Place) -> Place
     ensures { λ r. ⌜ ((t : Tables) → Run t UTF-8 mode (now (chunk .entry)) p r (now (room .entry)) (now (room .exit))) ⌝ }
 {
     if !ready_plain(chunk.len(), room.len(), p) {
         return p;
+    }
+    if mode == 1 {
+        return sequences(1, chunk, p.at, room, p.written);
     }
     sequences(mode, chunk, p.at, room, p.written)
 }

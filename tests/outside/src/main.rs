@@ -21,6 +21,7 @@ mod published;
 mod random;
 mod reference;
 mod showtext;
+mod stretches;
 
 use std::process::ExitCode;
 use std::time::Instant;
@@ -55,6 +56,7 @@ fn compare_all(number: usize, seed: u64) -> Result<(), String> {
     show("four bytes", || exhaustive::four_bytes(&tables))?;
     show("writers", || exhaustive::scalars(&tables))?;
     show("block borders", || long::borders(&tables))?;
+    show("stretches of ASCII", || stretches::stretches(&tables))?;
     compare_random(&tables, number, seed)
 }
 

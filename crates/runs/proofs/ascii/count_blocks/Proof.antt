@@ -2,7 +2,7 @@ use mathlib.Core.Path.{_≡_, refl}
 use Prim.Native.Nat.{_+_, _-_, _≤_, _<_}
 use lib.ListN.{length}
 use Rattle.line_feeds.proofs.Parts.{Counted, none-yet, part-more, at-most}
-use Rattle.runs.proofs.Stretches.{Copying, copying-start, copying-on, copying-stop, copied-as}
+use Rattle.runs.proofs.Stretches.{Copying, copying-start, copying-on, copying-ready, copying-stop, copied-as}
 use borrow.Author.Needs.{needs}
 use native.Mathlib.Omega.{arith}
 use Rattle.runs.proofs.ascii.count_blocks.Statement.{statement}
@@ -42,9 +42,7 @@ add-copy-block-2 : tie.Need-add-copy-block-2 Inv-loop μ-loop
 add-copy-block-2 c = search needs
 
 copy-block-requires : tie.Need-copy-block-requires Inv-loop μ-loop
-copy-block-requires c κs =
-    let C = c .before .before .loop .inv .0 in
-    (record { begun = omega arith; short = C .began .short; fits = omega (arith, C .began, C .copied .size) }, omega arith)
+copy-block-requires c κs = (copying-ready (c .before .before .loop .inv .0), omega arith)
 
 same-length : tie.Need-same-length Inv-loop μ-loop
 same-length c = search needs
