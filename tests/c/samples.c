@@ -52,6 +52,10 @@ static hamvukile_answer finish(hamvukile_decoder d, tables t, uint32_t *room, si
     return hamvukile_finish(d, t.first, t.first_length, t.second, t.second_length, room, room_length);
 }
 
+static hamvukile_written encode(uint8_t encoding, uint8_t mode, const uint32_t *scalars, size_t n, tables t, uint8_t *room, size_t room_length) {
+    return hamvukile_encode(encoding, mode, scalars, n, t.first, t.first_length, t.second, t.second_length, room, room_length);
+}
+
 /* Reads a text that is cut behind byte i where bit i of `cuts` is set; the number of scalars, or -1 if a call was refused or wrote behind them. */
 static int decode(uint8_t encoding, uint8_t rule, tables t, const uint8_t *text, size_t n, unsigned cuts, uint32_t *out) {
     int total = 0, fed = 0;
@@ -335,6 +339,47 @@ static void refusals(void) {
     check("6: after report 11", feed(a.decoder, chunk, 1, none, room, 1).refusal == HAMVUKILE_ENDED_DECODER);
 }
 
+/* Writing Shift_JIS and EUC-JP: the rules before the table, the pointers that are passed over, and errors by their names. */
+static uint32_t jis0208[HAMVUKILE_JIS0208_CELLS];
+
+static void japanese(void) {
+    static const uint32_t fixed[] = { 0x41, 0x5C, 0xA5, 0x203E, 0xFF61, 0xFF9F };
+    static const uint32_t cells[] = { 0x4E00, 0x4E01, 0x4E02, 0x4E03, 0x4E04, 0x4E05 };
+    static const uint32_t minus[] = { 0x41, 0x2212 }, control[] = { 0x80 };
+    tables sjis = { jis0208, HAMVUKILE_JIS0208_CELLS, NULL, 0 }, euc = { jis0208, HAMVUKILE_JIS0208_CELLS, unmapped, HAMVUKILE_JIS0212_CELLS };
+    uint8_t room[64];
+    hamvukile_written w;
+    jis0208[0] = 0x4E00;
+    jis0208[8271] = 0x4E01;
+    jis0208[8272] = jis0208[10716] = 0x4E02;
+    jis0208[8836] = 0x4E03;
+    jis0208[10715] = 0x4E04;
+    jis0208[11279] = 0x4E05;
+    jis0208[5] = 0xA5;
+    jis0208[6] = 0x2212;
+    w = encode(34, 0, fixed, 6, sjis, room, 64);
+    check("Shift_JIS: the fixed rules", w.refusal == 0 && w.written == 6 && memcmp(room, "A\\\\~\xA1\xDF", 6) == 0);
+    w = encode(32, 0, fixed, 6, euc, room, 64);
+    check("EUC-JP: the fixed rules", w.refusal == 0 && w.written == 8 && memcmp(room, "A\\\\~\x8E\xA1\x8E\xDF", 8) == 0);
+    w = encode(34, 0, cells, 6, sjis, room, 64);
+    check("Shift_JIS: 8,272 to 10,715 are passed over", w.refusal == 0 && w.written == 24
+        && memcmp(room, "\x81\x40\xEC\xFC\xFA\x40&#19971;&#19972;\xFC\xFC", 24) == 0);
+    w = encode(32, 0, cells, 6, euc, room, 64);
+    check("EUC-JP: everything from 8,836 is passed over", w.refusal == 0 && w.written == 6 + 3 * 8
+        && memcmp(room, "\xA1\xA1\xF8\xFE\xF9\xA1&#19971;&#19972;&#19973;", 30) == 0);
+    w = encode(34, 0, minus, 2, sjis, room, 64);
+    check("U+2212 is looked up and named as U+FF0D", w.refusal == 0 && w.written == 9 && memcmp(room, "A&#65293;", 9) == 0);
+    w = encode(34, 1, minus, 2, sjis, room, 1);
+    check("11: the index of the scalar as it was lent", w.refusal == HAMVUKILE_MALFORMED && w.index == 1 && w.written == 1);
+    jis0208[7] = 0xFF0D;
+    w = encode(32, 1, minus, 2, euc, room, 3);
+    check("U+2212 by the cell of U+FF0D", w.refusal == 0 && w.written == 3 && memcmp(room, "A\xA1\xA8", 3) == 0);
+    check("7: room for all of it", encode(32, 1, minus, 2, euc, room, 2).refusal == HAMVUKILE_SMALL_ROOM);
+    check("Shift_JIS: U+0080", encode(34, 1, control, 1, sjis, room, 1).written == 1 && room[0] == 0x80);
+    check("EUC-JP: U+0080 without a cell", encode(32, 1, control, 1, euc, room, 1).refusal == HAMVUKILE_MALFORMED);
+    check("4: both tables", encode(32, 1, control, 1, sjis, room, 1).refusal == HAMVUKILE_WRONG_TABLE);
+}
+
 /* A mark that chooses, in every cut; the tables of the opening's encoding at a feed, and at a finish before the choice. */
 #define CHOICE(what, encoding, bytes, ...) sample(what, encoding, HAMVUKILE_CHOOSE_MARK, tables_of(encoding), BYTES(bytes), SCALARS(__VA_ARGS__))
 
@@ -553,6 +598,7 @@ int main(void) {
     part("places and lines of errors in every cut", places);
     part("clean lists", lists);
     part("writing, with sample 15", writing);
+    part("writing Shift_JIS and EUC-JP", japanese);
     part("marks that choose in every cut", choices);
     part("a decoder that is lent", in_place);
     part("refusals, with sample 16", refusals);

@@ -44,7 +44,7 @@ const MAX_NAME: usize = 14;
 /// The version of the library that is linked: 10,000 times major, 100 times minor, and patch.
 ///
 /// ```
-/// assert_eq!(hamvukile::version(), 400); // 0.4.0
+/// assert_eq!(hamvukile::version(), 500); // 0.5.0
 /// ```
 pub fn version() -> u32 {
     calls::version()
@@ -652,9 +652,10 @@ pub enum OnUnwritable {
     Refuse = 1,
 }
 
-/// Encodes scalars, at most [`MAX_SCALARS`], as UTF-8, a single-byte encoding or x-user-defined: writes the bytes to the
-/// front of the room and returns how many; the bytes behind them do not change. The room needs the bytes written and no
-/// more, at most [`MAX_BYTES_OF_A_SCALAR`] for each scalar.
+/// Encodes scalars, at most [`MAX_SCALARS`], as UTF-8, a single-byte encoding, EUC-JP, Shift_JIS or x-user-defined:
+/// writes the bytes to the front of the room and returns how many; the bytes behind them do not change. The room needs
+/// the bytes written and no more, at most [`MAX_BYTES_OF_A_SCALAR`] for each scalar. EUC-JP and Shift_JIS write U+00A5
+/// as 5C, U+203E as 7E and U+2212 as U+FF0D; every other scalar that is written is read back as itself.
 ///
 /// ```
 /// use hamvukile::{encode, Encoding, OnUnwritable, Refusal, Tables};
@@ -665,6 +666,13 @@ pub enum OnUnwritable {
 ///
 /// let report = encode(Encoding::WINDOWS_1252, OnUnwritable::Refuse, &[0x20AC, 0x4E00], &Tables::none(), &mut room).unwrap_err();
 /// assert_eq!((report.refusal, report.written, report.index), (Refusal::Malformed, 1, 1));
+///
+/// // an index with one cell: U+3042 at pointer 283
+/// let mut jis0208 = vec![0; 11_280];
+/// jis0208[283] = 0x3042;
+/// let tables = Tables::jis0208(jis0208.as_slice().try_into().unwrap());
+/// let n = encode(Encoding::SHIFT_JIS, OnUnwritable::Html, &[0x3042, 0xFF71, 0x2212], &tables, &mut room).unwrap();
+/// assert_eq!(&room[..n], b"\x82\xA0\xB1&#65293;");
 /// ```
 pub fn encode(
     encoding: Encoding,

@@ -1,73 +1,84 @@
 -- The refusal of a call, and what the call leaves. Assumes nothing.
 use mathlib.Core.Path.{_≡_, refl, sym, ap, _∙_}
-use mathlib.Core.Bool.{Bool, true, false, not}
+use mathlib.Core.Bool.{Bool, true, false, not, _||_}
 use mathlib.Core.List.{List}
-use mathlib.Core.Option.{some, none}
+use mathlib.Core.Option.{none}
 use Prim.Native.Nat.{ℕ, _≤_, _<_}
 use native.Mathlib.Omega.{arith}
 use lib.Dec.{ltb, leb, eqb}
 use lib.ListN.{length}
-use borrow.Author.Tests.{ltb-false, leb-true, eqb-true, eqb-false, lt-ltb, le-ltb, le-leb, eq-eqb, ne-eqb}
+use borrow.Author.Tests.{ltb-false, leb-true, leb-false, eqb-true, eqb-false, lt-ltb, le-ltb, le-leb, eq-eqb, ne-eqb}
 use Rattle.standard.specs.Base.{_then_else_, scalars}
 use Rattle.standard.specs.Encodings.{Family, family, traits, secondFits, Tables, fits}
-use Rattle.standard.specs.Encoders.{encoder}
-use Rattle.standard.proofs.Families.{by-family, family-single-byte}
+use Rattle.standard.specs.Writers.{writerOf}
+use Rattle.standard.proofs.Families.{family-single-byte}
 use Rattle.standard.proofs.Tests.{split, or-case, and-left}
-use Rattle.encoder_spec.specs.Writer.{Writing, Outcome, refuse, write, writerCall}
+use Rattle.pair_writers.specs.Pairs.{pairEncode}
+use Rattle.encoder_spec.specs.Writing.{Writing}
+use Rattle.encoder_spec.specs.Writer.{Outcome, refuse, write, writeAccepted, writeBy, writerCall}
 use Rattle.encoder_spec.specs.declared.Written.{Written}
-use Rattle.encoder.specs.WriterCode.{writes, encoderOf, writingOf, Space, Wrote, textRefusal, refusalOf}
+use Rattle.encoder.specs.WriterCode.{pairs, writes, encoderOf, Tabled, oneOf, writingOf, Space, Wrote, textRefusal, refusalOf}
+use Rattle.encoder.proofs.Scalars.{pairs-past, no-pairs}
 
 -- the encodings with a writer
 module _ {A : Type 0} (e : ℕ) (w : writes e ≡ true) where
-  by-writer : (e ≡ 0 → A) → (e ≡ 21 → A) → ((e ≡ 0 → ⊥) → (e ≡ 21 → ⊥) → e ≤ 28 → A) → (e ≡ 39 → A) → A
-  by-writer f g h k = or-case (leb e 28) (eqb e 39) w
+  by-writer : (e ≡ 0 → A) → (e ≡ 21 → A) → ((e ≡ 0 → ⊥) → (e ≡ 21 → ⊥) → e ≤ 28 → A) → (e ≡ 32 → A) → (e ≡ 34 → A) → (e ≡ 39 → A) → A
+  by-writer f g h i j k = or-case (leb e 28) (pairs e || eqb e 39) w
       (λ l. split (eqb e 0) (λ z. f (eqb-true e 0 z)) (λ z.
       split (eqb e 21) (λ y. g (eqb-true e 21 y)) (λ y. h (eqb-false e 0 z) (eqb-false e 21 y) (leb-true e 28 l))))
-      (λ l. k (eqb-true e 39 l))
+      (λ l. or-case (pairs e) (eqb e 39) l
+      (λ p. or-case (eqb e 32) (eqb e 34) p (λ z. i (eqb-true e 32 z)) (λ z. j (eqb-true e 34 z)))
+      (λ z. k (eqb-true e 39 z)))
 
-encoder-writer : (e : ℕ) (t : Tables) → writes e ≡ true → encoder t (family e) ≡ some (encoderOf e (t .first))
-unfolding family encoderOf
-encoder-writer e t w = by-writer e w (λ h. rw h) (λ h. rw h) (λ f g h. rw (ne-eqb e 0 f, ne-eqb e 21 g, le-leb e 28 h)) (λ h. rw h)
+-- those without
+or-none : (a b : Bool) → a || b ≡ false → (a ≡ false) × (b ≡ false)
+or-none true b h = let z : _≡_ {A = ℕ} 0 1 = cc in absurd (omega arith)
+or-none false b h = (refl, h)
 
--- such an encoding has a first table of 128 cells or none
+no-writer : (e : ℕ) → writes e ≡ false → writerOf e ≡ none
+unfolding writerOf
+no-writer e w =
+    let a = or-none (leb e 28) (pairs e || eqb e 39) w in
+    let b = or-none (pairs e) (eqb e 39) (a .1) in
+    let c = or-none (eqb e 32) (eqb e 34) (b .0) in
+    let l : 28 < e = leb-false e 28 (a .0) in
+    rw (ne-eqb e 0 (λ z. omega arith), ne-eqb e 21 (λ z. omega arith), a .0, c .0, c .1, b .1)
+
+-- what an encoding number writes, by the tests of the code
+written-by : (e m : ℕ) (t : Tables) (cs room : List ℕ) →
+    writeBy (writerOf e) m t cs room ≡
+    (writes e then (fits (family e) t then writeAccepted (oneOf e (t .first)) m cs room else refuse 4 room) else refuse 9 room)
+unfolding writerOf family encoderOf pairEncode
+written-by e m t cs room = split (writes e)
+    (λ w. by-writer e w
+    (λ h. rw h) (λ h. rw h) (λ f g h. rw (ne-eqb e 0 f, ne-eqb e 21 g, le-leb e 28 h)) (λ h. rw h) (λ h. rw h) (λ h. rw h))
+    (λ w. rw (no-writer e w, w))
+
+-- its first table
 first-fits : (f : Family) (t : Tables) → fits f t ≡ true → length (t .first) ≡ traits f .first
 unfolding fits
-first-fits f t h = eqb-true (length (t .first)) (traits f .first) (and-left (eqb (length (t .first)) (traits f .first)) (secondFits (traits f .second) (length (t .second))) h)
+first-fits f t h =
+    eqb-true (length (t .first)) (traits f .first)
+    (and-left (eqb (length (t .first)) (traits f .first)) (secondFits (traits f .second) (length (t .second))) h)
 
-pub table-few : (e : ℕ) (t : Tables) → writes e ≡ true → fits (family e) t ≡ true → length (t .first) ≤ 128
+pub table-fits : (e : ℕ) (t : Tables) → writes e ≡ true → fits (family e) t ≡ true → Tabled e (t .first)
 unfolding family traits
-table-few e t w f = omega (arith, first-fits (family e) t f, few)
+table-fits e t w f = record {
+  of-pairs = λ p. first-fits (family e) t f ∙ cells p;
+  of-bytes = λ p. omega (arith, first-fits (family e) t f, few p);
+}
   where
-    few : traits (family e) .first ≤ 128
-    few = by-writer e w
+    cells : pairs e ≡ true → traits (family e) .first ≡ 11280
+    cells p = or-case (eqb e 32) (eqb e 34) p (λ z. rw (eqb-true e 32 z)) (λ z. rw (eqb-true e 34 z))
+
+    few : pairs e ≡ false → traits (family e) .first ≤ 128
+    few p = by-writer e w
         (λ h. rw h (omega arith))
         (λ h. rw h (omega arith))
         (λ f g h. rw (family-single-byte e f g h) (omega arith))
+        (λ h. let z : _≡_ {A = ℕ} 0 1 = cc (rw h at p) in absurd (omega arith))
+        (λ h. let z : _≡_ {A = ℕ} 0 1 = cc (rw h at p) in absurd (omega arith))
         (λ h. rw h (omega arith))
-
--- those without
-no-encoder : (e : ℕ) (t : Tables) → e ≤ 39 → writes e ≡ false → encoder t (family e) ≡ none
-no-encoder e t h w = by-family (λ f. encoder t f ≡ none) e (record {
-  c0 = λ q. absurd (low (omega arith));
-  c21 = λ q. absurd (low (omega arith));
-  c1-28 = λ l k n. absurd (low k);
-  c29-30 = λ l k. refl;
-  c31 = λ q. refl;
-  c32 = λ q. refl;
-  c33 = λ q. refl;
-  c34 = λ q. refl;
-  c35 = λ q. refl;
-  c36 = λ q. refl;
-  c37 = λ q. refl;
-  c38 = λ q. refl;
-  c39 = λ l. absurd (last (omega arith));
-})
-  where
-    low : e ≤ 28 → ⊥
-    low l = let z : _≡_ {A = ℕ} 0 1 = cc (rw (le-leb e 28 l) at w) in omega arith
-
-    last : e ≡ 39 → ⊥
-    last q = let z : _≡_ {A = ℕ} 0 1 = cc (rw q at w) in omega arith
 
 -- The call, by its refusal.
 module _ (e m : ℕ) (t : Tables) (cs room : List ℕ) where
@@ -84,33 +95,38 @@ module _ (e m : ℕ) (t : Tables) (cs room : List ℕ) where
 
   call : writerCall e m t cs room ≡ by-refusal refused
   unfolding writerCall refusalOf textRefusal by-refusal
-  call = split (ltb 39 e) (λ h. rw h) (λ h. split (ltb 1 m) (λ g. rw (h, g)) (λ g. split (writes e)
-      (λ k. rw (h, g, k, encoder-writer e t k) (tests (fits (family e) t) (ltb 16384 (length cs)) (scalars cs) (ltb (length room) (length (w .bytes)))))
-      (λ k. rw (h, g, k, no-encoder e t (ltb-false 39 e h) k))))
+  call = rw (written-by e m t cs room)
+      (tests (ltb 39 e) (ltb 1 m) (writes e) (fits (family e) t) (ltb 16384 (length cs)) (scalars cs) (ltb (length room) (length (w .bytes))))
     where
-      tests : (f l s r : Bool) →
-          (f then (l then refuse 8 room else not s then refuse 10 room else r then refuse 7 room else write w room) else refuse 4 room) ≡
-          by-refusal (not f then 4 else l then 8 else not s then 10 else r then 7 else 0)
-      tests false l s r = refl
-      tests true true s r = refl
-      tests true false false r = refl
-      tests true false true true = refl
-      tests true false true false = refl
+      tests : (a b k f l s r : Bool) →
+          (a then refuse 2 room else b then refuse 3 room else
+          k then (f then (l then refuse 8 room else not s then refuse 10 room else r then refuse 7 room else write w room) else refuse 4 room) else
+          refuse 9 room) ≡
+          by-refusal (a then 2 else b then 3 else not k then 9 else not f then 4 else l then 8 else not s then 10 else r then 7 else 0)
+      tests true b k f l s r = refl
+      tests false true k f l s r = refl
+      tests false false false f l s r = refl
+      tests false false true false l s r = refl
+      tests false false true true true s r = refl
+      tests false false true true false false r = refl
+      tests false false true true false true true = refl
+      tests false false true true false true false = refl
 
   -- what is known of an accepted call
   pub record Accepted : Type 0 where
-    pub few : length (t .first) ≤ 128
+    pub tabled : Tabled e (t .first)
     pub are-scalars : scalars cs ≡ true
+    pub few : length cs ≤ 16384
     pub space : Space w room
 
   pub accepted : refused ≡ 0 → Accepted
   unfolding refusalOf textRefusal
   accepted h = let a = go (ltb 39 e) (ltb 1 m) (writes e) (fits (family e) t) (ltb 16384 (length cs)) (scalars cs) (ltb (length room) (length (w .bytes))) h in
-      record { few = table-few e t (a .0) (a .1); are-scalars = a .2; space = ltb-false (length room) (length (w .bytes)) (a .3) }
+      record { tabled = table-fits e t (a .0) (a .1); are-scalars = a .2; few = ltb-false 16384 (length cs) (a .3); space = ltb-false (length room) (length (w .bytes)) (a .4) }
     where
       go : (a b w f l s r : Bool) →
           _≡_ {A = ℕ} (a then 2 else b then 3 else not w then 9 else not f then 4 else l then 8 else not s then 10 else r then 7 else 0) 0 →
-          (w ≡ true) × (f ≡ true) × (s ≡ true) × (r ≡ false)
+          (w ≡ true) × (f ≡ true) × (s ≡ true) × (l ≡ false) × (r ≡ false)
       go true b w f l s r h = absurd (omega arith)
       go false true w f l s r h = absurd (omega arith)
       go false false false f l s r h = absurd (omega arith)
@@ -118,7 +134,7 @@ module _ (e m : ℕ) (t : Tables) (cs room : List ℕ) where
       go false false true true true s r h = absurd (omega arith)
       go false false true true false false r h = absurd (omega arith)
       go false false true true false true true h = absurd (omega arith)
-      go false false true true false true false h = (refl, refl, refl, refl)
+      go false false true true false true false h = (refl, refl, refl, refl, refl)
 
   -- what the call leaves, part by part
   abbrev Leaves : Written → List ℕ → Type 0

@@ -9,15 +9,14 @@ use native.Mathlib.Omega.{arith}
 use lib.Dec.{leb, eqb}
 use lib.ListN.{length, take, drop, getD, length-append, take-append-drop, drop-of-length-le}
 use lib.Seq.{sets, sets-eq, length-sets, length-take-le, take-at, drop-at, drop-drop, drop-cons}
-use borrow.Author.Tests.{leb-true, le-leb, eq-eqb, ne-eqb}
+use borrow.Author.Tests.{lt-ltb, le-ltb, leb-true, le-leb, eq-eqb, ne-eqb}
 use Rattle.standard.specs.Base.{within, every, isScalar, scalars}
-use Rattle.standard.specs.Machine.{Result, reference}
+use Rattle.standard.specs.Machine.{Result, tokens, error-with, reference}
 use Rattle.standard.proofs.Tests.{split, and-left, and-right, under, above}
-use Rattle.encoder_spec.specs.Writer.{bytesOf, Writing, onward, writing, Outcome, answerOf, write}
-use Rattle.encoder.specs.WriterCode.{noScalar, given, Space, Wrote}
+use Rattle.encoder_spec.specs.Writing.{One, wrote, cannot, plainly, Fault, Writing, later, onward, ahead, writing}
+use Rattle.encoder_spec.specs.Writer.{Outcome, answerOf, write}
+use Rattle.encoder.specs.WriterCode.{noScalar, given, plain, Space, Wrote}
 use Rattle.encoder_spec.specs.declared.Written.{Written}
-use Rattle.encoder_spec.proofs.Writing.{step}
-use Rattle.encoder.proofs.Scalars.{byte-some, byte-none}
 
 -- what holds of every element holds at each place
 every-at : (p : ℕ → Bool) (xs : List ℕ) (i : ℕ) → every p xs ≡ true → i < length xs → p (getD xs i 0) ≡ true
@@ -29,34 +28,30 @@ every-at p (x ∷ xs) (suc i) h g = every-at p xs i (and-right (p x) (every p xs
 pub scalar-at : (cs : List ℕ) (i : ℕ) → scalars cs ≡ true → i < length cs → getD cs i 0 ≤ 0x10FFFF
 scalar-at cs i h g = leb-true (getD cs i 0) 0x10FFFF (and-left (leb (getD cs i 0) 0x10FFFF) (not (within 0xD800 (getD cs i 0) 0xDFFF)) (every-at isScalar cs i h g))
 
--- nothing, and the index of an unwritable scalar or none
-abbrev pub stopped : Option ℕ → Writing
-stopped u = record { bytes = []; unwritable = u }
+-- Writing that has stopped before a scalar: all are written, or it is unwritable.
+abbrev pub stopped : ℕ → Option Fault → Writing
+stopped s u = record { bytes = []; state = s; unwritable = u }
 
--- with so many scalars in front, and their bytes
-abbrev pub later : ℕ → Option ℕ → Option ℕ
-later i none = none
-later i (some j) = some (i + j)
+abbrev fault : ℕ → ℕ → Fault
+fault i n = record { index = i; codePoint = n }
 
-abbrev pub ahead : List ℕ → ℕ → Writing → Writing
-ahead bs i w = record { bytes = bs ++ w .bytes; unwritable = later i (w .unwritable) }
-
-ahead-none : (w : Writing) → ahead [] 0 w ≡ w
-ahead-none w = λ k. record { bytes = w .bytes; unwritable = go (w .unwritable) k }
+onward-none : (w : Writing) → onward 0 [] w ≡ w
+onward-none w = λ k. record { bytes = w .bytes; state = w .state; unwritable = go (w .unwritable) k }
   where
-    go : (u : Option ℕ) → later 0 u ≡ u
+    go : (u : Option Fault) → later 0 u ≡ u
     go none = refl
-    go (some j) = let z : 0 + j ≡ j = omega arith in ap some z
+    go (some f) = let z : 0 + f .index ≡ f .index = omega arith in ap (λ (i : ℕ). some (fault i (f .codePoint))) z
 
-ahead-stopped : (bs : List ℕ) (i : ℕ) (u : Option ℕ) → _≡_ {A = Writing} (ahead bs i (stopped u)) (record { bytes = bs; unwritable = later i u })
-ahead-stopped bs i u = λ k. record { bytes = append-nil bs k; unwritable = later i u }
+onward-stopped : (i : ℕ) (bs : List ℕ) (s : ℕ) (u : Option Fault) →
+    _≡_ {A = Writing} (onward i bs (stopped s u)) (record { bytes = bs; state = s; unwritable = later i u })
+onward-stopped i bs s u = λ k. record { bytes = append-nil bs k; state = s; unwritable = later i u }
 
-ahead-onward : (bs : List ℕ) (i : ℕ) (us : List ℕ) (w : Writing) → ahead bs i (onward us w) ≡ ahead (bs ++ us) (i + 1) w
-ahead-onward bs i us w = λ k. record { bytes = sym (append-assoc bs us (w .bytes)) k; unwritable = go (w .unwritable) k }
+onward-onward : (i : ℕ) (bs us : List ℕ) (w : Writing) → onward i bs (onward 1 us w) ≡ onward (i + 1) (bs ++ us) w
+onward-onward i bs us w = λ k. record { bytes = sym (append-assoc bs us (w .bytes)) k; state = w .state; unwritable = go (w .unwritable) k }
   where
-    go : (u : Option ℕ) → later i (onward us (stopped u) .unwritable) ≡ later (i + 1) u
+    go : (u : Option Fault) → later i (later 1 u) ≡ later (i + 1) u
     go none = refl
-    go (some j) = let z : i + suc j ≡ i + 1 + j = omega arith in ap some z
+    go (some f) = let z : i + (1 + f .index) ≡ i + 1 + f .index = omega arith in ap (λ (j : ℕ). some (fault j (f .codePoint))) z
 
 -- a room after stores: its front, and the rest of it
 module _ (room : List ℕ) (o : ℕ) (us : List ℕ) (h : o + length us ≤ length room) where
@@ -69,120 +64,142 @@ module _ (room : List ℕ) (o : ℕ) (us : List ℕ) (h : o + length us ≤ leng
   rest-of : drop (o + length us) (sets room o us) ≡ drop (o + length us) room
   rest-of = rw (sets-eq us room o h) (drop-at (take o room ++ us) (drop (o + length us) room) (o + length us) whole-length)
 
-module _ (encode : ℕ → Result) (m : ℕ) where
+-- Over any writer of single scalars, in a mode.
+module _ (one : ℕ → ℕ → One) (m : ℕ) where
   -- the first scalar: its bytes, a reference, or the end
-  module _ (c : ℕ) (cs : List ℕ) where
-    pub first-bytes : {us : List ℕ} → bytesOf (encode c) ≡ some us → writing encode m (c ∷ cs) ≡ onward us (writing encode m cs)
+  module _ (s c : ℕ) (cs : List ℕ) where
+    by-one : {o : One} → one s c ≡ o → writing one m s (c ∷ cs) ≡ ahead m o (writing one m (o .state) cs)
     unfolding writing
-    first-bytes e = ap (step m c (writing encode m cs)) e
+    by-one e = ap (λ (o : One). ahead m o (writing one m (o .state) cs)) e
 
-    pub first-reference : bytesOf (encode c) ≡ none → (m ≡ 1 → ⊥) → writing encode m (c ∷ cs) ≡ onward (reference c) (writing encode m cs)
-    unfolding writing
-    first-reference e n = ap (step m c (writing encode m cs)) e ∙ rw (ne-eqb m 1 n)
+    pub first-bytes : {us : List ℕ} {t : ℕ} → one s c ≡ wrote us t → writing one m s (c ∷ cs) ≡ onward 1 us (writing one m t cs)
+    first-bytes e = by-one e
 
-    pub first-stop : bytesOf (encode c) ≡ none → m ≡ 1 → writing encode m (c ∷ cs) ≡ stopped (some 0)
-    unfolding writing
-    first-stop e h = ap (step m c (writing encode m cs)) e ∙ rw (eq-eqb m 1 h)
+    pub first-reference : {n t : ℕ} → one s c ≡ cannot n t → (m ≡ 1 → ⊥) →
+        writing one m s (c ∷ cs) ≡ onward 1 (reference n) (writing one m t cs)
+    first-reference e k = by-one e ∙ rw (ne-eqb m 1 k)
 
+    pub first-stop : {n t : ℕ} → one s c ≡ cannot n t → m ≡ 1 → writing one m s (c ∷ cs) ≡ stopped t (some (fault 0 n))
+    first-stop e h = by-one e ∙ rw (eq-eqb m 1 h)
+
+  -- The scalar at a place.
   module _ (cs : List ℕ) where
-    front : (i : ℕ) → i < length cs → writing encode m (drop i cs) ≡ writing encode m (getD cs i 0 ∷ drop (i + 1) cs)
-    front i h = rw (add-one, drop-cons cs i 0 h)
+    front : (s i : ℕ) → i < length cs → writing one m s (drop i cs) ≡ writing one m s (getD cs i 0 ∷ drop (i + 1) cs)
+    front s i h = rw (add-one, drop-cons cs i 0 h)
 
-    at-end : (i : ℕ) → length cs ≤ i → writing encode m (drop i cs) ≡ stopped none
+    at-end : (s i : ℕ) → length cs ≤ i → writing one m s (drop i cs) ≡ stopped s none
     unfolding writing
-    at-end i h = rw (drop-of-length-le cs h)
+    at-end s i h = rw (drop-of-length-le cs h)
 
-    -- these bytes are written of the scalar at i
-    abbrev pub Here : ℕ → List ℕ → Type 0
-    Here i us = writing encode m (drop i cs) ≡ onward us (writing encode m (drop (i + 1) cs))
+    -- these bytes are written of the scalar at i in state s, which leaves state t
+    abbrev pub Here : ℕ → ℕ → ℕ → List ℕ → Type 0
+    Here s i t us = writing one m s (drop i cs) ≡ onward 1 us (writing one m t (drop (i + 1) cs))
 
-    module _ (i : ℕ) (h : i < length cs) where
-      pub here-bytes : {us : List ℕ} → bytesOf (encode (getD cs i 0)) ≡ some us → Here i us
-      here-bytes e = front i h ∙ first-bytes (getD cs i 0) (drop (i + 1) cs) e
+    -- or it is unwritable, and writing stops
+    abbrev pub Stops : ℕ → ℕ → ℕ → ℕ → Type 0
+    Stops s i t n = writing one m s (drop i cs) ≡ stopped t (some (fault 0 n))
 
-      -- by the byte that the code finds, or 256
-      module _ (b : ℕ) (e : given b ≡ bytesOf (encode (getD cs i 0))) where
-        pub here-byte : b < 256 → Here i (b ∷ [])
-        here-byte l = here-bytes (byte-some b l e)
+    module _ (s i : ℕ) (h : i < length cs) where
+      pub here-bytes : {us : List ℕ} {t : ℕ} → one s (getD cs i 0) ≡ wrote us t → Here s i t us
+      here-bytes e = front s i h ∙ first-bytes s (getD cs i 0) (drop (i + 1) cs) e
 
-        pub here-reference : 256 ≤ b → (m ≡ 1 → ⊥) → Here i (reference (getD cs i 0))
-        here-reference l n = front i h ∙ first-reference (getD cs i 0) (drop (i + 1) cs) (byte-none b l e) n
+      pub here-reference : {n t : ℕ} → one s (getD cs i 0) ≡ cannot n t → (m ≡ 1 → ⊥) → Here s i t (reference n)
+      here-reference e k = front s i h ∙ first-reference s (getD cs i 0) (drop (i + 1) cs) e k
 
-        pub here-stop : 256 ≤ b → m ≡ 1 → writing encode m (drop i cs) ≡ stopped (some 0)
-        here-stop l n = front i h ∙ first-stop (getD cs i 0) (drop (i + 1) cs) (byte-none b l e) n
+      pub here-stop : {n t : ℕ} → one s (getD cs i 0) ≡ cannot n t → m ≡ 1 → Stops s i t n
+      here-stop e k = front s i h ∙ first-stop s (getD cs i 0) (drop (i + 1) cs) e k
 
-    -- Counting: n bytes before the scalar at i.
-    pub record Counted (n i : ℕ) : Type 0 where
+  -- A loop over the scalars, begun in a state.
+  module _ (s₀ : ℕ) (cs : List ℕ) where
+    -- Counting: n bytes before the scalar at i, in state s.
+    pub record Counted (n i s : ℕ) : Type 0 where
       pub bound : n ≤ i * 4294967300
-      pub same : n + length (writing encode m (drop i cs) .bytes) ≡ length (writing encode m cs .bytes)
+      pub same : n + length (writing one m s (drop i cs) .bytes) ≡ length (writing one m s₀ cs .bytes)
 
-    pub counted-start : Counted 0 0
+    pub counted-start : Counted 0 0 s₀
     counted-start = record { bound = omega arith; same = omega arith }
 
-    module _ (n i : ℕ) (s : Counted n i) where
-      pub counted-stop : {u : Option ℕ} → writing encode m (drop i cs) ≡ stopped u → n ≡ length (writing encode m cs .bytes)
-      counted-stop e = omega (arith, s .same, ap (λ (w : Writing). length (w .bytes)) e)
+    module _ (n i s : ℕ) (k : Counted n i s) where
+      pub counted-stop : {t : ℕ} {u : Option Fault} → writing one m s (drop i cs) ≡ stopped t u → n ≡ length (writing one m s₀ cs .bytes)
+      counted-stop e = omega (arith, k .same, ap (λ (w : Writing). length (w .bytes)) e)
 
-      pub counted-end : length cs ≤ i → n ≡ length (writing encode m cs .bytes)
-      counted-end h = counted-stop (at-end i h)
+      pub counted-end : length cs ≤ i → n ≡ length (writing one m s₀ cs .bytes)
+      counted-end h = counted-stop (at-end cs s i h)
 
-      pub counted-on : (us : List ℕ) → Here i us → (r : ℕ) → r ≡ length us → r ≤ 4294967300 → Counted (n + r) (i + 1)
-      counted-on us e r p q = record {
-        bound = omega (arith, s .bound);
-        same = omega (arith, s .same, ap (λ (w : Writing). length (w .bytes)) e, length-append us (writing encode m (drop (i + 1) cs) .bytes), p);
+      pub counted-on : (t : ℕ) (us : List ℕ) → Here cs s i t us → (r : ℕ) → r ≡ length us → r ≤ 4294967300 → Counted (n + r) (i + 1) t
+      counted-on t us e r p q = record {
+        bound = omega (arith, k .bound);
+        same = omega (arith, k .same, ap (λ (w : Writing). length (w .bytes)) e, length-append us (writing one m t (drop (i + 1) cs) .bytes), p);
       }
 
-    -- Writing: o bytes at the front of the room before the scalar at i, the rest of the room as it was.
-    pub record Running (room₀ room : List ℕ) (i o : ℕ) : Type 0 where
+    -- Writing: o bytes at the front of the room before the scalar at i, in state s; the rest of the room as it was.
+    pub record Running (room₀ room : List ℕ) (i o s : ℕ) : Type 0 where
       pub inside : o ≤ length room
       pub size : length room ≡ length room₀
-      pub same : writing encode m cs ≡ ahead (take o room) i (writing encode m (drop i cs))
+      pub same : writing one m s₀ cs ≡ onward i (take o room) (writing one m s (drop i cs))
       pub rest : drop o room ≡ drop o room₀
 
-    pub running-start : (room : List ℕ) → Running room room 0 0
-    running-start room = record { inside = omega arith; size = refl; same = sym (ahead-none (writing encode m cs)); rest = refl }
+    pub running-start : (room : List ℕ) → Running room room 0 0 s₀
+    running-start room = record { inside = omega arith; size = refl; same = sym (onward-none (writing one m s₀ cs)); rest = refl }
 
-    module _ (room₀ room : List ℕ) (i o : ℕ) (s : Running room₀ room i o) where
-      done : {u : Option ℕ} → writing encode m (drop i cs) ≡ stopped u →
-          write (writing encode m cs) room₀ ≡ record { answer = answerOf o (later i u); room = room }
-      done {u} e =
-          let w : writing encode m cs ≡ record { bytes = take o room; unwritable = later i u } = s .same ∙ ap (ahead (take o room) i) e ∙ ahead-stopped (take o room) i u in
-          let l : length (take o room) ≡ o = length-take-le o room (s .inside) in
-          ap (λ (w : Writing). write w room₀) w ∙ rw (l, sym (s .rest), take-append-drop o room)
+    module _ (room₀ room : List ℕ) (i o s : ℕ) (k : Running room₀ room i o s) where
+      done : {t : ℕ} {u : Option Fault} → writing one m s (drop i cs) ≡ stopped t u →
+          write (writing one m s₀ cs) room₀ ≡ record { answer = answerOf o (later i u); room = room }
+      done {t} {u} e =
+          let w : writing one m s₀ cs ≡ record { bytes = take o room; state = t; unwritable = later i u } =
+          k .same ∙ ap (onward i (take o room)) e ∙ onward-stopped i (take o room) t u in
+          let l : length (take o room) ≡ o = length-take-le o room (k .inside) in
+          ap (λ (w : Writing). write w room₀) w ∙ rw (l, sym (k .rest), take-append-drop o room)
 
-      parts : {a : Written} → write (writing encode m cs) room₀ ≡ record { answer = a; room = room } → Wrote (writing encode m cs) room₀ a room
+      parts : {a : Written} → write (writing one m s₀ cs) room₀ ≡ record { answer = a; room = room } → Wrote (writing one m s₀ cs) room₀ a room
       parts e = record { answers = ap (λ (w : Outcome). w .answer) (sym e); leaves = ap (λ (w : Outcome). w .room) (sym e) }
 
-      pub running-end : length cs ≤ i → Wrote (writing encode m cs) room₀ (answerOf o none) room
-      running-end h = parts (done (at-end i h))
+      pub running-end : length cs ≤ i → Wrote (writing one m s₀ cs) room₀ (answerOf o none) room
+      running-end h = parts (done (at-end cs s i h))
 
-      pub running-stop : writing encode m (drop i cs) ≡ stopped (some 0) → Wrote (writing encode m cs) room₀ (answerOf o (some i)) room
+      pub running-stop : {t n : ℕ} → Stops cs s i t n → Wrote (writing one m s₀ cs) room₀ (record { written = o; index = i; refusal = 11 }) room
       running-stop e = let z : i + 0 ≡ i = omega arith in parts (rw z at (done e))
 
-      module _ (us : List ℕ) (e : Here i us) (l : Space (writing encode m cs) room₀) where
-        onto : writing encode m cs ≡ ahead (take o room ++ us) (i + 1) (writing encode m (drop (i + 1) cs))
-        onto = s .same ∙ ap (ahead (take o room) i) e ∙ ahead-onward (take o room) i us (writing encode m (drop (i + 1) cs))
+      module _ (t : ℕ) (us : List ℕ) (e : Here cs s i t us) (l : Space (writing one m s₀ cs) room₀) where
+        onto : writing one m s₀ cs ≡ onward (i + 1) (take o room ++ us) (writing one m t (drop (i + 1) cs))
+        onto = k .same ∙ ap (onward i (take o room)) e ∙ onward-onward i (take o room) us (writing one m t (drop (i + 1) cs))
 
         pub running-room : o + length us ≤ length room
         running-room = omega (
           arith,
           l,
-          s .size,
+          k .size,
           ap (λ (w : Writing). length (w .bytes)) onto,
-          length-append (take o room ++ us) (writing encode m (drop (i + 1) cs) .bytes),
+          length-append (take o room ++ us) (writing one m t (drop (i + 1) cs) .bytes),
           length-append (take o room) us,
-          length-take-le o room (s .inside),
+          length-take-le o room (k .inside),
         )
 
-        pub running-on : (r : ℕ) (after : List ℕ) → r ≡ o + length us → after ≡ sets room o us → Running room₀ after (i + 1) r
+        pub running-on : (r : ℕ) (after : List ℕ) → r ≡ o + length us → after ≡ sets room o us → Running room₀ after (i + 1) r t
         running-on r after p q = rw (p, q) (record {
           inside = omega (arith, running-room, length-sets room o us);
-          size = length-sets room o us ∙ s .size;
-          same = onto ∙ ap (λ (xs : List ℕ). ahead xs (i + 1) (writing encode m (drop (i + 1) cs))) (sym (front-of room o us running-room));
+          size = length-sets room o us ∙ k .size;
+          same = onto ∙ ap (λ (xs : List ℕ). onward (i + 1) xs (writing one m t (drop (i + 1) cs))) (sym (front-of room o us running-room));
           rest =
-              rest-of room o us running-room ∙ sym (drop-drop (length us) o room) ∙ ap (drop (length us)) (s .rest) ∙
+              rest-of room o us running-room ∙ sym (drop-drop (length us) o room) ∙ ap (drop (length us)) (k .rest) ∙
               drop-drop (length us) o room₀;
         })
+
+-- An encoder without variables, by what it answers for a scalar.
+module _ (encode : ℕ → Result) (c : ℕ) where
+  pub told-bytes : {us : List ℕ} → encode c ≡ tokens us → plain encode 0 c ≡ wrote us 0
+  told-bytes e = ap (plainly 0) e
+
+  pub told-error : {n : ℕ} → encode c ≡ error-with n → plain encode 0 c ≡ cannot n 0
+  told-error e = ap (plainly 0) e
+
+  -- by the byte that the code finds, or 256
+  module _ (b : ℕ) (e : given c b ≡ encode c) where
+    pub told-byte : b < 256 → plain encode 0 c ≡ wrote (b ∷ []) 0
+    told-byte l = told-bytes (sym e ∙ rw (lt-ltb b 256 l))
+
+    pub told-none : 256 ≤ b → plain encode 0 c ≡ cannot c 0
+    told-none l = told-error (sym e ∙ rw (le-ltb b 256 l))
 
 -- Are all of them scalars? The others are counted: n before the number at i.
 module _ (cs : List ℕ) (n i : ℕ) where

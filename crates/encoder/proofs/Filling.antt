@@ -1,8 +1,8 @@
 -- Slots: how they are filled from a table, and what they say of a scalar. Assumes nothing.
 use mathlib.Core.Path.{_≡_, refl, sym, ap, subst, _∙_}
-use mathlib.Core.Bool.{true, false, not, _&&_, and-false}
+use mathlib.Core.Bool.{Bool, true, false, not, _&&_, and-false}
 use mathlib.Core.List.{List, [], _∷_}
-use mathlib.Core.Option.{some}
+use mathlib.Core.Option.{Option, some, none}
 use Prim.Native.Nat.{ℕ, zero, suc, _+_, _-_, _*_, _/_, _%_, _≤_, _<_}
 use native.Mathlib.Omega.{arith}
 use lib.Dec.{leb, eqb}
@@ -10,12 +10,17 @@ use lib.ListN.{length, getD, set, drop, replicate, length-set, length-replicate}
 use lib.Seq.{getD-set-same, getD-set-other, drop-cons}
 use borrow.Author.Tests.{leb-true, eqb-true, eqb-false, lt-ltb, le-ltb, eq-eqb, ne-eqb}
 use Rattle.standard.specs.Base.{_then_else_, within, isScalar, mapped}
-use Rattle.standard.specs.Indexes.{pointerFrom, irregular, windows1252}
-use Rattle.standard.specs.Machine.{Result}
-use Rattle.standard.specs.Encoders.{utf8Encode, singleByteEncode, userDefinedEncode}
+use Rattle.standard.specs.Indexes.{irregular, windows1252}
+use Rattle.standard.specs.Machine.{Result, tokens}
+use Rattle.standard.specs.Search.{first, either, searchFrom, searching, pointerFrom}
+use Rattle.standard.specs.Encoders.Utf8.{utf8Encode}
+use Rattle.standard.specs.Encoders.SingleByte.{singleByteEncode}
+use Rattle.standard.specs.Encoders.UserDefined.{userDefinedEncode}
+use Rattle.standard.specs.Encoders.EucJp.{eucJpEncode}
+use Rattle.standard.specs.Encoders.ShiftJis.{shiftJisEncode}
 use Rattle.standard.proofs.Tests.{split, and-left, and-right}
-use Rattle.encoder_spec.specs.Writer.{bytesOf}
-use Rattle.encoder.specs.WriterCode.{given, encoderOf, Slots, entered}
+use Rattle.pair_writers.specs.Pairs.{pairEncode}
+use Rattle.encoder.specs.WriterCode.{given, pairs, encoderOf, Slots, entered}
 use Rattle.encoder.proofs.Scalars.{windows-self, windows-more}
 
 -- a cell that counts as mapped is a scalar of at least 0x80
@@ -60,8 +65,12 @@ filled-start table slots e = rw e (record {
 module _ (table : List ℕ) (p : ℕ) (h : p < length table) (few : p < 128) where
   at-front : (c : ℕ) →
       pointerFrom p (drop p table) c ≡ (mapped (getD table p 0) && eqb (getD table p 0) c then some p else pointerFrom (suc p) (drop (suc p) table) c)
-  unfolding pointerFrom
-  at-front c = rw (drop-cons table p 0 h)
+  unfolding searchFrom
+  at-front c = rw (drop-cons table p 0 h) (go (mapped (getD table p 0) && eqb (getD table p 0) c) (pointerFrom (suc p) (drop (suc p) table) c))
+    where
+      go : (b : Bool) (o : Option ℕ) → either first (b then some p else none) o ≡ (b then some p else o)
+      go true o = refl
+      go false o = refl
 
   kept : (k s : ℕ) → ((c : ℕ) → c % 2048 ≡ k → mapped (getD table p 0) && eqb (getD table p 0) c ≡ false) → Slot table (suc p) k s → Slot table p k s
   kept k s n empty = empty
@@ -97,14 +106,14 @@ filled-on table slots after p few h f e =
     subst (Filled table (p - 1)) (sym e) (one-more table (p - 1) (omega (arith, f .inside)) (omega (arith, f .inside)) slots (subst (λ (n : ℕ). Filled table n slots) q f))
 
 -- a full slot says the byte
-slot-right : (table : List ℕ) (k s : ℕ) → Slot table 0 k s → bytesOf (singleByteEncode table (s / 256)) ≡ some (s % 256 ∷ [])
+slot-right : (table : List ℕ) (k s : ℕ) → Slot table 0 k s → singleByteEncode (searching table) (s / 256) ≡ tokens (s % 256 ∷ [])
 unfolding singleByteEncode
 slot-right table k s empty = refl
 slot-right table k s (entry c q r l b e) =
     let d : (c * 256 + (q + 0x80)) / 256 ≡ c = omega arith in let m : (c * 256 + (q + 0x80)) % 256 ≡ q + 0x80 = omega arith in
     rw (d, m, le-ltb c 0x80 l, e)
 
-pub filled-end : (table slots : List ℕ) (p : ℕ) → p ≤ 0 → Filled table p slots → Slots (singleByteEncode table) slots
+pub filled-end : (table slots : List ℕ) (p : ℕ) → p ≤ 0 → Filled table p slots → Slots (singleByteEncode (searching table)) slots
 filled-end table slots p h f =
     let q : p ≡ 0 = omega arith in
     let g : Filled table 0 slots = subst (λ (n : ℕ). Filled table n slots) q f in
@@ -112,33 +121,50 @@ filled-end table slots p h f =
 
 -- the same slots, for an equal encoder
 pub slots-as : {f g : ℕ → Result} (slots : List ℕ) → ((c : ℕ) → f c ≡ g c) → Slots f slots → Slots g slots
-slots-as slots e s = record { right = λ k. ap bytesOf (sym (e (getD slots k 0 / 256))) ∙ s .right k }
+slots-as slots e s = record { right = λ k. sym (e (getD slots k 0 / 256)) ∙ s .right k }
 
 -- windows-1252
-pub windows-slots : (slots : List ℕ) → Slots (singleByteEncode irregular) slots → Slots (singleByteEncode windows1252) slots
+pub windows-slots : (slots : List ℕ) → Slots (singleByteEncode (searching irregular)) slots → Slots (singleByteEncode (searching windows1252)) slots
 windows-slots slots s = record { right = λ k. windows-more (getD slots k 0 / 256) (getD slots k 0 % 256 ∷ []) (s .right k) }
 
 slots-set : (encode : ℕ → Result) (slots : List ℕ) (i v : ℕ) → i < length slots → Slots encode slots →
-    bytesOf (encode (v / 256)) ≡ some (v % 256 ∷ []) → Slots encode (set slots i v)
+    encode (v / 256) ≡ tokens (v % 256 ∷ []) → Slots encode (set slots i v)
 slots-set encode slots i v h s e = record {
   right = λ k. split (eqb k i)
       (λ z. let q : getD (set slots i v) k 0 ≡ v = ap (λ (j : ℕ). getD (set slots i v) j 0) (eqb-true k i z) ∙ getD-set-same slots i v 0 h in rw q e)
       (λ z. rw (getD-set-other slots i k v 0 (eqb-false k i z)) (s .right k));
 }
 
-pub regular-on : (slots : List ℕ) (c : ℕ) → length slots ≡ 2048 → 0xA0 ≤ c → c < 0x100 → Slots (singleByteEncode windows1252) slots →
-    Slots (singleByteEncode windows1252) (set slots c (c * 256 + c))
-regular-on slots c l h g s = slots-set (singleByteEncode windows1252) slots c (c * 256 + c) (omega arith) s
-    (let d : (c * 256 + c) / 256 ≡ c = omega arith in let m : (c * 256 + c) % 256 ≡ c = omega arith in rw (d, m) (ap bytesOf (sym (windows-self c h (omega arith)))))
+pub regular-on : (slots : List ℕ) (c : ℕ) → length slots ≡ 2048 → 0xA0 ≤ c → c < 0x100 → Slots (singleByteEncode (searching windows1252)) slots →
+    Slots (singleByteEncode (searching windows1252)) (set slots c (c * 256 + c))
+regular-on slots c l h g s = slots-set (singleByteEncode (searching windows1252)) slots c (c * 256 + c) (omega arith) s
+    (let d : (c * 256 + c) / 256 ≡ c = omega arith in let m : (c * 256 + c) % 256 ≡ c = omega arith in rw (d, m) (sym (windows-self c h (omega arith))))
+
+-- ASCII is its own byte in the encodings that write pairs
+pub pair-80 : (e : ℕ) (table : List ℕ) (c : ℕ) → c < 0x80 → tokens (c ∷ []) ≡ pairEncode e table c
+unfolding pairEncode eucJpEncode shiftJisEncode
+pair-80 e table c h = go (eqb e 32)
+  where
+    go : (j : Bool) → tokens (c ∷ []) ≡ (j then eucJpEncode (searching table) else shiftJisEncode (searching table)) c
+    go true = rw (lt-ltb c 0x80 h)
+    go false = rw (lt-ltb c 0x80 h)
 
 -- by the encoding's number
 module _ (e : ℕ) (table : List ℕ) where
-  pub below-80 : (c : ℕ) → c < 0x80 → given c ≡ bytesOf (encoderOf e table c)
+  pub below-80 : (c : ℕ) → c < 0x80 → tokens (c ∷ []) ≡ encoderOf e table c
   unfolding encoderOf utf8Encode singleByteEncode userDefinedEncode
-  below-80 c h = rw (lt-ltb c 256 (omega arith)) (
-      split (eqb e 0) (λ z. rw (z, lt-ltb c 0x80 h)) (λ z.
-      split (eqb e 21) (λ y. rw (z, y, lt-ltb c 0x80 h)) (λ y.
-      split (leb e 28) (λ x. rw (z, y, x, lt-ltb c 0x80 h)) (λ x. rw (z, y, x, lt-ltb c 0x80 h)))))
+  below-80 c h = go (eqb e 0) (eqb e 21) (leb e 28) (pairs e)
+    where
+      go : (u w s p : Bool) → tokens (c ∷ []) ≡ (u then utf8Encode else w then singleByteEncode (searching windows1252) else
+          s then singleByteEncode (searching table) else p then pairEncode e table else userDefinedEncode) c
+      go true w s p = rw (lt-ltb c 0x80 h)
+      go false true s p = rw (lt-ltb c 0x80 h)
+      go false false true p = rw (lt-ltb c 0x80 h)
+      go false false false true = pair-80 e table c h
+      go false false false false = rw (lt-ltb c 0x80 h)
+
+  pub given-80 : (c : ℕ) → c < 0x80 → given c c ≡ encoderOf e table c
+  given-80 c h = rw (lt-ltb c 256 (omega arith)) (below-80 c h)
 
   -- empty slots, or none
   pub empty-slots : (slots : List ℕ) → ((k : ℕ) → getD slots k 0 ≡ 0) → Slots (encoderOf e table) slots
@@ -148,5 +174,5 @@ module _ (e : ℕ) (table : List ℕ) where
   zero-slots slots q = empty-slots slots (λ k. ap (λ (l : List ℕ). getD l k 0) q ∙ zeros 2048 k)
 
   pub by-slot : (slots : List ℕ) → Slots (encoderOf e table) slots → (k c : ℕ) → getD slots k 0 / 256 ≡ c →
-      given (getD slots k 0 % 256) ≡ bytesOf (encoderOf e table c)
-  by-slot slots s k c q = rw (lt-ltb (getD slots k 0 % 256) 256 (omega arith)) (sym (s .right k) ∙ ap (λ (n : ℕ). bytesOf (encoderOf e table n)) q)
+      given c (getD slots k 0 % 256) ≡ encoderOf e table c
+  by-slot slots s k c q = rw (lt-ltb (getD slots k 0 % 256) 256 (omega arith)) (sym (s .right k) ∙ ap (encoderOf e table) q)

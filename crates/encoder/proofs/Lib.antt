@@ -3,4 +3,5 @@ pub mod Rooms
 pub mod Filling
 pub mod Counting
 pub mod Most
+pub mod Ones
 pub mod Calls

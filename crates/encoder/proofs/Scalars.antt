@@ -9,37 +9,33 @@ use lib.Dec.{ltb, leb, eqb}
 use lib.ListN.{length}
 use borrow.Author.Tests.{ltb-true, ltb-false, lt-ltb, le-ltb, le-leb, lt-leb, eqb-true, eqb-false, eq-eqb, ne-eqb}
 use Rattle.standard.specs.Base.{_then_else_, within, every, mapped}
-use Rattle.standard.specs.Indexes.{indexPointer, pointerFrom, irregular, countFrom, windows1252}
+use Rattle.standard.specs.Indexes.{irregular, countFrom, windows1252}
 use Rattle.standard.specs.Machine.{Result, tokens, error-with}
-use Rattle.standard.specs.Encoders.{utf8-following, utf8-bytes, utf8Encode, orErrorWith, singleByteEncode, userDefinedEncode}
-use Rattle.standard.proofs.Tests.{split, and-left, and-right, under, above}
-use Rattle.encoder_spec.specs.Writer.{bytesOf}
-use Rattle.encoder.specs.WriterCode.{given, utf8Of, encoderOf}
-use Rattle.encoder_spec.proofs.Tables.{table-rule}
+use Rattle.standard.specs.Search.{noneOver, first, either, searchFrom, searching, indexPointer, pointerFrom}
+use Rattle.standard.specs.Encoders.Utf8.{utf8-following, utf8-bytes, utf8Encode}
+use Rattle.standard.specs.Encoders.SingleByte.{orErrorWith, singleByteEncode}
+use Rattle.standard.specs.Encoders.UserDefined.{userDefinedEncode}
+use Rattle.standard.proofs.Search.{search-rule}
+use Rattle.standard.proofs.Tests.{split, or-case, and-left, and-right, under, above}
+use Rattle.pair_writers.specs.Pairs.{pairEncode}
+use Rattle.encoder.specs.WriterCode.{given, utf8Of, pairs, encoderOf}
 
--- the byte of an answer, or none
-pub given-byte : {r : Result} (b : ℕ) → b < 256 → tokens (b ∷ []) ≡ r → given b ≡ bytesOf r
-given-byte b h e = rw (lt-ltb b 256 h) (ap bytesOf e)
+-- the byte of an answer, or an error that names the scalar
+pub given-byte : {r : Result} (c b : ℕ) → b < 256 → tokens (b ∷ []) ≡ r → given c b ≡ r
+given-byte c b h e = rw (lt-ltb b 256 h) e
 
-pub given-none : {r : Result} (c : ℕ) → error-with c ≡ r → given 256 ≡ bytesOf r
-given-none c e = ap bytesOf e
-
--- what an answer's byte says of its bytes
-pub byte-some : {o : Option (List ℕ)} (b : ℕ) → b < 256 → given b ≡ o → o ≡ some (b ∷ [])
-byte-some b h e = sym e ∙ rw (lt-ltb b 256 h)
-
-pub byte-none : {o : Option (List ℕ)} (b : ℕ) → 256 ≤ b → given b ≡ o → o ≡ none
-byte-none b h e = sym e ∙ rw (le-ltb b 256 h)
+pub given-none : {r : Result} (c : ℕ) → error-with c ≡ r → given c 256 ≡ r
+given-none c e = e
 
 -- UTF-8
 module _ (c : ℕ) where
-  pub utf8-some : bytesOf (utf8Encode c) ≡ some (utf8Of c)
+  pub utf8-tokens : utf8Encode c ≡ tokens (utf8Of c)
   unfolding utf8Encode
-  utf8-some = go (ltb c 0x80) (leb c 0x7FF) (leb c 0xFFFF)
+  utf8-tokens = go (ltb c 0x80) (leb c 0x7FF) (leb c 0xFFFF)
     where
       go : (s t u : Bool) →
-          bytesOf (s then tokens (c ∷ []) else t then tokens (utf8-bytes 1 0xC0 c) else u then tokens (utf8-bytes 2 0xE0 c) else tokens (utf8-bytes 3 0xF0 c)) ≡
-          some (s then c ∷ [] else t then utf8-bytes 1 0xC0 c else u then utf8-bytes 2 0xE0 c else utf8-bytes 3 0xF0 c)
+          (s then tokens (c ∷ []) else t then tokens (utf8-bytes 1 0xC0 c) else u then tokens (utf8-bytes 2 0xE0 c) else tokens (utf8-bytes 3 0xF0 c)) ≡
+          tokens (s then c ∷ [] else t then utf8-bytes 1 0xC0 c else u then utf8-bytes 2 0xE0 c else utf8-bytes 3 0xF0 c)
       go true t u = refl
       go false true u = refl
       go false false true = refl
@@ -97,25 +93,21 @@ module _ (c : ℕ) where
 
 -- single-byte
 module _ (table : List ℕ) (c : ℕ) where
-  pub single-one : c < 0x80 → tokens (c ∷ []) ≡ singleByteEncode table c
+  pub single-one : c < 0x80 → tokens (c ∷ []) ≡ singleByteEncode (searching table) c
   unfolding singleByteEncode
   single-one h = rw (lt-ltb c 0x80 h)
 
-  pub single-by : 0x80 ≤ c → {o : Option ℕ} → o ≡ indexPointer table c → orErrorWith o c ≡ singleByteEncode table c
+  pub single-by : 0x80 ≤ c → {o : Option ℕ} → o ≡ indexPointer table c → orErrorWith o c ≡ singleByteEncode (searching table) c
   unfolding singleByteEncode
   single-by h e = rw (le-ltb c 0x80 h, e)
 
   -- a pointer is below the table's length
   pub pointer-below : {p : ℕ} → some p ≡ indexPointer table c → p < length table
-  pointer-below {p} e = table-rule table c .found p (sym e) .0
+  pointer-below {p} e = search-rule first noneOver table c .found p (sym e) .inside
 
 -- windows-1252: the search goes on behind the irregular ones
-or : Option ℕ → Option ℕ → Option ℕ
-or (some p) o = some p
-or none o = o
-
-pointer-append : (p : ℕ) (xs ys : List ℕ) (c : ℕ) → pointerFrom p (xs ++ ys) c ≡ or (pointerFrom p xs c) (pointerFrom (length xs + p) ys c)
-unfolding pointerFrom or
+pointer-append : (p : ℕ) (xs ys : List ℕ) (c : ℕ) → pointerFrom p (xs ++ ys) c ≡ either first (pointerFrom p xs c) (pointerFrom (length xs + p) ys c)
+unfolding searchFrom
 pointer-append p [] ys c = let e : 0 + p ≡ p = omega arith in rw e
 pointer-append p (x ∷ xs) ys c = split (mapped x && eqb x c)
     (λ h. rw h)
@@ -123,7 +115,7 @@ pointer-append p (x ∷ xs) ys c = split (mapped x && eqb x c)
 
 -- where c fails a test that all cells pass, it is no cell
 none-among : (t : ℕ → Bool) (c : ℕ) → t c ≡ false → (p : ℕ) (xs : List ℕ) → every t xs ≡ true → pointerFrom p xs c ≡ none
-unfolding pointerFrom every
+unfolding searchFrom every
 none-among t c f p [] h = refl
 none-among t c f p (x ∷ xs) h = rw not-here (none-among t c f (suc p) xs (and-right (t x) (every t xs) h))
   where
@@ -134,7 +126,7 @@ none-among t c f p (x ∷ xs) h = rw not-here (none-among t c f (suc p) xs (and-
 
 -- numbers in order
 counted-self : (p a n c : ℕ) → mapped c ≡ true → a ≤ c → c < a + n → pointerFrom p (countFrom a n) c ≡ some (p + (c - a))
-unfolding pointerFrom countFrom
+unfolding searchFrom countFrom
 counted-self p a zero c m h g = absurd (omega arith)
 counted-self p a (suc n) c m h g = split (eqb a c)
     (λ e. let q : a ≡ c = eqb-true a c e in let z : p + (c - a) ≡ p = omega arith in rw (z, q, m, eq-eqb c c refl))
@@ -153,31 +145,31 @@ module _ (c : ℕ) where
   unfolding countFrom regular every
   regular-none h = none-among regular c h 32 (countFrom 0xA0 96) refl
 
-  windows-pointer : indexPointer windows1252 c ≡ or (indexPointer irregular c) (pointerFrom 32 (countFrom 0xA0 96) c)
+  windows-pointer : indexPointer windows1252 c ≡ either first (indexPointer irregular c) (pointerFrom 32 (countFrom 0xA0 96) c)
   unfolding windows1252 irregular
   windows-pointer = pointer-append 0 irregular (countFrom 0xA0 96) c
 
-  or-none : (o : Option ℕ) → or o none ≡ o
-  unfolding or
-  or-none none = refl
-  or-none (some p) = refl
+  either-none : (o : Option ℕ) → either first o none ≡ o
+  either-none none = refl
+  either-none (some p) = refl
 
-  windows-searched : regular c ≡ false → singleByteEncode irregular c ≡ singleByteEncode windows1252 c
+  windows-searched : regular c ≡ false → singleByteEncode (searching irregular) c ≡ singleByteEncode (searching windows1252) c
   unfolding singleByteEncode
   windows-searched h =
-      let e : indexPointer windows1252 c ≡ indexPointer irregular c = windows-pointer ∙ ap (or (indexPointer irregular c)) (regular-none h) ∙ or-none (indexPointer irregular c) in
+      let e : indexPointer windows1252 c ≡ indexPointer irregular c =
+      windows-pointer ∙ ap (either first (indexPointer irregular c)) (regular-none h) ∙ either-none (indexPointer irregular c) in
       rw e
 
-  pub windows-low : c < 0xA0 → singleByteEncode irregular c ≡ singleByteEncode windows1252 c
+  pub windows-low : c < 0xA0 → singleByteEncode (searching irregular) c ≡ singleByteEncode (searching windows1252) c
   unfolding regular
   windows-low h = windows-searched (under 0xA0 c 0xFF h)
 
-  pub windows-high : 0xFF < c → singleByteEncode irregular c ≡ singleByteEncode windows1252 c
+  pub windows-high : 0xFF < c → singleByteEncode (searching irregular) c ≡ singleByteEncode (searching windows1252) c
   unfolding regular
   windows-high h = windows-searched (above 0xA0 c 0xFF h)
 
-  pub windows-self : 0xA0 ≤ c → c ≤ 0xFF → tokens (c ∷ []) ≡ singleByteEncode windows1252 c
-  unfolding singleByteEncode or regular
+  pub windows-self : 0xA0 ≤ c → c ≤ 0xFF → tokens (c ∷ []) ≡ singleByteEncode (searching windows1252) c
+  unfolding singleByteEncode regular
   windows-self h g =
       let m : mapped c ≡ true = rw (le-leb 0x80 c (omega arith), le-leb c 0x10FFFF (omega arith), under 0xD800 c 0xDFFF (omega arith)) in
       let r : regular c ≡ true = rw (le-leb 0xA0 c h, le-leb c 0xFF g) in
@@ -186,13 +178,13 @@ module _ (c : ℕ) where
       rw (le-ltb c 0x80 (omega arith), e, z)
 
   -- what is found among the irregular ones
-  pub windows-more : (bs : List ℕ) → bytesOf (singleByteEncode irregular c) ≡ some bs → bytesOf (singleByteEncode windows1252 c) ≡ some bs
-  unfolding singleByteEncode or
+  pub windows-more : (bs : List ℕ) → singleByteEncode (searching irregular) c ≡ tokens bs → singleByteEncode (searching windows1252) c ≡ tokens bs
+  unfolding singleByteEncode
   windows-more bs e = split (ltb c 0x80)
       (λ h. rw h (rw h at e))
       (λ h. rw (h, windows-pointer) (go (indexPointer irregular c) (pointerFrom 32 (countFrom 0xA0 96) c) (rw h at e)))
     where
-      go : (o x : Option ℕ) → bytesOf (orErrorWith o c) ≡ some bs → bytesOf (orErrorWith (or o x) c) ≡ some bs
+      go : (o x : Option ℕ) → orErrorWith o c ≡ tokens bs → orErrorWith (either first o x) c ≡ tokens bs
       go (some p) x e = e
       go none x e = let z : _≡_ {A = ℕ} 0 1 = cc in absurd (omega arith)
 
@@ -213,20 +205,34 @@ module _ (c : ℕ) where
   unfolding userDefinedEncode
   user-high g = rw (le-ltb c 0x80 (omega arith), above 0xF780 c 0xF7FF g)
 
+-- the encodings that write pairs
+pub pairs-past : (e : ℕ) → pairs e ≡ true → 28 < e
+pairs-past e p = or-case (eqb e 32) (eqb e 34) p (λ h. omega (arith, eqb-true e 32 h)) (λ h. omega (arith, eqb-true e 34 h))
+
+pub no-pairs : (e : ℕ) → e ≤ 28 → pairs e ≡ false
+no-pairs e l = rw (ne-eqb e 32 (λ z. omega arith), ne-eqb e 34 (λ z. omega arith))
+
 -- by the encoding's number
 module _ (e : ℕ) (table : List ℕ) (c : ℕ) where
   pub of-utf8 : e ≡ 0 → utf8Encode c ≡ encoderOf e table c
   unfolding encoderOf
   of-utf8 h = rw (eq-eqb e 0 h)
 
-  pub of-windows-1252 : e ≡ 21 → singleByteEncode windows1252 c ≡ encoderOf e table c
+  pub of-windows-1252 : e ≡ 21 → singleByteEncode (searching windows1252) c ≡ encoderOf e table c
   unfolding encoderOf
   of-windows-1252 h = rw h
 
-  pub of-single-byte : (e ≡ 0 → ⊥) → (e ≡ 21 → ⊥) → e ≤ 28 → singleByteEncode table c ≡ encoderOf e table c
+  pub of-single-byte : (e ≡ 0 → ⊥) → (e ≡ 21 → ⊥) → e ≤ 28 → singleByteEncode (searching table) c ≡ encoderOf e table c
   unfolding encoderOf
   of-single-byte h g k = rw (ne-eqb e 0 h, ne-eqb e 21 g, le-leb e 28 k)
 
-  pub of-user-defined : 28 < e → userDefinedEncode c ≡ encoderOf e table c
-  unfolding encoderOf
-  of-user-defined h = rw (ne-eqb e 0 (omega arith), ne-eqb e 21 (omega arith), lt-leb e 28 h)
+  module _ (h : 28 < e) where
+    past-28 : encoderOf e table c ≡ (pairs e then pairEncode e table else userDefinedEncode) c
+    unfolding encoderOf
+    past-28 = rw (ne-eqb e 0 (omega arith), ne-eqb e 21 (omega arith), lt-leb e 28 h)
+
+    pub of-user-defined : pairs e ≡ false → userDefinedEncode c ≡ encoderOf e table c
+    of-user-defined p = sym (past-28 ∙ rw p)
+
+  pub of-pairs : pairs e ≡ true → pairEncode e table c ≡ encoderOf e table c
+  of-pairs p = sym (past-28 (pairs-past e p) ∙ rw p)

@@ -1,26 +1,32 @@
--- What the code's values stand for: the bytes of one scalar, the encoder of an encoding number, what a call wrote, and its refusal. Assumes nothing.
+-- What the code's values stand for: the bytes of one scalar, the encoder of an encoding number, what a call wrote, and its refusal.
+-- Assumes nothing.
 use mathlib.Core.Path.{_≡_}
-use mathlib.Core.Bool.{Bool, not, _||_}
+use mathlib.Core.Bool.{Bool, true, false, not, _||_}
 use mathlib.Core.List.{List, [], _∷_}
-use mathlib.Core.Option.{Option, some, none}
 use Prim.Native.Nat.{ℕ, _+_, _*_, _/_, _%_, _≤_}
 use lib.Dec.{ltb, leb, eqb}
 use lib.ListN.{length, getD, set}
 use Rattle.standard.specs.Base.{_then_else_, isScalar, scalars, mapped}
 use Rattle.standard.specs.Encodings.{family, Tables, fits}
 use Rattle.standard.specs.Indexes.{windows1252}
-use Rattle.standard.specs.Machine.{Result}
-use Rattle.standard.specs.Encoders.{utf8-bytes, utf8Encode, singleByteEncode, userDefinedEncode}
-use Rattle.encoder_spec.specs.Writer.{bytesOf, Writing, writing, write}
+use Rattle.standard.specs.Machine.{Result, tokens, error-with}
+use Rattle.standard.specs.Search.{searching}
+use Rattle.standard.specs.Encoders.Utf8.{utf8-bytes, utf8Encode}
+use Rattle.standard.specs.Encoders.SingleByte.{singleByteEncode}
+use Rattle.standard.specs.Encoders.UserDefined.{userDefinedEncode}
+use Rattle.standard.specs.Writers.{stateless}
+use Rattle.pair_writers.specs.Pairs.{pairEncode}
+use Rattle.encoder_spec.specs.Writing.{One, encodeOne, Writing, writing}
+use Rattle.encoder_spec.specs.Writer.{write}
 use Rattle.encoder_spec.specs.declared.Written.{Written}
 
 -- 1 for a number that is no scalar, else 0.
 abbrev pub noScalar : ℕ → ℕ
 noScalar c = isScalar c then 0 else 1
 
--- A byte, or none from 256 on: an unwritable scalar.
-abbrev pub given : ℕ → Option (List ℕ)
-given b = ltb b 256 then some (b ∷ []) else none
+-- A byte, or from 256 on an error that names the scalar.
+abbrev pub given : ℕ → ℕ → Result
+given c b = ltb b 256 then tokens (b ∷ []) else error-with c
 
 -- The bytes of a scalar in UTF-8.
 abbrev pub utf8Of : ℕ → List ℕ
@@ -30,37 +36,57 @@ utf8Of c =
     leb c 0xFFFF then utf8-bytes 2 0xE0 c else
     utf8-bytes 3 0xF0 c
 
--- Is there a writer for this encoding?
+-- Does this encoding write pairs? Is there a writer for it?
+abbrev pub pairs : ℕ → Bool
+pairs e = eqb e 32 || eqb e 34
+
 abbrev pub writes : ℕ → Bool
-writes e = leb e 28 || eqb e 39
+writes e = leb e 28 || (pairs e || eqb e 39)
 
 -- The encoder of such an encoding, with its first table.
 unfoldable pub encoderOf : ℕ → List ℕ → ℕ → Result
 encoderOf e table =
     eqb e 0 then utf8Encode else
-    eqb e 21 then singleByteEncode windows1252 else
-    leb e 28 then singleByteEncode table else
+    eqb e 21 then singleByteEncode (searching windows1252) else
+    leb e 28 then singleByteEncode (searching table) else
+    pairs e then pairEncode e table else
     userDefinedEncode
+
+-- Its first table: of 11,280 cells where it writes pairs, else of 128 or none.
+pub record Tabled (e : ℕ) (table : List ℕ) : Type 0 where
+  pub of-pairs : pairs e ≡ true → length table ≡ 11280
+  pub of-bytes : pairs e ≡ false → length table ≤ 128
+
+-- An encoder of one scalar, whatever the state; that of an encoding number.
+abbrev pub plain : (ℕ → Result) → ℕ → ℕ → One
+plain encode = encodeOne (stateless encode)
+
+abbrev pub oneOf : ℕ → List ℕ → ℕ → ℕ → One
+oneOf e table = plain (encoderOf e table)
 
 -- Every slot holds a scalar, times 256, and its byte.
 pub record Slots (encode : ℕ → Result) (slots : List ℕ) : Type 0 where
-  pub right : (k : ℕ) → bytesOf (encode (getD slots k 0 / 256)) ≡ some (getD slots k 0 % 256 ∷ [])
+  pub right : (k : ℕ) → encode (getD slots k 0 / 256) ≡ tokens (getD slots k 0 % 256 ∷ [])
 
--- What a loop of an encoding of one byte a scalar is lent: its table, of 128 cells or none, and slots.
-abbrev pub OneByte : ℕ → List ℕ → List ℕ → Type 0
-OneByte e table slots = (1 ≤ e) × (length table ≤ 128) × Slots (encoderOf e table) slots
+-- An encoding of one byte a scalar, with its table.
+abbrev pub OneByte : ℕ → List ℕ → Type 0
+OneByte e table = (1 ≤ e) × (pairs e ≡ false) × (length table ≤ 128)
+
+-- What a loop of such an encoding is lent: its table, and slots.
+abbrev pub BySlots : ℕ → List ℕ → List ℕ → Type 0
+BySlots e table slots = OneByte e table × Slots (encoderOf e table) slots
 
 -- The cell at a pointer put into its slot, where it counts as mapped.
 abbrev pub entered : List ℕ → ℕ → ℕ → List ℕ
 entered slots c p = mapped c then set slots (c % 2048) (c * 256 + (p + 0x80)) else slots
 
--- What such an encoding writes of some scalars.
+-- What an encoding writes of some scalars.
 abbrev pub writingOf : ℕ → ℕ → List ℕ → List ℕ → Writing
-writingOf e m table cs = writing (encoderOf e table) m cs
+writingOf e m table cs = writing (oneOf e table) m 0 cs
 
--- The most bytes that such an encoding writes of one scalar.
+-- The most bytes that it writes of one scalar.
 abbrev pub mostOf : ℕ → ℕ → ℕ
-mostOf e m = eqb e 0 then 4 else eqb m 1 then 1 else 10
+mostOf e m = eqb e 0 then 4 else eqb m 1 then (pairs e then 2 else 1) else 10
 
 -- A room has space for a writing.
 abbrev pub Space : Writing → List ℕ → Type 0

@@ -1,6 +1,7 @@
 // Writing: document 01, "Writing rules" and "Refusal numbers".
 
 mod one_byte;
+mod pairs;
 mod references;
 mod refusals;
 mod single_byte;

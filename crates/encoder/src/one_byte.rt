@@ -8,13 +8,12 @@ ghost use mathlib.Core.Bool.{true};
 ghost use Prim.Native.Nat.{_≤_};
 ghost use lib.ListN.{length};
 ghost use Rattle.standard.specs.Base.{scalars as areScalars};
-ghost use Rattle.encoder_spec.specs.Writer.{bytesOf};
-ghost use Rattle.encoder.specs.WriterCode.{given, encoderOf, OneByte, writingOf, Space, Wrote};
+ghost use Rattle.encoder.specs.WriterCode.{given, encoderOf, OneByte, BySlots, writingOf, Space, Wrote};
 
 // The byte of a scalar; 256 stands for an unwritable one.
 pub(crate) fn byte_of(encoding: u8, table: &[u32], c: u32) -> u32
-    requires { ⌜ (1 ≤ encoding) × (length (now table) ≤ 128) ⌝ }
-    ensures { λ r. ⌜ given r ≡ bytesOf (encoderOf encoding (now (table .entry)) c) ⌝ }
+    requires { ⌜ OneByte encoding (now table) ⌝ }
+    ensures { λ r. ⌜ given c r ≡ encoderOf encoding (now (table .entry)) c ⌝ }
 {
     if encoding == 21 {
         return crate::single_byte::windows_1252(c);
@@ -27,7 +26,7 @@ pub(crate) fn byte_of(encoding: u8, table: &[u32], c: u32) -> u32
 
 // How many bytes are written of the scalars, with slots.
 fn count_by(encoding: u8, mode: u8, scalars: &[u32], table: &[u32], slots: &[u32]) -> usize
-    requires { ⌜ OneByte encoding (now table) (now slots) × (areScalars (now scalars) ≡ true) × (length (now scalars) ≤ 16384) ⌝ }
+    requires { ⌜ BySlots encoding (now table) (now slots) × (areScalars (now scalars) ≡ true) × (length (now scalars) ≤ 16384) ⌝ }
     ensures { λ r. ⌜ r ≡ length (writingOf encoding mode (now (table .entry)) (now (scalars .entry)) .bytes) ⌝ }
 {
     let mut n: usize = 0;
@@ -50,7 +49,7 @@ fn count_by(encoding: u8, mode: u8, scalars: &[u32], table: &[u32], slots: &[u32
 
 // The same, with slots where they save time.
 pub(crate) fn count(encoding: u8, mode: u8, scalars: &[u32], table: &[u32]) -> usize
-    requires { ⌜ (1 ≤ encoding) × (areScalars (now scalars) ≡ true) × (length (now scalars) ≤ 16384) × (length (now table) ≤ 128) ⌝ }
+    requires { ⌜ OneByte encoding (now table) × (areScalars (now scalars) ≡ true) × (length (now scalars) ≤ 16384) ⌝ }
     ensures { λ r. ⌜ r ≡ length (writingOf encoding mode (now (table .entry)) (now (scalars .entry)) .bytes) ⌝ }
 {
     if scalars.len() < slots::least(encoding) {
@@ -70,7 +69,7 @@ fn write_by(
     slots: &[u32],
     room: &mut [u8],
 ) -> Written
-    requires { ⌜ OneByte encoding (now table) (now slots) × Space (writingOf encoding mode (now table) (now scalars)) (now room) ⌝ }
+    requires { ⌜ BySlots encoding (now table) (now slots) × Space (writingOf encoding mode (now table) (now scalars)) (now room) ⌝ }
     ensures { λ r. ⌜ Wrote (writingOf encoding mode (now (table .entry)) (now (scalars .entry))) (now (room .entry)) r (now (room .exit)) ⌝ }
 {
     let mut o: usize = 0;
@@ -109,7 +108,7 @@ pub(crate) fn write(
     table: &[u32],
     room: &mut [u8],
 ) -> Written
-    requires { ⌜ (1 ≤ encoding) × (length (now table) ≤ 128) × Space (writingOf encoding mode (now table) (now scalars)) (now room) ⌝ }
+    requires { ⌜ OneByte encoding (now table) × Space (writingOf encoding mode (now table) (now scalars)) (now room) ⌝ }
     ensures { λ r. ⌜ Wrote (writingOf encoding mode (now (table .entry)) (now (scalars .entry))) (now (room .entry)) r (now (room .exit)) ⌝ }
 {
     if scalars.len() < slots::least(encoding) {

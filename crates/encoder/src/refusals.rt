@@ -11,7 +11,7 @@ ghost use lib.Dec.{ltb};
 ghost use lib.ListN.{length};
 ghost use Rattle.standard.specs.Base.{isScalar, scalars as areScalars};
 ghost use Rattle.standard.specs.Encodings.{lent};
-ghost use Rattle.encoder.specs.WriterCode.{noScalar, writingOf, textRefusal, refusalOf};
+ghost use Rattle.encoder.specs.WriterCode.{noScalar, Tabled, writingOf, textRefusal, refusalOf};
 
 fn is_scalar(c: u32) -> bool
     ensures { λ r. ⌜ r ≡ isScalar c ⌝ }
@@ -51,7 +51,7 @@ fn all_scalars(scalars: &[u32]) -> bool
 
 // Is a room of so many bytes too small? The bytes are counted only where the most of them would not fit.
 fn lacks(encoding: u8, mode: u8, scalars: &[u32], table: &[u32], room: usize) -> bool
-    requires { ⌜ (areScalars (now scalars) ≡ true) × (length (now scalars) ≤ 16384) × (length (now table) ≤ 128) ⌝ }
+    requires { ⌜ (areScalars (now scalars) ≡ true) × (length (now scalars) ≤ 16384) × Tabled encoding (now table) ⌝ }
     ensures { λ r. ⌜ r ≡ ltb room (length (writingOf encoding mode (now (table .entry)) (now (scalars .entry)) .bytes)) ⌝ }
 {
     if scalars.len() * most(encoding, mode) <= room {
@@ -62,7 +62,7 @@ fn lacks(encoding: u8, mode: u8, scalars: &[u32], table: &[u32], room: usize) ->
 
 // The refusal that depends on the scalars, or 0: 8, 10, 7.
 fn text_refusal(encoding: u8, mode: u8, scalars: &[u32], table: &[u32], room: usize) -> u8
-    requires { ⌜ length (now table) ≤ 128 ⌝ }
+    requires { ⌜ Tabled encoding (now table) ⌝ }
     ensures { λ r. ⌜ r ≡ textRefusal encoding mode (now (table .entry)) (now (scalars .entry)) room ⌝ }
 {
     if 16384 < scalars.len() {

@@ -5,14 +5,14 @@ ghost use mathlib.Core.Path.{_≡_};
 ghost use Prim.Native.Nat.{_≤_};
 ghost use lib.ListN.{length};
 ghost use Rattle.standard.specs.Indexes.{windows1252};
-ghost use Rattle.standard.specs.Encoders.{singleByteEncode};
-ghost use Rattle.encoder_spec.specs.Writer.{bytesOf};
+ghost use Rattle.standard.specs.Search.{searching};
+ghost use Rattle.standard.specs.Encoders.SingleByte.{singleByteEncode};
 ghost use Rattle.encoder.specs.WriterCode.{given};
 
 // By a table of 128 cells or fewer: the first cell that counts as mapped and equals the scalar.
 pub(crate) fn byte_of(table: &[u32], c: u32) -> u32
     requires { ⌜ length (now table) ≤ 128 ⌝ }
-    ensures { λ r. ⌜ given r ≡ bytesOf (singleByteEncode (now (table .entry)) c) ⌝ }
+    ensures { λ r. ⌜ given c r ≡ singleByteEncode (searching (now (table .entry))) c ⌝ }
 {
     if c < 0x80 {
         return c;
@@ -25,7 +25,7 @@ pub(crate) fn byte_of(table: &[u32], c: u32) -> u32
 
 // windows-1252: A0 to FF stand for themselves, the others are searched for.
 pub(crate) fn windows_1252(c: u32) -> u32
-    ensures { λ r. ⌜ given r ≡ bytesOf (singleByteEncode windows1252 c) ⌝ }
+    ensures { λ r. ⌜ given c r ≡ singleByteEncode (searching windows1252) c ⌝ }
 {
     if c < 0xA0 {
         return byte_of(&index::IRREGULAR, c);

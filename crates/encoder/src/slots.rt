@@ -4,9 +4,9 @@ ghost use mathlib.Core.Path.{_≡_};
 ghost use Prim.Native.Nat.{_≤_, _<_};
 ghost use lib.ListN.{length, replicate};
 ghost use Rattle.standard.specs.Indexes.{windows1252};
-ghost use Rattle.standard.specs.Encoders.{singleByteEncode};
-ghost use Rattle.encoder_spec.specs.Writer.{bytesOf};
-ghost use Rattle.encoder.specs.WriterCode.{given, encoderOf, Slots, OneByte, entered};
+ghost use Rattle.standard.specs.Search.{searching};
+ghost use Rattle.standard.specs.Encoders.SingleByte.{singleByteEncode};
+ghost use Rattle.encoder.specs.WriterCode.{given, encoderOf, Slots, OneByte, BySlots, entered};
 
 // The cell at a pointer, put into its slot where it counts as mapped.
 fn enter(slots: &mut [u32], c: u32, p: usize)
@@ -22,7 +22,7 @@ fn enter(slots: &mut [u32], c: u32, p: usize)
 // The cells of a table, from the last on, so that the first of equal cells stays.
 fn fill_table(table: &[u32], slots: &mut [u32])
     requires { ⌜ (length (now table) ≤ 128) × (now slots ≡ replicate 2048 0) ⌝ }
-    ensures { λ r. ⌜ Slots (singleByteEncode (now (table .entry))) (now (slots .exit)) ⌝ }
+    ensures { λ r. ⌜ Slots (singleByteEncode (searching (now (table .entry)))) (now (slots .exit)) ⌝ }
 {
     let mut p = table.len();
     while 0 < p {
@@ -33,8 +33,8 @@ fn fill_table(table: &[u32], slots: &mut [u32])
 
 // A0 to FF of windows-1252, which stand for themselves.
 fn fill_regular(slots: &mut [u32])
-    requires { ⌜ (length (now slots) ≡ 2048) × Slots (singleByteEncode windows1252) (now slots) ⌝ }
-    ensures { λ r. ⌜ Slots (singleByteEncode windows1252) (now (slots .exit)) ⌝ }
+    requires { ⌜ (length (now slots) ≡ 2048) × Slots (singleByteEncode (searching windows1252)) (now slots) ⌝ }
+    ensures { λ r. ⌜ Slots (singleByteEncode (searching windows1252)) (now (slots .exit)) ⌝ }
 {
     let mut c: u32 = 0xA0;
     while c < 0x100 {
@@ -58,7 +58,7 @@ pub(crate) fn least(encoding: u8) -> usize
 
 // The slots of an encoding, from empty ones.
 pub(crate) fn fill(encoding: u8, table: &[u32], slots: &mut [u32])
-    requires { ⌜ (1 ≤ encoding) × (length (now table) ≤ 128) × (now slots ≡ replicate 2048 0) ⌝ }
+    requires { ⌜ OneByte encoding (now table) × (now slots ≡ replicate 2048 0) ⌝ }
     ensures { λ r. ⌜ Slots (encoderOf encoding (now (table .entry))) (now (slots .exit)) ⌝ }
 {
     if 28 < encoding {
@@ -72,10 +72,10 @@ pub(crate) fn fill(encoding: u8, table: &[u32], slots: &mut [u32])
     fill_table(table, slots);
 }
 
-// The byte of a scalar in an encoding other than UTF-8, by its slot or by a search; 256 stands for an unwritable scalar.
+// The byte of a scalar in an encoding of one byte a scalar, by its slot or by a search; 256 stands for an unwritable scalar.
 pub(crate) fn byte_of(encoding: u8, table: &[u32], slots: &[u32], c: u32) -> u32
-    requires { ⌜ OneByte encoding (now table) (now slots) ⌝ }
-    ensures { λ r. ⌜ given r ≡ bytesOf (encoderOf encoding (now (table .entry)) c) ⌝ }
+    requires { ⌜ BySlots encoding (now table) (now slots) ⌝ }
+    ensures { λ r. ⌜ given c r ≡ encoderOf encoding (now (table .entry)) c ⌝ }
 {
     if c < 0x80 {
         return c;

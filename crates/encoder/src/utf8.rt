@@ -9,9 +9,10 @@ ghost use lib.Dec.{ltb};
 ghost use lib.ListN.{length};
 ghost use lib.Seq.{sets};
 ghost use Rattle.standard.specs.Base.{_then_else_, scalars as areScalars};
-ghost use Rattle.standard.specs.Encoders.{utf8Encode};
-ghost use Rattle.encoder_spec.specs.Writer.{writing, answerOf};
-ghost use Rattle.encoder.specs.WriterCode.{utf8Of, Space, Wrote};
+ghost use Rattle.standard.specs.Encoders.Utf8.{utf8Encode};
+ghost use Rattle.encoder_spec.specs.Writing.{writing};
+ghost use Rattle.encoder_spec.specs.Writer.{answerOf};
+ghost use Rattle.encoder.specs.WriterCode.{utf8Of, plain, Space, Wrote};
 
 // 0 below a number, else 1.
 fn at_least(c: u32, least: u32) -> u32
@@ -98,7 +99,7 @@ pub(crate) fn put(room: &mut [u8], at: usize, c: u32) -> usize
 // How many bytes the scalars have.
 pub(crate) fn count(scalars: &[u32]) -> usize
     requires { ⌜ length (now scalars) ≤ 16384 ⌝ }
-    ensures { λ r. ⌜ r ≡ length (writing utf8Encode 0 (now (scalars .entry)) .bytes) ⌝ }
+    ensures { λ r. ⌜ r ≡ length (writing (plain utf8Encode) 0 0 (now (scalars .entry)) .bytes) ⌝ }
 {
     let mut n: u32 = 0;
     let mut i: usize = 0;
@@ -111,8 +112,8 @@ pub(crate) fn count(scalars: &[u32]) -> usize
 
 // The scalars written into a room that has space for all their bytes; how many bytes.
 pub(crate) fn write(scalars: &[u32], room: &mut [u8]) -> usize
-    requires { ⌜ (areScalars (now scalars) ≡ true) × Space (writing utf8Encode 0 (now scalars)) (now room) ⌝ }
-    ensures { λ r. ⌜ Wrote (writing utf8Encode 0 (now (scalars .entry))) (now (room .entry)) (answerOf r none) (now (room .exit)) ⌝ }
+    requires { ⌜ (areScalars (now scalars) ≡ true) × Space (writing (plain utf8Encode) 0 0 (now scalars)) (now room) ⌝ }
+    ensures { λ r. ⌜ Wrote (writing (plain utf8Encode) 0 0 (now (scalars .entry))) (now (room .entry)) (answerOf r none) (now (room .exit)) ⌝ }
 {
     let mut o: usize = 0;
     let mut i: usize = 0;

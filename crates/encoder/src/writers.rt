@@ -1,4 +1,4 @@
-// The writer of each encoding number: UTF-8, or one byte a scalar.
+// The writer of each encoding number: UTF-8, pairs, or one byte a scalar.
 
 use encoder_spec::Written;
 ghost use mathlib.Core.Path.{_≡_};
@@ -6,13 +6,26 @@ ghost use mathlib.Core.Bool.{true};
 ghost use Prim.Native.Nat.{_≤_};
 ghost use lib.ListN.{length};
 ghost use Rattle.standard.specs.Base.{scalars as areScalars};
-ghost use Rattle.encoder.specs.WriterCode.{writes, writingOf, mostOf, Space, Wrote};
+ghost use Rattle.encoder.specs.WriterCode.{pairs, writes, Tabled, writingOf, mostOf, Space, Wrote};
+
+// Does this encoding write pairs?
+fn pairs(encoding: u8) -> bool
+    ensures { λ r. ⌜ r ≡ pairs encoding ⌝ }
+{
+    if encoding == 32 {
+        return true;
+    }
+    encoding == 34
+}
 
 // Is there a writer for this encoding?
 pub(crate) fn writes(encoding: u8) -> bool
     ensures { λ r. ⌜ r ≡ writes encoding ⌝ }
 {
     if encoding <= 28 {
+        return true;
+    }
+    if pairs(encoding) {
         return true;
     }
     encoding == 39
@@ -25,19 +38,25 @@ pub(crate) fn most(encoding: u8, mode: u8) -> usize
     if encoding == 0 {
         return 4;
     }
-    if mode == 1 {
-        return 1;
+    if mode != 1 {
+        return 10;
     }
-    10
+    if pairs(encoding) {
+        return 2;
+    }
+    1
 }
 
 // How many bytes are written of the scalars.
 pub(crate) fn count(encoding: u8, mode: u8, scalars: &[u32], table: &[u32]) -> usize
-    requires { ⌜ (areScalars (now scalars) ≡ true) × (length (now scalars) ≤ 16384) × (length (now table) ≤ 128) ⌝ }
+    requires { ⌜ (areScalars (now scalars) ≡ true) × (length (now scalars) ≤ 16384) × Tabled encoding (now table) ⌝ }
     ensures { λ r. ⌜ r ≡ length (writingOf encoding mode (now (table .entry)) (now (scalars .entry)) .bytes) ⌝ }
 {
     if encoding == 0 {
         return crate::utf8::count(scalars);
+    }
+    if pairs(encoding) {
+        return crate::pairs::count(encoding, mode, scalars, table);
     }
     crate::one_byte::count(encoding, mode, scalars, table)
 }
@@ -50,7 +69,8 @@ pub(crate) fn write(
     table: &[u32],
     room: &mut [u8],
 ) -> Written
-    requires { ⌜ (areScalars (now scalars) ≡ true) × (length (now table) ≤ 128) × Space (writingOf encoding mode (now table) (now scalars)) (now room) ⌝ }
+    requires { ⌜ (areScalars (now scalars) ≡ true) × (length (now scalars) ≤ 16384) × Tabled encoding (now table) ⌝ }
+    requires { ⌜ Space (writingOf encoding mode (now table) (now scalars)) (now room) ⌝ }
     ensures { λ r. ⌜ Wrote (writingOf encoding mode (now (table .entry)) (now (scalars .entry))) (now (room .entry)) r (now (room .exit)) ⌝ }
 {
     if encoding == 0 {
@@ -60,6 +80,9 @@ pub(crate) fn write(
             index: 0,
             refusal: 0,
         };
+    }
+    if pairs(encoding) {
+        return crate::pairs::write(encoding, mode, scalars, table, room);
     }
     crate::one_byte::write(encoding, mode, scalars, table, room)
 }

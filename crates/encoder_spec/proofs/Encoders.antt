@@ -1,62 +1,77 @@
--- The families with an encoder, and what an encoder answers. Assumes nothing.
-use mathlib.Core.Path.{_≡_, refl}
-use mathlib.Core.Bool.{Bool, true, false}
+-- What an encoder without variables answers. Assumes nothing.
+use mathlib.Core.Bool.{_||_}
 use mathlib.Core.List.{List, [], _∷_}
 use mathlib.Core.Option.{Option, some, none}
 use Prim.Native.Nat.{ℕ, _+_}
-use native.Mathlib.Omega.{arith}
-use lib.Dec.{ltb, leb}
-use Rattle.standard.specs.Base.{_then_else_, within}
-use Rattle.standard.specs.Encodings.{Tables, Family, UTF-8, single-byte, windows-1252, GB18030, Big5, EUC-JP, ISO-2022-JP, Shift-JIS, EUC-KR, Replacement, UTF-16BE, UTF-16LE, x-user-defined}
-use Rattle.standard.specs.Indexes.{indexPointer, windows1252}
+use lib.Dec.{leb, eqb}
+use Rattle.standard.specs.Base.{within}
+use Rattle.standard.specs.Indexes.{windows1252}
 use Rattle.standard.specs.Machine.{Result, tokens, error-with}
-use Rattle.standard.specs.Encoders.{utf8Encode, orErrorWith, singleByteEncode, userDefinedEncode, encoder}
+use Rattle.standard.specs.Handlers.{ascii}
+use Rattle.standard.specs.Layouts.{Layout, twoBytes, eucJpLayout, shiftJisLayout}
+use Rattle.standard.specs.Search.{noneOver, first, Lookup, searching}
+use Rattle.standard.specs.Encoders.Utf8.{utf8Encode}
+use Rattle.standard.specs.Encoders.SingleByte.{orErrorWith, singleByteEncode}
+use Rattle.standard.specs.Encoders.UserDefined.{userDefinedEncode}
+use Rattle.standard.specs.Encoders.Pairs.{pairOrErrorWith, minus}
+use Rattle.standard.specs.Encoders.EucJp.{jis0208Over, eucJpEncode}
+use Rattle.standard.specs.Encoders.ShiftJis.{shiftJisOver, shiftJisEncode}
+use Rattle.standard.specs.Writers.{Writer, utf-8, single-byte, windows-1252, euc-jp, shift-jis, x-user-defined, Coding, stateless, coding}
+use Rattle.standard.proofs.Tests.{choose}
 
--- by a test, for any claim about what stands behind it
-pub choose : {A : Type 0} (P : A → Type 0) (t : Bool) {x y : A} → (t ≡ true → P x) → (t ≡ false → P y) → P (t then x else y)
-choose P true f g = f refl
-choose P false f g = g refl
+-- It answers with bytes, or with an error that names a code point.
+pub data Answer : Result → Type 0 where
+  bytes : (bs : List ℕ) → Answer (tokens bs)
+  fault : (n : ℕ) → Answer (error-with n)
 
--- The families with an encoder, and the encoder of each.
-pub data Encodes (t : Tables) : Family → (ℕ → Result) → Type 0 where
-  by-utf8 : Encodes t UTF-8 utf8Encode
-  by-table : Encodes t single-byte (singleByteEncode (t .first))
-  by-windows-1252 : Encodes t windows-1252 (singleByteEncode windows1252)
-  by-user : Encodes t x-user-defined userDefinedEncode
+by-byte : (o : Option ℕ) (c : ℕ) → Answer (orErrorWith o c)
+by-byte none c = fault c
+by-byte (some p) c = bytes ((p + 0x80) ∷ [])
 
-no-encoder : {A : Type 0} {encode : ℕ → Result} → none ≡ some encode → A
-no-encoder e = let z : _≡_ {A = ℕ} 0 1 = cc in absurd (omega arith)
+by-pair : (y : Layout) (o : Option ℕ) (c : ℕ) → Answer (pairOrErrorWith y o c)
+by-pair y none c = fault c
+by-pair y (some p) c = bytes (twoBytes y p)
 
-pub encodes : (t : Tables) (f : Family) (encode : ℕ → Result) → encoder t f ≡ some encode → Encodes t f encode
-encodes t UTF-8 encode e = let q : encode ≡ utf8Encode = cc in rw q by-utf8
-encodes t single-byte encode e = let q : encode ≡ singleByteEncode (t .first) = cc in rw q by-table
-encodes t windows-1252 encode e = let q : encode ≡ singleByteEncode windows1252 = cc in rw q by-windows-1252
-encodes t x-user-defined encode e = let q : encode ≡ userDefinedEncode = cc in rw q by-user
-encodes t GB18030 encode e = no-encoder e
-encodes t Big5 encode e = no-encoder e
-encodes t EUC-JP encode e = no-encoder e
-encodes t ISO-2022-JP encode e = no-encoder e
-encodes t Shift-JIS encode e = no-encoder e
-encodes t EUC-KR encode e = no-encoder e
-encodes t Replacement encode e = no-encoder e
-encodes t UTF-16BE encode e = no-encoder e
-encodes t UTF-16LE encode e = no-encoder e
+utf8-answer : (c : ℕ) → Answer (utf8Encode c)
+unfolding utf8Encode
+utf8-answer c =
+    choose Answer (ascii c) (λ _. bytes _) (λ _.
+    choose Answer (leb c 0x7FF) (λ _. bytes _) (λ _.
+    choose Answer (leb c 0xFFFF) (λ _. bytes _) (λ _. bytes _)))
 
--- An encoder answers with bytes, or with an error that names the very scalar.
-pub data Answer (c : ℕ) : Result → Type 0 where
-  bytes : (bs : List ℕ) → Answer c (tokens bs)
-  unwritable : Answer c (error-with c)
+user-defined-answer : (c : ℕ) → Answer (userDefinedEncode c)
+unfolding userDefinedEncode
+user-defined-answer c = choose Answer (ascii c) (λ _. bytes _) (λ _. choose Answer (within 0xF780 c 0xF7FF) (λ _. bytes _) (λ _. fault c))
 
-by-pointer : (c : ℕ) (o : Option ℕ) → Answer c (orErrorWith o c)
-by-pointer c none = unwritable
-by-pointer c (some p) = bytes ((p + 0x80) ∷ [])
+module _ (look : Lookup) (c : ℕ) where
+  single-byte-answer : Answer (singleByteEncode look c)
+  unfolding singleByteEncode
+  single-byte-answer = choose Answer (ascii c) (λ _. bytes _) (λ _. by-byte (look first noneOver c) c)
 
-pub answers : (t : Tables) (f : Family) (encode : ℕ → Result) → Encodes t f encode → (c : ℕ) → Answer c (encode c)
-unfolding utf8Encode singleByteEncode userDefinedEncode
-answers t f encode by-utf8 c =
-    choose (Answer c) (ltb c 0x80) (λ _. bytes _) (λ _.
-    choose (Answer c) (leb c 0x7FF) (λ _. bytes _) (λ _.
-    choose (Answer c) (leb c 0xFFFF) (λ _. bytes _) (λ _. bytes _)))
-answers t f encode by-table c = choose (Answer c) (ltb c 0x80) (λ _. bytes _) (λ _. by-pointer c (indexPointer (t .first) c))
-answers t f encode by-windows-1252 c = choose (Answer c) (ltb c 0x80) (λ _. bytes _) (λ _. by-pointer c (indexPointer windows1252 c))
-answers t f encode by-user c = choose (Answer c) (ltb c 0x80) (λ _. bytes _) (λ _. choose (Answer c) (within 0xF780 c 0xF7FF) (λ _. bytes _) (λ _. unwritable))
+  euc-jp-answer : Answer (eucJpEncode look c)
+  unfolding eucJpEncode
+  euc-jp-answer =
+      choose Answer (ascii c) (λ _. bytes _) (λ _.
+      choose Answer (eqb c 0xA5) (λ _. bytes _) (λ _.
+      choose Answer (eqb c 0x203E) (λ _. bytes _) (λ _.
+      choose Answer (within 0xFF61 c 0xFF9F) (λ _. bytes _) (λ _. by-pair eucJpLayout (look first jis0208Over (minus c)) (minus c)))))
+
+  shift-jis-answer : Answer (shiftJisEncode look c)
+  unfolding shiftJisEncode
+  shift-jis-answer =
+      choose Answer (ascii c || eqb c 0x80) (λ _. bytes _) (λ _.
+      choose Answer (eqb c 0xA5) (λ _. bytes _) (λ _.
+      choose Answer (eqb c 0x203E) (λ _. bytes _) (λ _.
+      choose Answer (within 0xFF61 c 0xFF9F) (λ _. bytes _) (λ _. by-pair shiftJisLayout (look first shiftJisOver (minus c)) (minus c)))))
+
+-- The codings of the writers: by encoders that answer so.
+pub data Answers : Coding → Type 0 where
+  answering : {encode : ℕ → Result} → ((c : ℕ) → Answer (encode c)) → Answers (stateless encode)
+
+pub answers : (w : Writer) (look : Lookup) (second : List ℕ) → Answers (coding w look second)
+answers utf-8 look second = answering utf8-answer
+answers single-byte look second = answering (single-byte-answer look)
+answers windows-1252 look second = answering (single-byte-answer (searching windows1252))
+answers euc-jp look second = answering (euc-jp-answer look)
+answers shift-jis look second = answering (shift-jis-answer look)
+answers x-user-defined look second = answering user-defined-answer

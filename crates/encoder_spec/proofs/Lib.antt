@@ -1,5 +1,6 @@
-pub mod Tables
 pub mod Encoders
+pub mod Running
 pub mod Writing
+pub mod Pieces
 pub mod Rooms
 pub mod Samples

@@ -9,12 +9,12 @@ use lib.Dec.{ltb}
 use lib.ListN.{length, drop, length-append, length-drop}
 use borrow.Author.Tests.{ltb-false}
 use Rattle.standard.specs.Base.{scalars}
-use Rattle.standard.specs.Encodings.{family, fits}
-use Rattle.standard.specs.Machine.{Result}
-use Rattle.standard.specs.Encoders.{encoder}
-use Rattle.encoder_spec.specs.Writer.{Writing, writing, Outcome, write, writeBy, writerCall}
+use Rattle.standard.specs.Encodings.{fits}
+use Rattle.standard.specs.Writers.{Writer, writerOf, reader}
+use Rattle.standard.proofs.Tests.{choose}
+use Rattle.encoder_spec.specs.Writing.{Writing, writing}
+use Rattle.encoder_spec.specs.Writer.{Outcome, write, lentOne, writeBy, writerCall}
 use Rattle.encoder_spec.specs.Statements.{RoomKept}
-use Rattle.encoder_spec.proofs.Encoders.{choose}
 
 -- a writing that fits
 write-keeps : (w : Writing) (room : List ℕ) → length (w .bytes) ≤ length room → length (write w room .room) ≡ length room
@@ -28,14 +28,14 @@ pub room-kept : RoomKept
 unfolding writerCall
 room-kept e m t cs room =
     choose (Keeps room) (ltb 39 e) (λ _. refl) (λ _.
-    choose (Keeps room) (ltb 1 m) (λ _. refl) (λ _. go (encoder t (family e))))
+    choose (Keeps room) (ltb 1 m) (λ _. refl) (λ _. go (writerOf e)))
   where
-    go : (o : Option (ℕ → Result)) → Keeps room (writeBy o e m t cs room)
+    go : (o : Option Writer) → Keeps room (writeBy o m t cs room)
     go none = refl
-    go (some encode) =
-        choose (Keeps room) (fits (family e) t) (λ _.
+    go (some w) =
+        choose (Keeps room) (fits (reader w) t) (λ _.
         choose (Keeps room) (ltb 16384 (length cs)) (λ _. refl) (λ _.
         choose (Keeps room) (not (scalars cs)) (λ _. refl) (λ _.
-        choose (Keeps room) (ltb (length room) (length (writing encode m cs .bytes))) (λ _. refl) (λ h.
-        write-keeps (writing encode m cs) room (ltb-false (length room) (length (writing encode m cs .bytes)) h)))))
+        choose (Keeps room) (ltb (length room) (length (writing (lentOne w t) m 0 cs .bytes))) (λ _. refl) (λ h.
+        write-keeps (writing (lentOne w t) m 0 cs) room (ltb-false (length room) (length (writing (lentOne w t) m 0 cs .bytes)) h)))))
         (λ _. refl)

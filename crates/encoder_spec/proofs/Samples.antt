@@ -1,15 +1,22 @@
 -- The samples, by computation. Assumes nothing.
 use mathlib.Core.Path.{refl}
 use Rattle.standard.specs.Base.{every}
-use Rattle.standard.specs.Encodings.{family, traits, fits}
-use Rattle.standard.specs.Indexes.{pointerFrom, irregular, countFrom, windows1252}
+use Rattle.standard.specs.Encodings.{traits, fits}
+use Rattle.standard.specs.Indexes.{irregular, countFrom, windows1252}
 use Rattle.standard.specs.Machine.{digits, reference}
-use Rattle.standard.specs.Encoders.{utf8-following, utf8-bytes, utf8Encode, singleByteEncode}
-use Rattle.encoder_spec.specs.Writer.{writing, writerCall}
-use Rattle.encoder_spec.specs.Samples.{Samples}
+use Rattle.standard.specs.Search.{searchFrom}
+use Rattle.standard.specs.Encoders.Utf8.{utf8-following, utf8-bytes, utf8Encode}
+use Rattle.standard.specs.Encoders.SingleByte.{singleByteEncode}
+use Rattle.standard.specs.Encoders.EucJp.{eucJpEncode}
+use Rattle.standard.specs.Encoders.ShiftJis.{shiftJisEncode}
+use Rattle.standard.specs.Writers.{writerOf}
+use Rattle.encoder_spec.specs.Writing.{writing}
+use Rattle.encoder_spec.specs.Writer.{writerCall}
+use Rattle.encoder_spec.specs.Samples.{Samples, JapaneseSamples}
 
 pub samples : Samples
-unfolding every family traits fits pointerFrom irregular countFrom windows1252 digits reference utf8-following utf8-bytes utf8Encode singleByteEncode writing writerCall
+unfolding every traits fits irregular countFrom windows1252 digits reference searchFrom utf8-following utf8-bytes utf8Encode
+    singleByteEncode writerOf writing writerCall
 samples = record {
   sample-15-html = refl;
   sample-15-refusing = refl;
@@ -27,4 +34,18 @@ samples = record {
   10-before-7 = refl;
   10-before-11 = refl;
   7-before-11 = refl;
+}
+
+pub japanese-samples : JapaneseSamples
+unfolding every traits fits digits reference searchFrom eucJpEncode shiftJisEncode writerOf writing writerCall
+japanese-samples = record {
+  shift-jis-writes = refl;
+  euc-jp-writes = refl;
+  shift-jis-each = refl;
+  euc-jp-each = refl;
+  euc-jp-80 = refl;
+  shift-jis-minus = refl;
+  shift-jis-html = refl;
+  euc-jp-html = refl;
+  shift-jis-stops = refl;
 }

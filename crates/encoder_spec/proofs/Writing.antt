@@ -1,96 +1,34 @@
 -- What is written is what 000's `run` gives. Assumes nothing.
-use mathlib.Core.Path.{_≡_, refl, sym, ap, _∙_}
-use mathlib.Core.List.{List, [], _∷_, _++_, append-assoc, append-nil}
-use mathlib.Core.Option.{Option, some, none}
-use Prim.Native.Nat.{ℕ, suc}
-use native.Mathlib.Numerals.{add-one}
-use lib.ListN.{length}
-use Rattle.standard.specs.Encodings.{Tables, Family}
-use Rattle.standard.specs.Machine.{Token, token, Result, finished, continue, tokens, error, error-with, Processed, Mode, fatal, html, deliver, reference, stream, Ran, run}
-use Rattle.standard.specs.Encoders.{encode-handler, standardEncode}
-use Rattle.encoder_spec.specs.Writer.{bytesOf, Writing, onward, unwritten, writing}
+use mathlib.Core.Path.{_≡_, refl, ap}
+use mathlib.Core.List.{List}
+use mathlib.Core.Option.{some}
+use Prim.Native.Nat.{ℕ}
+use Rattle.standard.specs.Machine.{Result, return, Mode}
+use Rattle.standard.specs.Search.{Lookup}
+use Rattle.standard.specs.Writers.{Writer, Coding, coding, encode-handler, encoder, standardEncode}
+use Rattle.encoder_spec.specs.Writing.{plainly, encodeOne, writing}
 use Rattle.encoder_spec.specs.Statements.{ran, WritingIsStandard}
-use Rattle.encoder_spec.proofs.Encoders.{encodes, Answer, bytes, unwritable, answers}
+use Rattle.encoder_spec.proofs.Encoders.{Answer, bytes, fault, Answers, answering, answers}
+use Rattle.encoder_spec.proofs.Running.{Does, writes, refuses, Follows, runs-finished, Same, refusing, references, runs-standard}
 
--- the writing of one scalar more, by its bytes
-abbrev pub step : ℕ → ℕ → Writing → Option (List ℕ) → Writing
-step m c w o = elim o [ some bs ↦ onward bs w | none ↦ unwritten m c w ]
+module _ (encode : ℕ → Result) (A : (c : ℕ) → Answer (encode c)) where
+  does-plainly : (s c : ℕ) {r : Result} → encode c ≡ r → Answer r →
+      Does (encode-handler encode) tt c tt (plainly s r .bytes) (plainly s r .named)
+  unfolding encode-handler
+  does-plainly s c e (bytes bs) = writes bs (ap (λ (r : Result). return r tt) e)
+  does-plainly s c e (fault n) = refuses n (ap (λ (r : Result). return r tt) e)
 
--- what `run` gives, with the output behind some more
-abbrev behind : List ℕ → Ran → Ran
-behind out r = record { result = r .result; output = out ++ r .output }
+  follows : Follows (encode-handler encode) (λ s. tt) (λ s c. plainly s (encode c))
+  unfolding encode-handler
+  follows = record { does = λ s c. does-plainly s c refl (A c); ends = λ m s out. runs-finished refl }
 
--- The two modes, as numbers of the writer's and as 000's.
-data Same : Mode → ℕ → Type 0 where
-  refusing : Same fatal 1
-  references : Same html 0
+runs-as-written : (y : Coding) → Answers y → {m : Mode} {k : ℕ} → Same m k → (cs : List ℕ) →
+    standardEncode (encoder y) m cs ≡ some (ran (writing (encodeOne y) k 0 cs))
+unfolding standardEncode
+runs-as-written y (answering {encode} A) M cs = runs-standard (follows encode A) M 0 cs
 
--- the error's scalar, with one more in front
-error-onward : (c : ℕ) (cs bs : List ℕ) (w : Writing) → ran (c ∷ cs) (onward bs w) .result ≡ ran cs w .result
-error-onward c cs bs w = go (w .unwritable)
-  where
-    go : (o : Option ℕ) →
-        ran (c ∷ cs) (onward bs (record { bytes = []; unwritable = o })) .result ≡ ran cs (record { bytes = []; unwritable = o }) .result
-    go none = refl
-    go (some i) = refl
-
-further : (c : ℕ) (cs out bs : List ℕ) (w : Writing) → behind (out ++ bs) (ran cs w) ≡ behind out (ran (c ∷ cs) (onward bs w))
-further c cs out bs w = λ i. record { result = sym (error-onward c cs bs w) i; output = append-assoc out bs (w .bytes) i }
-
-no-more : (out : List ℕ) (r : Result) → _≡_ {A = Ran} (record { result = r; output = out }) (behind out (record { result = r; output = [] }))
-no-more out r = λ i. record { result = r; output = sym (append-nil out) i }
-
--- One token of 000's `run`, by what the encoder answers.
-module _ (encode : ℕ → Result) (m : Mode) (n c : ℕ) (input : List Token) (out : List ℕ) where
-  turn : Processed (Unit {0}) → Option Ran
-  turn p = elim (p .result) [
-    | finished ↦ some (record { result = finished; output = p .output })
-    | continue ↦ run (encode-handler encode) m n (p .variables) (p .input) (p .output)
-    | tokens ts ↦ some (record { result = tokens ts; output = p .output })
-    | error ↦ some (record { result = error; output = p .output })
-    | error-with c ↦ some (record { result = error-with c; output = p .output })
-  ]
-
-  turns : {r : Result} → encode c ≡ r → run (encode-handler encode) m (suc n) tt (token c ∷ input) out ≡ turn (deliver m r tt input out)
-  unfolding run encode-handler turn
-  turns e = ap (λ (r : Result). turn (deliver m r tt input out)) e
-
-abbrev Runs : (ℕ → Result) → Mode → ℕ → List ℕ → List ℕ → Type 0
-Runs encode m k cs out = run (encode-handler encode) m (suc (length cs)) tt (stream cs) out ≡ some (behind out (ran cs (writing encode k cs)))
-
--- The token in front, where the others run as they should.
-module _ (encode : ℕ → Result) (c : ℕ) (cs out : List ℕ) where
-  writes : {r : Result} (k : ℕ) → encode c ≡ r → step k c (writing encode k cs) (bytesOf r) ≡ writing encode k (c ∷ cs)
-  unfolding writing
-  writes k e = ap (λ (r : Result). step k c (writing encode k cs) (bytesOf r)) (sym e)
-
-  -- the same under `ran`
-  gives : {r : Result} (k : ℕ) → encode c ≡ r →
-      _≡_ {A = Option Ran} (some (behind out (ran (c ∷ cs) (step k c (writing encode k cs) (bytesOf r))))) (some (behind out (ran (c ∷ cs) (writing encode k (c ∷ cs)))))
-  gives k e = ap (λ (w : Writing). some (behind out (ran (c ∷ cs) w))) (writes k e)
-
-  runs-on : {m : Mode} {k : ℕ} {r : Result} → Same m k → Answer c r → encode c ≡ r → ((out : List ℕ) → Runs encode m k cs out) →
-      Runs encode m k (c ∷ cs) out
-  unfolding stream deliver turn
-  runs-on {m} {k} S (bytes bs) e ih =
-      turns encode m (suc (length cs)) c (stream cs) out e ∙ ih (out ++ bs) ∙ ap some (further c cs out bs (writing encode k cs)) ∙
-      gives k e
-  runs-on refusing unwritable e ih = turns encode fatal (suc (length cs)) c (stream cs) out e ∙ ap some (no-more out (error-with c)) ∙ gives 1 e
-  runs-on references unwritable e ih =
-      turns encode html (suc (length cs)) c (stream cs) out e ∙ ih (out ++ reference c) ∙ ap some (further c cs out (reference c) (writing encode 0 cs)) ∙ gives 0 e
-
-module _ (encode : ℕ → Result) (A : (c : ℕ) → Answer c (encode c)) where
-  runs : {m : Mode} {k : ℕ} → Same m k → (cs out : List ℕ) → Runs encode m k cs out
-  unfolding run encode-handler stream deliver writing
-  runs S [] out = ap some (no-more out finished)
-  runs S (c ∷ cs) out = runs-on encode c cs out S (A c) refl (runs S cs)
-
-  standard : {m : Mode} {k : ℕ} → Same m k → (cs : List ℕ) → standardEncode encode m cs ≡ some (ran cs (writing encode k cs))
-  unfolding standardEncode
-  standard S cs = rw add-one (runs S cs [])
-
-pub writing-is-standard : (t : Tables) (f : Family) (encode : ℕ → Result) (cs : List ℕ) → WritingIsStandard t f encode cs
-writing-is-standard t f encode cs = record {
-  refusing = λ e. standard encode (answers t f encode (encodes t f encode e)) refusing cs;
-  html-mode = λ e. standard encode (answers t f encode (encodes t f encode e)) references cs;
+pub writing-is-standard : (w : Writer) (look : Lookup) (second cs : List ℕ) → WritingIsStandard w look second cs
+writing-is-standard w look second cs = record {
+  refusing = runs-as-written (coding w look second) (answers w look second) refusing cs;
+  html-mode = runs-as-written (coding w look second) (answers w look second) references cs;
 }

@@ -1,3 +1,5 @@
+pub mod Writing
+pub mod Pieces
 pub mod Writer
 pub mod Statements
 pub mod Samples

@@ -1,9 +1,11 @@
--- Samples of the writer's call: sample 15 of document 01, and the order of the refusals. Assumes nothing.
+-- Samples of the writer's call: sample 15 of document 01, the order of the refusals, and what document 02 says of Shift_JIS and EUC-JP.
+-- Assumes nothing.
 use mathlib.Core.Path.{_≡_}
-use mathlib.Core.List.{List, [], _∷_}
+use mathlib.Core.List.{List, [], _∷_, _++_}
 use Prim.Native.Nat.{ℕ}
-use lib.ListN.{replicate}
-use Rattle.standard.specs.Encodings.{noTables}
+use lib.ListN.{length, drop, replicate}
+use Rattle.standard.specs.Encodings.{lent, noTables}
+use Rattle.standard.specs.Encoders.Samples.{jis0208}
 use Rattle.encoder_spec.specs.Writer.{Outcome, writerCall}
 
 -- a lent room of eight cells, and what a call leaves of it
@@ -13,13 +15,27 @@ eight = 1 ∷ 2 ∷ 3 ∷ 4 ∷ 5 ∷ 6 ∷ 7 ∷ 8 ∷ []
 abbrev pub leaves : ℕ → ℕ → ℕ → List ℕ → Outcome
 leaves n i refusal room = record { answer = record { written = n; index = i; refusal = refusal }; room = room }
 
+-- these bytes and no refusal; these bytes and report 11 with an index
+abbrev pub fills : List ℕ → Outcome
+fills bs = leaves (length bs) 0 0 (bs ++ drop (length bs) eight)
+
+abbrev pub stops : List ℕ → ℕ → Outcome
+stops bs i = leaves (length bs) i 11 (bs ++ drop (length bs) eight)
+
+-- a call in a mode, with these cells of jis0208 from pointer p on, and some scalars: Shift_JIS (34) and EUC-JP (32)
+abbrev pub shiftJis : ℕ → ℕ → List ℕ → List ℕ → Outcome
+shiftJis m p cells cs = writerCall 34 m (lent (jis0208 p cells) []) cs eight
+
+abbrev pub eucJp : ℕ → ℕ → List ℕ → List ℕ → Outcome
+eucJp m p cells cs = writerCall 32 m (lent (jis0208 p cells) (replicate 8836 0)) cs eight
+
 -- Sample 15 of document 01, and the order of the refusals where several hold.
 pub record Samples : Type 0 where
-  pub sample-15-html : writerCall 21 0 noTables (0x4E00 ∷ []) eight ≡ leaves 8 0 0 (0x26 ∷ 0x23 ∷ 0x31 ∷ 0x39 ∷ 0x39 ∷ 0x36 ∷ 0x38 ∷ 0x3B ∷ [])
-  pub sample-15-refusing : writerCall 21 1 noTables (0x4E00 ∷ []) eight ≡ leaves 0 0 11 eight
-  pub utf8-four : writerCall 0 1 noTables (0x1F4A9 ∷ []) eight ≡ leaves 4 0 0 (0xF0 ∷ 0x9F ∷ 0x92 ∷ 0xA9 ∷ 5 ∷ 6 ∷ 7 ∷ 8 ∷ [])
+  pub sample-15-html : writerCall 21 0 noTables (0x4E00 ∷ []) eight ≡ fills (0x26 ∷ 0x23 ∷ 0x31 ∷ 0x39 ∷ 0x39 ∷ 0x36 ∷ 0x38 ∷ 0x3B ∷ [])
+  pub sample-15-refusing : writerCall 21 1 noTables (0x4E00 ∷ []) eight ≡ stops [] 0
+  pub utf8-four : writerCall 0 1 noTables (0x1F4A9 ∷ []) eight ≡ fills (0xF0 ∷ 0x9F ∷ 0x92 ∷ 0xA9 ∷ [])
   -- the bytes before the error are written, and its index is given
-  pub second-unwritable : writerCall 21 1 noTables (0x20AC ∷ 0x4E00 ∷ 0x41 ∷ []) eight ≡ leaves 1 1 11 (0x80 ∷ 2 ∷ 3 ∷ 4 ∷ 5 ∷ 6 ∷ 7 ∷ 8 ∷ [])
+  pub second-unwritable : writerCall 21 1 noTables (0x20AC ∷ 0x4E00 ∷ 0x41 ∷ []) eight ≡ stops (0x80 ∷ []) 1
   -- exactly the bytes need room, in refusing mode those before the error
   pub room-exact : writerCall 0 1 noTables (0xE9 ∷ []) (1 ∷ 2 ∷ []) ≡ leaves 2 0 0 (0xC3 ∷ 0xA9 ∷ [])
   pub room-small : writerCall 0 1 noTables (0xE9 ∷ []) (1 ∷ []) ≡ leaves 0 0 7 (1 ∷ [])
@@ -33,3 +49,20 @@ pub record Samples : Type 0 where
   pub 10-before-7 : writerCall 0 0 noTables (0x41 ∷ 0xD800 ∷ []) [] ≡ leaves 0 0 10 []
   pub 10-before-11 : writerCall 21 1 noTables (0x4E00 ∷ 0xD800 ∷ []) [] ≡ leaves 0 0 10 []
   pub 7-before-11 : writerCall 21 1 noTables (0x41 ∷ 0x4E00 ∷ []) [] ≡ leaves 0 0 7 []
+
+-- Document 02, Ask 5; the cells that each encoder finds are sampled beside it, in `standard/specs/Encoders/Samples.antt`.
+pub record JapaneseSamples : Type 0 where
+  -- 9 is given for neither
+  pub shift-jis-writes : writerCall 34 0 noTables [] [] ≡ leaves 0 0 4 []
+  pub euc-jp-writes : writerCall 32 0 noTables [] [] ≡ leaves 0 0 4 []
+  -- ASCII, U+0080 in Shift_JIS, U+00A5, U+203E, half-width katakana, and a cell
+  pub shift-jis-each : shiftJis 1 0 (0x3042 ∷ []) (0x41 ∷ 0x80 ∷ 0xA5 ∷ 0x203E ∷ 0xFF61 ∷ 0xFF9F ∷ 0x3042 ∷ []) ≡
+      fills (0x41 ∷ 0x80 ∷ 0x5C ∷ 0x7E ∷ 0xA1 ∷ 0xDF ∷ 0x81 ∷ 0x40 ∷ [])
+  pub euc-jp-each : eucJp 1 0 (0x3042 ∷ []) (0x41 ∷ 0xA5 ∷ 0x203E ∷ 0xFF61 ∷ 0x3042 ∷ []) ≡
+      fills (0x41 ∷ 0x5C ∷ 0x7E ∷ 0x8E ∷ 0xA1 ∷ 0xA1 ∷ 0xA1 ∷ [])
+  pub euc-jp-80 : eucJp 1 0 (0x3042 ∷ []) (0x41 ∷ 0x80 ∷ []) ≡ stops (0x41 ∷ []) 1
+  -- U+2212 as U+FF0D: html names this, and report 11's index is the place of the scalar as lent
+  pub shift-jis-minus : shiftJis 1 1 (0xFF0D ∷ []) (0x2212 ∷ []) ≡ fills (0x81 ∷ 0x41 ∷ [])
+  pub shift-jis-html : shiftJis 0 0 (0x2212 ∷ []) (0x2212 ∷ []) ≡ fills (0x26 ∷ 0x23 ∷ 0x36 ∷ 0x35 ∷ 0x32 ∷ 0x39 ∷ 0x33 ∷ 0x3B ∷ [])
+  pub euc-jp-html : eucJp 0 0 (0x2212 ∷ []) (0x2212 ∷ []) ≡ fills (0x26 ∷ 0x23 ∷ 0x36 ∷ 0x35 ∷ 0x32 ∷ 0x39 ∷ 0x33 ∷ 0x3B ∷ [])
+  pub shift-jis-stops : shiftJis 1 0 (0x2212 ∷ []) (0x41 ∷ 0x2212 ∷ 0x42 ∷ []) ≡ stops (0x41 ∷ []) 1

@@ -17,12 +17,12 @@ use index_spec::Line;
 use labels_spec::Found;
 use labels_spec::Named;
 
-// The version of the library, 0.4.0: 10,000 times major, 100 times minor, and patch.
+// The version of the library, 0.5.0: 10,000 times major, 100 times minor, and patch.
 #[no_mangle]
 pub extern "C" fn hamvukile_version() -> u32
-    ensures { λ r. ⌜ r ≡ 400 ⌝ }
+    ensures { λ r. ⌜ r ≡ 500 ⌝ }
 {
-    400
+    500
 }
 
 // The label call.

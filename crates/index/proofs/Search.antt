@@ -1,37 +1,112 @@
 -- A code point searched for in a stretch of a table, and an entry put into a table. Assumes nothing.
-use mathlib.Core.Path.{_≡_, refl, sym, ap}
-use mathlib.Core.Bool.{true, false, _&&_, and-false}
+use mathlib.Core.Path.{_≡_, refl, sym, ap, _∙_}
+use mathlib.Core.Bool.{Bool, true, false, _&&_, and-false}
 use mathlib.Core.List.{List, [], _∷_}
-use mathlib.Core.Option.{some, none}
-use Prim.Native.Nat.{ℕ, suc, _+_, _≤_, _<_, min}
+use mathlib.Core.Option.{Option, some, none}
+use Prim.Native.Nat.{ℕ, zero, suc, _+_, _-_, _≤_, _<_, min}
 use native.Mathlib.Numerals.{add-one}
 use native.Mathlib.Omega.{arith}
-use lib.Dec.{leb, eqb}
-use lib.ListN.{length, getD, take, length-take, drop-of-length-le}
-use lib.Seq.{slice, slice-cons, take-all, take-length}
-use borrow.Author.Tests.{leb-true, leb-false, eqb-true, eq-eqb, ne-eqb}
-use Rattle.standard.specs.Base.{mapped}
-use Rattle.standard.specs.Indexes.{pointerFrom}
-use Rattle.standard.proofs.Tests.{split}
+use lib.Dec.{ltb, leb, eqb}
+use lib.ListN.{length, getD, take, drop, length-take, drop-of-length-le}
+use lib.Seq.{slice, slice-cons, take-all, take-length, take-nil, drop-nil}
+use borrow.Author.Tests.{ltb-true, ltb-false, lt-ltb, le-ltb, leb-true, leb-false, eqb-true, eqb-false, eq-eqb, ne-eqb}
+use Rattle.standard.specs.Base.{_then_else_, mapped}
+use Rattle.standard.specs.Search.{passOver, first, either, searchFrom, search, pointerFrom}
+use Rattle.standard.proofs.Tests.{split, under, above, in-range}
 use Rattle.index_spec.specs.IndexCall.{Outcome}
+use Rattle.index.specs.IndexCode.{Absent}
 
 module _ (table : List ℕ) (end c : ℕ) where
   pub stretch-end : (i : ℕ) → end ≤ i → none ≡ pointerFrom i (slice i end table) c
-  unfolding pointerFrom
+  unfolding searchFrom
   stretch-end i h = let e : slice i end table ≡ [] = drop-of-length-le (take end table) {i = i} (rw length-take (omega arith)) in rw e refl
 
   module _ (l : end ≤ length table) (i : ℕ) (h : i < end) where
     pub stretch-found : mapped c ≡ true → getD table i 0 ≡ c → some i ≡ pointerFrom i (slice i end table) c
-    unfolding pointerFrom
+    unfolding searchFrom
     stretch-found m e = rw (slice-cons i end table 0 h l, e, m, eq-eqb c c refl)
 
     pub stretch-on : (getD table i 0 ≡ c → ⊥) → pointerFrom (i + 1) (slice (i + 1) end table) c ≡ pointerFrom i (slice i end table) c
-    unfolding pointerFrom
+    unfolding searchFrom
     stretch-on n = rw (add-one, slice-cons i end table 0 h l, ne-eqb (getD table i 0) c n, and-false (mapped (getD table i 0)))
+
+  -- n cells that are not the code point
+  pub stretch-past : end ≤ length table → (n i : ℕ) → i + n ≤ end → Absent table i (i + n) c →
+      pointerFrom (i + n) (slice (i + n) end table) c ≡ pointerFrom i (slice i end table) c
+  stretch-past l zero i h a = let z : i + 0 ≡ i = omega arith in rw z
+  stretch-past l (suc n) i h a =
+      let z : i + suc n ≡ i + n + 1 = omega arith in
+      rw z (stretch-on l (i + n) (omega arith) (a (i + n) (omega arith) (omega arith))) ∙
+      stretch-past l n i (omega arith) (λ k f g. a k f (omega arith))
+
+-- Cells told one after the other.
+module _ (table : List ℕ) (start c : ℕ) where
+  pub absent-none : Absent table start (start + 0) c
+  absent-none k h g e = omega arith
+
+  pub absent-on : (i : ℕ) → Absent table start (start + i) c → (getD table (start + i) 0 ≡ c → ⊥) → Absent table start (start + (i + 1)) c
+  absent-on i a n k h g e = split (eqb k (start + i))
+      (λ z. n (ap (λ (j : ℕ). getD table j 0) (sym (eqb-true k (start + i) z)) ∙ e))
+      (λ z. a k h (omega (arith, eqb-false k (start + i) z)) e)
+
+-- equal cells counted: none
+pub counts-none : (a b n r : ℕ) → r ≡ (eqb a b then 1 else 0) → n + r ≡ 0 → (n ≡ 0) × (a ≡ b → ⊥)
+counts-none a b n r e z = (omega arith, λ q. let o : r ≡ 1 = e ∙ rw (eq-eqb a b q) in omega arith)
+
+-- A stretch is passed over: what stands below it is searched, and then what stands behind it. `behind` begins at p where p is past it.
+module _ (low high c : ℕ) where
+  behind : ℕ → List ℕ → Option ℕ
+  behind p xs = ltb high p then pointerFrom p xs c else pointerFrom (suc high) (drop (suc high - p) xs) c
+
+  within-stretch : (p x : ℕ) (xs : List ℕ) → p ≤ high → behind p (x ∷ xs) ≡ behind (suc p) xs
+  unfolding behind
+  within-stretch p x xs h = let z : suc high - p ≡ suc (high - p) = omega arith in split (ltb high (suc p))
+      (λ t. let q : high ≡ p = omega (arith, ltb-true high (suc p) t) in let o : p - p ≡ 0 = omega arith in
+      rw (z, t, le-ltb high p h, q, o))
+      (λ t. let o : suc high - suc p ≡ high - p = omega arith in rw (z, o, t, le-ltb high p h))
+
+  past-stretch : (p : ℕ) (xs : List ℕ) → high < p → behind p xs ≡ pointerFrom p xs c
+  unfolding behind
+  past-stretch p xs h = rw (lt-ltb high p h)
+
+  no-hit : (p x : ℕ) (xs : List ℕ) → mapped x && eqb x c ≡ false → behind p (x ∷ xs) ≡ behind (suc p) xs
+  unfolding searchFrom
+  no-hit p x xs n = split (ltb high p)
+      (λ t. let h = ltb-true high p t in past-stretch p (x ∷ xs) h ∙ rw n (sym (past-stretch (suc p) xs (omega arith))))
+      (λ t. within-stretch p x xs (ltb-false high p t))
+
+  behind-nil : (p : ℕ) → behind p [] ≡ none
+  unfolding behind searchFrom
+  behind-nil p = rw (drop-nil (suc high - p)) (both (ltb high p))
+    where
+      both : (b : Bool) → _≡_ {A = Option ℕ} (b then none else none) none
+      both true = refl
+      both false = refl
+
+  outside-from : (p : ℕ) (xs : List ℕ) → searchFrom first (passOver low high) p xs c ≡ either first (pointerFrom p (take (low - p) xs) c) (behind p xs)
+  unfolding searchFrom
+  outside-from p [] = rw (take-nil (low - p), behind-nil p)
+  outside-from p (x ∷ xs) = split (ltb p low)
+      (λ t. let h = ltb-true p low t in let z : low - p ≡ suc (low - suc p) = omega arith in
+      rw (z, under low p high h) (split (mapped x && eqb x c) (λ m. rw m) (λ m. rw (m, no-hit p x xs m) (outside-from (suc p) xs))))
+      (λ t. let h = ltb-false p low t in let z : low - p ≡ 0 = omega arith in let y : low - suc p ≡ 0 = omega arith in
+      split (leb p high)
+      (λ u. rw (z, in-range low p high h (leb-true p high u), within-stretch p x xs (leb-true p high u)) (rw y at (outside-from (suc p) xs)))
+      (λ u. let g = leb-false p high u in
+      rw (z, above low p high g, past-stretch p (x ∷ xs) g) (ap (either first (mapped x && eqb x c then some p else none))
+      ((rw y at (outside-from (suc p) xs)) ∙ past-stretch (suc p) xs (omega arith)))))
+
+  -- the two searches of a table
+  pub outside : (table : List ℕ) →
+      either first (pointerFrom 0 (slice 0 low table) c) (pointerFrom (high + 1) (slice (high + 1) (length table) table) c) ≡ search first (passOver low high) table c
+  unfolding behind
+  outside table =
+      let z : low - 0 ≡ low = omega arith in let y : suc high - 0 ≡ suc high = omega arith in
+      sym (rw (add-one, take-length table) (rw (z, y, le-ltb high 0 (omega arith)) at (outside-from 0 table)))
 
 -- A code point that counts as unmapped stands nowhere.
 pub unmapped-missing : (c : ℕ) → mapped c ≡ false → (p : ℕ) (index : List ℕ) → none ≡ pointerFrom p index c
-unfolding pointerFrom
+unfolding searchFrom
 unmapped-missing c m p [] = refl
 unmapped-missing c m p (x ∷ index) = rw not-here (unmapped-missing c m (suc p) index)
   where

@@ -3,8 +3,8 @@ use mathlib.Core.Path.{_≡_}
 use mathlib.Core.Bool.{Bool}
 use mathlib.Core.List.{List}
 use mathlib.Core.Option.{Option, some, none}
-use Prim.Native.Nat.{ℕ, _≤_, max}
-use lib.ListN.{length, drop}
+use Prim.Native.Nat.{ℕ, _≤_, _<_, max}
+use lib.ListN.{length, getD, drop}
 use lib.Seq.{slice}
 use Rattle.index_spec.specs.IndexLine.{decimal, hexadecimal}
 use Rattle.index_spec.specs.IndexRead.{Read, noEntry, bad, entry, front, behind, space, readCode}
@@ -42,3 +42,7 @@ entryAt line start tab = readCode (slice start tab line) (drop tab line)
 abbrev pub pointerOf : Found → Option ℕ
 pointerOf (At p) = some p
 pointerOf Missing = none
+
+-- A code point stands at none of the places from one on and before another.
+abbrev pub Absent : List ℕ → ℕ → ℕ → ℕ → Type 0
+Absent table start end c = (k : ℕ) → start ≤ k → k < end → getD table k 0 ≡ c → ⊥

@@ -50,15 +50,16 @@ pub enum Found {
 
 ghost use mathlib.Core.Path.{_≡_};
 ghost use mathlib.Core.Bool.{true};
-ghost use Rattle.standard.specs.Base.{mapped};
+ghost use Rattle.standard.specs.Base.{_then_else_, mapped};
 ghost use Rattle.standard.specs.Encodings.{family, fits, lent};
 ghost use Rattle.standard.specs.Sequence.{cell};
-ghost use Rattle.standard.specs.Indexes.{indexPointer, pointerFrom};
+ghost use Rattle.standard.specs.Search.{passOver, first, search, indexPointer, pointerFrom};
 ghost use Rattle.index_spec.specs.IndexRead.{entry};
 ghost use Rattle.index_spec.specs.IndexCall.{enter, indexLine};
-ghost use Rattle.index.specs.IndexCode.{pointerOf};
+ghost use Rattle.index.specs.IndexCode.{pointerOf, Absent};
 ghost use lib.Seq.{slice};
-ghost use Prim.Native.Nat.{_≤_, min};
+ghost use Prim.Native.Nat.{_+_, _≤_, min};
+ghost use lib.Dec.{eqb};
 ghost use lib.ListN.{length};
 
 // Does a cell count as mapped: is it a scalar of at least 0x80?
@@ -94,8 +95,8 @@ fn least(a: usize, b: usize) -> usize
     if a < b { a } else { b }
 }
 
-// The first place from `start` on and before `end` whose cell is `c`.
-fn find(table: &[u32], start: usize, end: usize, c: u32) -> Found
+// The first place from `start` on and before `end` whose cell is `c`, cell by cell.
+fn find_each(table: &[u32], start: usize, end: usize, c: u32) -> Found
     requires { ⌜ (mapped c ≡ true) × (end ≤ length (now table)) ⌝ }
     ensures { λ r. ⌜ pointerOf r ≡ pointerFrom start (slice start end (now (table .entry))) c ⌝ }
 {
@@ -105,6 +106,48 @@ fn find(table: &[u32], start: usize, end: usize, c: u32) -> Found
             return Found::At(i);
         }
         i += 1;
+    }
+    Found::Missing
+}
+
+// 1 for equal cells, else 0.
+fn equal(a: u32, b: u32) -> u32
+    ensures { λ r. ⌜ (r ≡ (eqb a b then 1 else 0)) × (r ≤ 1) ⌝ }
+{
+    if a == b {
+        return 1;
+    }
+    0
+}
+
+// How many of 16 cells are `c`. A loop with no return in it takes several cells at once.
+fn among(table: &[u32], at: usize, c: u32) -> u32
+    requires { ⌜ at + 16 ≤ length (now table) ⌝ }
+    ensures { λ r. ⌜ (r ≡ 0 → Absent (now (table .entry)) at (at + 16) c) ⌝ }
+{
+    let mut n: u32 = 0;
+    let mut i: usize = 0;
+    while i < 16 {
+        n += equal(table[at + i], c);
+        i += 1;
+    }
+    n
+}
+
+// The same as `find_each`, by blocks of 16 cells.
+fn find(table: &[u32], start: usize, end: usize, c: u32) -> Found
+    requires { ⌜ (mapped c ≡ true) × (end ≤ length (now table)) ⌝ }
+    ensures { λ r. ⌜ pointerOf r ≡ pointerFrom start (slice start end (now (table .entry))) c ⌝ }
+{
+    let mut i = start;
+    while i < end {
+        if end - i < 16 {
+            return find_each(table, i, end, c);
+        }
+        if among(table, i, c) != 0 {
+            return find_each(table, i, end, c);
+        }
+        i += 16;
     }
     Found::Missing
 }
@@ -124,6 +167,16 @@ pub fn pointer(table: &[u32], c: u32) -> Found
     ensures { λ r. ⌜ pointerOf r ≡ indexPointer (now (table .entry)) c ⌝ }
 {
     pointer_between(table, 0, table.len(), c)
+}
+
+// The pointer of a code point in a table, with the pointers from low to high passed over.
+pub fn pointer_outside(table: &[u32], low: u32, high: u32, c: u32) -> Found
+    ensures { λ r. ⌜ pointerOf r ≡ search first (passOver low high) (now (table .entry)) c ⌝ }
+{
+    match pointer_between(table, 0, low as usize, c) {
+        Found::At(p) => Found::At(p),
+        Found::Missing => pointer_between(table, high as usize + 1, table.len(), c),
+    }
 }
 
 // Are the lent tables' lengths as they must be for an encoding?

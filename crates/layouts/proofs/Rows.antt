@@ -1,5 +1,5 @@
 -- Rows and columns: where a byte stands, by ranges; the layout of an encoding number; pointers and code points by rows and columns. Assumes nothing.
-use mathlib.Core.Path.{_≡_, sym, ap, _∙_}
+use mathlib.Core.Path.{_≡_, refl, sym, ap, _∙_}
 use mathlib.Core.Bool.{Bool, true, false, and-false}
 use mathlib.Core.List.{List}
 use Prim.Native.Nat.{ℕ, _+_, _-_, _*_, _/_, _%_, _≤_, _<_}
@@ -89,6 +89,16 @@ module _ (e : ℕ) where
   pub layout-euc-kr : 30 < e → (e ≡ 31 → ⊥) → (e ≡ 32 → ⊥) → (e ≡ 33 → ⊥) → (e ≡ 34 → ⊥) → layoutOf e ≡ eucKrLayout
   unfolding layoutOf
   layout-euc-kr l f g h i = rw (lt-leb e 30 l, ne-eqb e 31 f, ne-eqb e 32 g, ne-eqb e 33 h, ne-eqb e 34 i)
+
+  -- the leads of those that are not Japanese
+  pub lead-others : (e ≡ 32 → ⊥) → (e ≡ 33 → ⊥) → (e ≡ 34 → ⊥) → (layoutOf e .rows ≡ 126) × (layoutOf e .lead ≡ one 0x81)
+  unfolding layoutOf
+  lead-others f g h = rw (ne-eqb e 32 f, ne-eqb e 33 g, ne-eqb e 34 h) (go (leb e 30) (eqb e 31))
+    where
+      go : (a b : Bool) → let y = a then gb18030Layout else b then big5Layout else eucKrLayout in (y .rows ≡ 126) × (y .lead ≡ one 0x81)
+      go true b = (refl, refl)
+      go false true = (refl, refl)
+      go false false = (refl, refl)
 
   -- what holds of the six layouts
   each : (P : Layout → Type 0) → P gb18030Layout → P big5Layout → P eucJpLayout → P iso2022JpLayout → P shiftJisLayout → P eucKrLayout → P (layoutOf e)

@@ -1,8 +1,12 @@
--- Rows and columns of an index by the bytes of a pair, with a number for none. Contracts of functions inside the library cite this. Assumes nothing.
+-- Rows and columns of an index by the bytes of a pair, with a number for none, and the bytes of a pointer. Contracts of functions inside
+-- the library cite this. Assumes nothing.
+use mathlib.Core.Path.{_≡_}
 use Prim.Native.Nat.{ℕ, _*_}
 use lib.Dec.{leb, eqb}
 use Rattle.standard.specs.Base.{_then_else_}
-use Rattle.standard.specs.Layouts.{Offset, number, ranges, Layout, gb18030Layout, big5Layout, eucJpLayout, iso2022JpLayout, shiftJisLayout, eucKrLayout}
+use Rattle.standard.specs.Layouts.{Offset, number, ranges, Layout, leadOf, trailOf}
+use Rattle.standard.specs.Layouts.{gb18030Layout, big5Layout, eucJpLayout, iso2022JpLayout, shiftJisLayout, eucKrLayout}
+use Rattle.layouts.specs.declared.Pair.{Pair}
 
 -- no row or no column: past the end of every table
 abbrev pub noCell : ℕ
@@ -27,3 +31,12 @@ layoutOf e =
     eqb e 33 then iso2022JpLayout else
     eqb e 34 then shiftJisLayout else
     eucKrLayout
+
+-- the cells of all rows
+abbrev pub cells : Layout → ℕ
+cells y = y .rows * y .divisor
+
+-- A pair is the two bytes of a pointer.
+pub record TheBytes (y : Layout) (p : ℕ) (r : Pair) : Type 0 where
+  pub lead : r .lead ≡ leadOf y p
+  pub trail : r .trail ≡ trailOf y p

@@ -5,8 +5,14 @@ pub mod gb18030;
 ghost use mathlib.Core.Path.{_≡_};
 ghost use Prim.Native.Nat.{ℕ, _+_, _-_, _*_, _/_, _%_, _≤_, _<_};
 ghost use Rattle.standard.specs.Base.{within};
-ghost use Rattle.standard.specs.Layouts.{one, two, leads};
-ghost use Rattle.layouts.specs.Rows.{place, row, column, layoutOf};
+ghost use Rattle.standard.specs.Layouts.{one, two, placed, leads};
+ghost use Rattle.layouts.specs.Rows.{place, row, column, layoutOf, cells, TheBytes};
+
+// A lead and a trail.
+pub struct Pair {
+    pub lead: u8,
+    pub trail: u8,
+}
 
 // low to high, inclusive
 pub fn within(low: u8, b: u8, high: u8) -> bool
@@ -159,4 +165,113 @@ pub fn pointer(encoding: u8, lead: u8, trail: u8) -> usize
         one_offset(0x81, 126, 190, lead),
         one_offset(0x41, 190, 1, trail),
     )
+}
+
+// The cells of a row.
+fn divisor(encoding: u8) -> usize
+    ensures { λ r. ⌜ r ≡ layoutOf encoding .divisor ⌝ }
+{
+    if encoding <= 30 {
+        return 190;
+    }
+    if encoding == 31 {
+        return 157;
+    }
+    if encoding == 32 {
+        return 94;
+    }
+    if encoding == 33 {
+        return 94;
+    }
+    if encoding == 34 {
+        return 188;
+    }
+    190
+}
+
+// The cells of all rows.
+fn cells(encoding: u8) -> usize
+    ensures { λ r. ⌜ r ≡ cells (layoutOf encoding) ⌝ }
+{
+    if encoding <= 30 {
+        return 23940;
+    }
+    if encoding == 31 {
+        return 19782;
+    }
+    if encoding == 32 {
+        return 8836;
+    }
+    if encoding == 33 {
+        return 8836;
+    }
+    if encoding == 34 {
+        return 11280;
+    }
+    23940
+}
+
+// The byte of a number, with two offsets.
+fn placed(gap: u8, low: u8, high: u8, n: usize) -> u8
+    requires { ⌜ (n + low ≤ 255) × (n + high ≤ 255) ⌝ }
+    ensures { λ r. ⌜ r ≡ placed (two gap low high) n ⌝ }
+{
+    if n < gap as usize {
+        return (n + low as usize) as u8;
+    }
+    (n + high as usize) as u8
+}
+
+// The lead of a row's number.
+fn lead(encoding: u8, n: usize) -> u8
+    requires { ⌜ n < layoutOf encoding .rows ⌝ }
+    ensures { λ r. ⌜ r ≡ placed (layoutOf encoding .lead) n ⌝ }
+{
+    if encoding == 32 {
+        return (n + 0xA1) as u8;
+    }
+    if encoding == 33 {
+        return (n + 0x21) as u8;
+    }
+    if encoding == 34 {
+        return placed(0x1F, 0x81, 0xC1, n);
+    }
+    (n + 0x81) as u8
+}
+
+// The trail of a column's number.
+fn trail(encoding: u8, n: usize) -> u8
+    requires { ⌜ n < layoutOf encoding .divisor ⌝ }
+    ensures { λ r. ⌜ r ≡ placed (layoutOf encoding .trail) n ⌝ }
+{
+    if encoding <= 30 {
+        return placed(0x3F, 0x40, 0x41, n);
+    }
+    if encoding == 31 {
+        return placed(0x3F, 0x40, 0x62, n);
+    }
+    if encoding == 32 {
+        return (n + 0xA1) as u8;
+    }
+    if encoding == 33 {
+        return (n + 0x21) as u8;
+    }
+    if encoding == 34 {
+        return placed(0x3F, 0x40, 0x41, n);
+    }
+    (n + 0x41) as u8
+}
+
+// The two bytes of a pointer into the rows, and 0 for both behind them.
+pub fn two_bytes(encoding: u8, p: usize) -> Pair
+    ensures { λ r. ⌜ (p < cells (layoutOf encoding) → TheBytes (layoutOf encoding) p r) ⌝ }
+{
+    if cells(encoding) <= p {
+        return Pair { lead: 0, trail: 0 };
+    }
+    let d = divisor(encoding);
+    Pair {
+        lead: lead(encoding, p / d),
+        trail: trail(encoding, p % d),
+    }
 }

@@ -1,22 +1,27 @@
 -- Reading back: what the writer's call wrote in refusing mode goes through the decoder's calls. Assumes nothing.
 use mathlib.Core.Path.{_≡_, refl, ap, _∙_}
-use mathlib.Core.Bool.{true, not, and-false}
-use mathlib.Core.List.{List, [], _++_, append-nil, map}
+use mathlib.Core.Bool.{Bool, true, false, not, _||_, and-false}
+use mathlib.Core.List.{List, [], _∷_, _++_, append-nil, map}
 use mathlib.Core.Option.{Option, some, none}
 use Prim.Native.Nat.{ℕ, suc, _≤_}
 use native.Mathlib.Omega.{arith}
 use lib.Dec.{ltb, eqb}
 use lib.ListN.{length, drop}
 use lib.Seq.{take-append-seam}
-use borrow.Author.Tests.{ltb-false, le-ltb, not-false}
-use Rattle.standard.specs.Base.{lineFeeds, scalars}
-use Rattle.standard.specs.Encodings.{Family, family, Tables, fits}
-use Rattle.standard.specs.Machine.{Result}
-use Rattle.standard.specs.Encoders.{encoder}
-use Rattle.standard.specs.Sequence.{shift, plain}
+use borrow.Author.Tests.{ltb-false, le-ltb, not-true, not-false}
+use Rattle.standard.specs.Base.{every, lineFeeds, scalars}
+use Rattle.standard.specs.Encodings.{family, Tables, fits}
+use Rattle.standard.specs.Search.{searching}
+use Rattle.standard.specs.Sequence.{plain}
 use Rattle.standard.specs.Next.{next}
-use Rattle.standard.specs.Decode.{Read, decode, oneError, ending, shown, everything}
-use Rattle.standard.specs.Choice.{reader, spot, Parsed, lift, readFrom, everythingFrom}
+use Rattle.standard.specs.Decode.{Item, Read, decode, oneError, ending, shown, everything}
+use Rattle.standard.specs.Writers.{Writer, utf-8, single-byte, windows-1252, euc-jp, shift-jis, x-user-defined, writerOf, reader}
+use Rattle.standard.specs.Images.{jpImage, image, jpLeavesOut, leavesOut}
+use Rattle.standard.proofs.Tests.{choose, and-both}
+use Rattle.standard.proofs.Search.{plain-sound}
+use Rattle.standard.proofs.Writers.{reader-of}
+use Rattle.standard.specs.Choice.{spot, Parsed, lift, readFrom, everythingFrom}
+use Rattle.standard.specs.Choice.{reader as readerAt}
 use Rattle.standard.proofs.Stages.{read-on}
 use Rattle.standard.proofs.Sniffing.{all-read}
 use Rattle.decoder.specs.Record.{holding, closed, newSpot}
@@ -26,91 +31,127 @@ use Rattle.demands.specs.Statements.{Piece, joined, cutting, account, Accepts, 
 use Rattle.demands.specs.Whole.{dealt, wholeAccount}
 use Rattle.demands.proofs.Steps.{kept-new}
 use Rattle.demands.proofs.Cutting.{cut-is-whole, feeds-give}
-use Rattle.encoder_spec.specs.Writer.{Writing, writing, Outcome, refuse, answerOf, write, writeBy, writerCall}
-use Rattle.encoder_spec.proofs.Encoders.{choose, Encodes, by-utf8, by-table, by-windows-1252, by-user, encodes}
-use Rattle.read_back.specs.Statements.{written, ReadsBack}
-use Rattle.read_back.proofs.Decoding.{single, single-shown, single-whole, readAll, decodes}
+use Rattle.encoder_spec.specs.Writing.{Fault, Writing, writing}
+use Rattle.encoder_spec.specs.Writer.{Outcome, refuse, answerOf, write, lentOne, writerCall}
+use Rattle.read_back.specs.Statements.{ReadBack, written, ReadsBack}
+use Rattle.read_back.proofs.Decoding.{Reads, written-reads, reads-whole}
 
--- What the bytes of an accepted call are to the decoder: they decode to the scalars, and the end gives nothing more.
+-- What the bytes bs are to the decoder of a number: they decode to the scalars cs without an error, and nothing is left over.
 record Good (e : ℕ) (t : Tables) (cs bs : List ℕ) : Type 0 where
   number : e ≤ 39
-  encode : ℕ → Result
-  reads : decode (next t (family e)) plain bs ≡ readAll encode cs
-  ends : ending t (family e) plain [] ≡ []
+  read : Reads (next t (family e)) plain bs plain cs
 
-nothing-left : (t : Tables) (f : Family) (encode : ℕ → Result) → Encodes t f encode → ending t f plain [] ≡ []
+-- nothing is left at the end
+ends : (t : Tables) (w : Writer) → ending t (reader w) plain [] ≡ []
 unfolding ending oneError
-nothing-left t f encode by-utf8 = refl
-nothing-left t f encode by-table = refl
-nothing-left t f encode by-windows-1252 = refl
-nothing-left t f encode by-user = refl
+ends t utf-8 = refl
+ends t single-byte = refl
+ends t windows-1252 = refl
+ends t euc-jp = refl
+ends t shift-jis = refl
+ends t x-user-defined = refl
 
--- What an outcome without a refusal wrote is good.
-record Fine (e : ℕ) (t : Tables) (cs : List ℕ) (o : Outcome) : Type 0 where
-  good : o .answer .refusal ≡ 0 → Good e t cs (written o)
+-- What an outcome without a refusal wrote is good: it reads as the images.
+record Fine (w : Writer) (e : ℕ) (t : Tables) (cs : List ℕ) (o : Outcome) : Type 0 where
+  good : o .answer .refusal ≡ 0 → Good e t (map (image w (t .second)) cs) (written o)
 
-module _ {e : ℕ} {t : Tables} {cs : List ℕ} where
-  refused : (n : ℕ) (room : List ℕ) → Fine e t cs (refuse (suc n) room)
+module _ {w : Writer} {e : ℕ} {t : Tables} {cs : List ℕ} where
+  refused : (n : ℕ) (room : List ℕ) → Fine w e t cs (refuse (suc n) room)
   refused n room = record { good = λ z. absurd (omega arith) }
 
-  wrote : (room : List ℕ) (encode : ℕ → Result) → e ≤ 39 → encoder t (family e) ≡ some encode → scalars cs ≡ true →
-      Fine e t cs (write (writing encode 1 cs) room)
-  wrote room encode n h s = record { good = go (w .unwritable) refl }
+  wrote : (room : List ℕ) → e ≤ 39 → writerOf e ≡ some w → fits (reader w) t ≡ true → scalars cs ≡ true →
+      Fine w e t cs (write (writing (lentOne w t) 1 0 cs) room)
+  wrote room n h f s = record { good = go (v .unwritable) refl }
     where
-      w : Writing
-      w = writing encode 1 cs
+      v : Writing
+      v = writing (lentOne w t) 1 0 cs
 
-      go : (o : Option ℕ) → w .unwritable ≡ o → answerOf (length (w .bytes)) o .refusal ≡ 0 →
-          Good e t cs (written (record { answer = answerOf (length (w .bytes)) o; room = w .bytes ++ drop (length (w .bytes)) room }))
+      go : (o : Option Fault) → v .unwritable ≡ o → answerOf (length (v .bytes)) o .refusal ≡ 0 →
+          Good e t (map (image w (t .second)) cs)
+          (written (record { answer = answerOf (length (v .bytes)) o; room = v .bytes ++ drop (length (v .bytes)) room }))
       go (some i) u z = absurd (omega arith)
-      go none u z = let E = encodes t (family e) encode h in
-          record { number = n; encode = encode; reads = rw take-append-seam (decodes t (family e) encode E cs s u); ends = nothing-left t (family e) encode E }
+      go none u z = record {
+        number = n;
+        read = rw (take-append-seam, reader-of e w h) (written-reads w t (searching (t .first)) f (plain-sound (t .first)) cs s u);
+      }
 
-call-good : (e : ℕ) (t : Tables) (cs room : List ℕ) → Fine e t cs (writerCall e 1 t cs room)
+call-good : (w : Writer) (e : ℕ) (t : Tables) (cs room : List ℕ) → writerOf e ≡ some w → Fine w e t cs (writerCall e 1 t cs room)
 unfolding writerCall
-call-good e t cs room = choose (Fine e t cs) (ltb 39 e) (λ h. refused 1 room) (λ h. go (encoder t (family e)) refl (ltb-false 39 e h))
-  where
-    go : (o : Option (ℕ → Result)) → encoder t (family e) ≡ o → e ≤ 39 → Fine e t cs (writeBy o e 1 t cs room)
-    go none h n = refused 8 room
-    go (some encode) h n =
-        choose (Fine e t cs) (fits (family e) t) (λ _.
-        choose (Fine e t cs) (ltb 16384 (length cs)) (λ _. refused 7 room) (λ _.
-        choose (Fine e t cs) (not (scalars cs)) (λ _. refused 9 room) (λ s.
-        choose (Fine e t cs) (ltb (length room) (length (writing encode 1 cs .bytes))) (λ _. refused 6 room) (λ _. wrote room encode n h (not-false (scalars cs) s)))))
-        (λ _. refused 3 room)
+call-good w e t cs room q = choose (Fine w e t cs) (ltb 39 e) (λ h. refused 1 room) (λ h. rw q (
+    choose (Fine w e t cs) (fits (reader w) t) (λ f.
+    choose (Fine w e t cs) (ltb 16384 (length cs)) (λ _. refused 7 room) (λ _.
+    choose (Fine w e t cs) (not (scalars cs)) (λ _. refused 9 room) (λ s.
+    choose (Fine w e t cs) (ltb (length room) (length (writing (lentOne w t) 1 0 cs .bytes))) (λ _. refused 6 room)
+    (λ _. wrote room (ltb-false 39 e h) q f (not-false (scalars cs) s)))))
+    (λ _. refused 3 room)))
 
 opens : (e m : ℕ) → e ≤ 39 → m ≤ 1 → openRefusal e m 1 ≡ 0
 unfolding openRefusal
 opens e m p q = rw (le-ltb 39 e p, le-ltb 1 m q)
 
 -- Such bytes through the decoder's calls.
-module _ (e m : ℕ) (t : Tables) (cs bs : List ℕ) (m-number : m ≤ 1) (g : Good e t cs bs) where
-  new-reads : (xs : List ℕ) → xs ≡ bs → readFrom t e (newSpot e 1) xs ≡ lift 0 (readAll (g .encode) cs)
-  unfolding reader
-  new-reads xs q = rw (kept-new e, q) (read-on t e (spot 0 plain) bs refl ∙ ap (lift 0) (g .reads))
+module _ (w : Writer) (e m : ℕ) (t : Tables) (cs bs : List ℕ) (m-number : m ≤ 1) (number : writerOf e ≡ some w) (g : Good e t cs bs) where
+  abbrev items : List Item
+  items = g .read .items
+
+  new-reads : (xs : List ℕ) → xs ≡ bs → readFrom t e (newSpot e 1) xs ≡ lift 0 (record { items = items; shift = plain; rest = [] })
+  unfolding readerAt
+  new-reads xs q = rw (kept-new e, q) (read-on t e (spot 0 plain) bs refl ∙ ap (lift 0) (reads-whole t (family e) (g .read)))
 
   fed : (calls : List Call) → AllFeeds t calls → after (start e m 1) calls .taken ≡ bs →
       (after (start e m 1) calls .handed ≡ cs) ×
       (after (start e m 1) calls .decoder ≡ holding e m (length bs) (lineFeeds cs) (spot 0 plain) [])
   fed calls a q =
       let d = new-reads (after (start e m 1) calls .taken) q in
-      let f = feeds-give t e m 1 (opens e m (g .number) m-number) calls a (rw (d, single-whole (g .encode) cs) (and-false (eqb m 1))) in
-      let out = f .0 ∙ ap (λ (r : Parsed). shown (r .items)) d ∙ single-shown (g .encode) cs in
+      let f = feeds-give t e m 1 (opens e m (g .number) m-number) calls a (rw (d, g .read .whole) (and-false (eqb m 1))) in
+      let out = f .0 ∙ ap (λ (r : Parsed). shown (r .items)) d ∙ g .read .shows in
       (out, f .1 ∙ (λ i. holding e m (length (q i)) (lineFeeds (out i)) (d i .spot) (d i .rest)))
 
-  all : everythingFrom t e (newSpot e 1) bs ≡ map (single (g .encode)) cs
-  unfolding everything reader
+  all : everythingFrom t e (newSpot e 1) bs ≡ items
+  unfolding everything readerAt
   all = rw (kept-new e) (all-read t e (spot 0 plain) bs refl ∙
-      ap (λ (r : Read). r .items ++ ending t (family e) (r .shift) (r .rest)) (g .reads) ∙ rw (g .ends, append-nil))
+      ap (λ (r : Read). r .items ++ ending t (family e) (r .shift) (r .rest)) (reads-whole t (family e) (g .read)) ∙
+      rw (reader-of e w number, ends t w, append-nil))
 
   whole : wholeAccount t e m 1 bs ≡ record { handed = cs; reports = []; decoder = closed e m 0 (lineFeeds cs) }
   unfolding wholeAccount dealt
-  whole = rw (all, single-whole (g .encode) cs, and-false (eqb m 1), single-shown (g .encode) cs)
+  whole = rw (all, g .read .whole, and-false (eqb m 1), g .read .shows)
 
   finished : (ps : List Piece) (last : List ℕ) → joined ps ≡ bs → Accepts t (start e m 1) ps last →
       account (start e m 1) (cutting t ps last) ≡ record { handed = cs; reports = []; decoder = closed e m 0 (lineFeeds cs) }
   finished ps last q a = cut-is-whole t e m 1 (opens e m (g .number) m-number) ps last a ∙ rw q whole
 
+  back : ReadBack e m t cs bs
+  back = record { fed = fed; finished = finished }
+
+-- A scalar that is not left out is its own image.
+or-none : (a b : Bool) → a || b ≡ false → (a ≡ false) × (b ≡ false)
+or-none true b h = let z : _≡_ {A = ℕ} 0 1 = cc in absurd (omega arith)
+or-none false b h = (refl, h)
+
+jp-self : (c : ℕ) → jpLeavesOut c ≡ false → jpImage c ≡ c
+jp-self c h =
+    let p = or-none (eqb c 0xA5 || eqb c 0x203E) (eqb c 0x2212) h in
+    let q = or-none (eqb c 0xA5) (eqb c 0x203E) (p .0) in
+    rw (q .0, q .1, p .1)
+
+self : (w : Writer) (second : List ℕ) (c : ℕ) → leavesOut w c ≡ false → image w second c ≡ c
+self utf-8 second c h = refl
+self single-byte second c h = refl
+self windows-1252 second c h = refl
+self euc-jp second c h = jp-self c h
+self shift-jis second c h = jp-self c h
+self x-user-defined second c h = refl
+
+selves : (w : Writer) (second cs : List ℕ) → every (λ c. not (leavesOut w c)) cs ≡ true → map (image w second) cs ≡ cs
+unfolding every
+selves w second [] h = refl
+selves w second (c ∷ cs) h =
+    let l = and-both (not (leavesOut w c)) (every (λ c. not (leavesOut w c)) cs) h in
+    let e : image w second c ≡ c = self w second c (not-true (leavesOut w c) (l .0)) in
+    rw e (ap (_∷_ c) (selves w second cs (l .1)))
+
 pub reads-back : ReadsBack
-reads-back e m t cs room h z = let g = call-good e t cs room .good z in
-    record { fed = fed e m t cs (written (writerCall e 1 t cs room)) h g; finished = finished e m t cs (written (writerCall e 1 t cs room)) h g }
+reads-back w e m t cs room h q z =
+    let images = back w e m t (map (image w (t .second)) cs) (written (writerCall e 1 t cs room)) h q (call-good w e t cs room q .good z) in
+    record { as-images = images; as-themselves = λ n. rw (selves w (t .second) cs n) at images }

@@ -1,8 +1,12 @@
 pub mod Tests
+pub mod Search
 pub mod Layouts
 pub mod UserRows
 pub mod Laws
 pub mod FamilyLaws
+pub mod ReadsBack
+pub mod ReadsBackBytes
+pub mod ReadsBackPairs
 pub mod Walk
 pub mod AnyTables
 pub mod Items
@@ -30,3 +34,5 @@ pub mod OnlyScalars
 pub mod Families
 pub mod Stages
 pub mod Sniffing
+pub mod Writers
+pub mod EncoderSamples

@@ -45,6 +45,9 @@ fn compare_all(number: usize, seed: u64) -> Result<(), String> {
     println!("indexes: {} entries by their lines", tables.entries);
     show("decode", || published::decodings(&tables))?;
     show("characters", || published::characters(&tables))?;
+    show("characters written", || {
+        published::characters_written(&tables)
+    })?;
     show("encode", || published::encodings(&tables))?;
     show("Shift_JIS", || published::shift_jis(&tables))?;
     show("order of refusals", || order::refusals(&tables))?;
@@ -55,6 +58,7 @@ fn compare_all(number: usize, seed: u64) -> Result<(), String> {
     show("leads of UTF-8", || exhaustive::leads(&tables))?;
     show("four bytes", || exhaustive::four_bytes(&tables))?;
     show("writers", || exhaustive::scalars(&tables))?;
+    show("writers of pairs", || exhaustive::pair_writers(&tables))?;
     show("block borders", || long::borders(&tables))?;
     show("stretches of ASCII", || stretches::stretches(&tables))?;
     compare_random(&tables, number, seed)

@@ -3,6 +3,7 @@
 use crate::compare;
 use crate::data::Published;
 use crate::differences::Differences;
+use crate::reference::has_writer;
 use support::ffi::Decoder as Record;
 use support::Tables;
 
@@ -241,7 +242,7 @@ fn encodes(published: &Published, calls: &mut Calls) {
     for encoding in (0..=40).chain([255]) {
         for set in 0..1 << order.len() {
             let causes = causes(&order, set);
-            let no_writer = (29..39).contains(&encoding);
+            let no_writer = encoding < 40 && !has_writer(encoding);
             if causes.contains(&2) != (encoding > 39)
                 || causes.contains(&9) != no_writer
                 || (causes.contains(&11) && encoding == 0)

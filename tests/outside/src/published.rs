@@ -3,6 +3,7 @@
 use crate::data::Published;
 use crate::differences::Differences;
 use crate::labels::Labels;
+use crate::reference::has_writer;
 use support::ffi::Decoder;
 use support::{calls, data, Tables};
 
@@ -303,6 +304,57 @@ pub fn characters(published: &Published) -> Result<String, String> {
     Ok(format!("{compared} characters"))
 }
 
+/// The published characters whose encodings have a writer, written again: the published bytes, or those of another
+/// pair with the same character, which comes first in the index.
+pub fn characters_written(published: &Published) -> Result<String, String> {
+    let text = data::read("vectors/characters.txt")?;
+    let mut differences = Differences::default();
+    let (mut same, mut other) = (0, 0);
+    for line in data::lines(&text) {
+        let character = Decoding::of_character(line)?;
+        let tables = published.tables(character.encoding);
+        let Reading::Scalars(scalars) = &character.expected else {
+            return Err(format!("{line}: no characters"));
+        };
+        if !has_writer(character.encoding) {
+            continue;
+        }
+        let mut room = [0; 16];
+        let answer = calls::encode(
+            character.encoding,
+            1,
+            scalars,
+            tables.first,
+            tables.second,
+            &mut room,
+        );
+        let written = room[..answer.written].to_vec();
+        if answer.refusal == 11 && read_only(character.encoding, &character.chunks.concat()) {
+            other += 1;
+            continue;
+        }
+        if written == character.chunks.concat() {
+            same += 1;
+            continue;
+        }
+        other += 1;
+        let again = Reader::open(tables, character.encoding, 0, 1).read(&[written.clone()], true);
+        if answer.refusal != 0 || again != character.expected {
+            differences.add(scalars.len(), || {
+                format!("{line}: refusal {}, written {written:02X?}", answer.refusal)
+            });
+        }
+    }
+    differences.result(format!(
+        "{same} characters by their published bytes, {other} by others or, from jis0212, not at all"
+    ))
+}
+
+/// Is a character only read: in EUC-JP by three bytes, from jis0212?
+fn read_only(encoding: u8, bytes: &[u8]) -> bool {
+    encoding == 32 && bytes.first() == Some(&0x8F)
+}
+
 const SHIFT_JIS: u8 = 34;
 
 fn shift_jis_pointer(lead: u8, trail: u8) -> Option<usize> {
@@ -392,7 +444,7 @@ pub fn encodings(published: &Published) -> Result<String, String> {
             tables.second,
             &mut room,
         );
-        let expected = if (29..39).contains(&encoding) {
+        let expected = if !has_writer(encoding) {
             without += 1;
             (9, Vec::new())
         } else {

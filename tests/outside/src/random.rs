@@ -301,7 +301,8 @@ impl Lists {
             2 => random.pick(CELLS),
             3 => random.pick(&[
                 9, 10, 99, 100, 999, 1000, 9999, 10000, 99999, 100000, 999999, 1000000, 0x7FF,
-                0x800, 0x20AC, 0x81, 0x178,
+                0x800, 0x20AC, 0x80, 0x81, 0xA5, 0x178, 0x203E, 0x2212, 0xFF0D, 0xFF60, 0xFF61,
+                0xFF9F, 0xFFA0,
             ]),
             _ if !table.is_empty() => random.pick(table),
             _ => 0xF780 + random.below(0x80) as u32,
@@ -392,12 +393,13 @@ impl Lists {
             2 | 3 => {
                 let encoding = match random.below(12) {
                     0 => random.pick(&[29, 31, 33, 38, 40, 255]),
-                    1 | 2 => 0,
-                    3 => 39,
+                    1 => 0,
+                    2 => 39,
+                    3..=5 => random.pick(&[32, 34]),
                     _ => 1 + random.below(28) as u8,
                 };
                 let length = match random.below(400) {
-                    0 => 16384 + random.below(2),
+                    0 if encoding < 29 => 16384 + random.below(2),
                     _ => random.below(14),
                 };
                 let mut scalars: Vec<u32> = (0..length)

@@ -1205,13 +1205,66 @@ pub struct Encoded {
     pub index: usize,
 }
 
-/// Writes the bytes of one scalar, where the encoding has any, and tells whether it has.
-fn encode_scalar(encoding: u8, scalar: u32, tables: Tables, output: &mut Vec<u8>) -> bool {
+/// Whether an encoding has a writer.
+pub fn has_writer(encoding: u8) -> bool {
+    matches!(encoding, 0..=28 | 32 | 34 | 39)
+}
+
+/// Writes one scalar as Shift_JIS (000's steps 2 to 13) or EUC-JP (steps 2 to 11), with what document 02 changes: the
+/// pointers that are passed over. `Err` has the code point that the error names.
+fn encode_japanese(
+    encoding: u8,
+    scalar: u32,
+    table: &[u32],
+    output: &mut Vec<u8>,
+) -> Result<(), u32> {
+    let shift_jis = encoding == 34;
+    match scalar {
+        0x80 if shift_jis => output.push(0x80),
+        0xA5 => output.push(0x5C),
+        0x203E => output.push(0x7E),
+        0xFF61..=0xFF9F => {
+            if !shift_jis {
+                output.push(0x8E);
+            }
+            output.push((scalar - 0xFF61 + 0xA1) as u8);
+        }
+        _ => {
+            let code_point = if scalar == 0x2212 { 0xFF0D } else { scalar };
+            let searched = |pointer: usize| match shift_jis {
+                true => !(8272..=10715).contains(&pointer),
+                false => pointer < 8836,
+            };
+            let pointer = (0..table.len())
+                .filter(|&pointer| searched(pointer))
+                .find(|&pointer| table[pointer] == code_point)
+                .ok_or(code_point)?;
+            if shift_jis {
+                let (lead, trail) = (pointer / 188, pointer % 188);
+                output.push((lead + if lead < 0x1F { 0x81 } else { 0xC1 }) as u8);
+                output.push((trail + if trail < 0x3F { 0x40 } else { 0x41 }) as u8);
+            } else {
+                output.push((pointer / 94 + 0xA1) as u8);
+                output.push((pointer % 94 + 0xA1) as u8);
+            }
+        }
+    }
+    Ok(())
+}
+
+/// Writes the bytes of one scalar, where the encoding has any. `Err` has the code point that the error names.
+fn encode_scalar(
+    encoding: u8,
+    scalar: u32,
+    tables: Tables,
+    output: &mut Vec<u8>,
+) -> Result<(), u32> {
     if scalar < 0x80 {
         output.push(scalar as u8);
-        return true;
+        return Ok(());
     }
     match encoding {
+        32 | 34 => encode_japanese(encoding, scalar, tables.first, output)?,
         0 => {
             let (mut count, offset) = match scalar {
                 0x80..=0x7FF => (1, 0xC0),
@@ -1223,25 +1276,21 @@ fn encode_scalar(encoding: u8, scalar: u32, tables: Tables, output: &mut Vec<u8>
                 output.push((0x80 | ((scalar >> (6 * (count - 1))) & 0x3F)) as u8);
                 count -= 1;
             }
-            true
         }
-        39 => {
-            let own = (0xF780..=0xF7FF).contains(&scalar);
-            if own {
-                output.push((scalar - 0xF780 + 0x80) as u8);
-            }
-            own
-        }
+        39 => match scalar {
+            0xF780..=0xF7FF => output.push((scalar - 0xF780 + 0x80) as u8),
+            _ => return Err(scalar),
+        },
         _ => {
             let index = match encoding {
                 21 => WINDOWS_1252.get().expect("the index is read first"),
                 _ => tables.first,
             };
             let pointer = index.iter().position(|&cell| cell == scalar);
-            output.extend(pointer.map(|pointer| pointer as u8 + 0x80));
-            pointer.is_some()
+            output.push(pointer.ok_or(scalar)? as u8 + 0x80);
         }
     }
+    Ok(())
 }
 
 pub fn encode(encoding: u8, mode: u8, scalars: &[u32], tables: Tables, room: usize) -> Encoded {
@@ -1256,7 +1305,7 @@ pub fn encode(encoding: u8, mode: u8, scalars: &[u32], tables: Tables, room: usi
     if mode > 1 {
         return refused(3);
     }
-    if (29..39).contains(&encoding) {
+    if !has_writer(encoding) {
         return refused(9);
     }
     if !fits(encoding, tables) {
@@ -1271,14 +1320,14 @@ pub fn encode(encoding: u8, mode: u8, scalars: &[u32], tables: Tables, room: usi
     let mut output = Vec::new();
     let mut error = None;
     for (index, &scalar) in scalars.iter().enumerate() {
-        if encode_scalar(encoding, scalar, tables, &mut output) {
+        let Err(named) = encode_scalar(encoding, scalar, tables, &mut output) else {
             continue;
-        }
+        };
         if mode == 1 {
             error = Some(index);
             break;
         }
-        output.extend(format!("&#{scalar};").bytes());
+        output.extend(format!("&#{named};").bytes());
     }
     if room < output.len() {
         return refused(7);

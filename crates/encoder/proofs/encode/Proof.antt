@@ -23,7 +23,7 @@ write-requires c κs =
     let at-refusal = c .before .before in
     let args = start at-refusal .args in
     let k = accepted _ _ (lent (args .t1 .now) (args .t2 .now)) _ (args .room .now) (sym (at-refusal .refusal .ensures) ∙ c .before .if1 .left) in
-    (k .are-scalars, k .few, k .space)
+    ((k .are-scalars, k .few, k .tabled), k .space)
 
 same-length : tie.Need-same-length
 same-length c = search needs

@@ -1,6 +1,6 @@
 -- `pointer`: a stretch that is the whole table. Assumes nothing.
 use Rattle.index.proofs.Search.{whole}
-use Rattle.standard.specs.Indexes.{pointerFrom}
+use Rattle.standard.specs.Search.{pointerFrom}
 use Prim.Native.Nat.{ℕ}
 use mathlib.Core.List.{List}
 use mathlib.Core.Path.{ap, _∙_}

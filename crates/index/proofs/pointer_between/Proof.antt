@@ -1,6 +1,6 @@
 -- `pointer_between`: nothing where the code point is no cell; else the search, to the end of the table at most. Assumes nothing.
 use Rattle.index.proofs.Search.{unmapped-missing, clipped}
-use Rattle.standard.specs.Indexes.{pointerFrom}
+use Rattle.standard.specs.Search.{pointerFrom}
 use borrow.Author.Tests.{not-true, not-false}
 use lib.Seq.{slice}
 use Prim.Native.Nat.{ℕ}

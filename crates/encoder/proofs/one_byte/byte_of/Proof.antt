@@ -1,8 +1,7 @@
 -- `one_byte::byte_of`, by the encoding number. Assumes nothing.
 use Rattle.encoder.proofs.Scalars.{of-windows-1252, of-single-byte, of-user-defined}
-use Rattle.encoder_spec.specs.Writer.{bytesOf}
 use native.Mathlib.Omega.{arith}
-use mathlib.Core.Path.{ap, _∙_}
+use mathlib.Core.Path.{_∙_}
 use borrow.Author.Needs.{needs}
 use Rattle.encoder.proofs.one_byte.byte_of.Statement.{statement}
 use Rattle.encoder.proofs.one_byte.byte_of.Tie as tie
@@ -15,7 +14,7 @@ returns c =
     let at-windows-1252 = c .windows-1252 in
     let args = c .before .before .before .args in
     let at-if1 = c .before .if1 in
-    at-windows-1252 .ensures ∙ ap bytesOf (of-windows-1252 (args .encoding) (args .table .now) (args .c) (at-if1 .taken))
+    at-windows-1252 .ensures ∙ of-windows-1252 (args .encoding) (args .table .now) (args .c) (at-if1 .taken)
 
 byte-of-requires : tie.Need-byte-of-requires
 byte-of-requires c κs = search needs
@@ -27,7 +26,7 @@ returns-2 c =
     let at-pre = c .before .before .before .before .pre in
     let at-if1 = c .before .before .if1 in
     let at-if2 = c .before .if2 in
-    at-byte-of .ensures ∙ ap bytesOf (of-single-byte (args .encoding) (args .table .now) (args .c) (λ z. omega (arith, at-pre .0, z)) (at-if1 .left) (at-if2 .taken))
+    at-byte-of .ensures ∙ of-single-byte (args .encoding) (args .table .now) (args .c) (λ z. omega (arith, at-pre .0, z)) (at-if1 .left) (at-if2 .taken)
 
 byte-of-requires-2 : tie.Need-byte-of-requires-2
 byte-of-requires-2 c κs = search needs
@@ -36,8 +35,9 @@ returns-3 : tie.Need-returns-3
 returns-3 c =
     let at-byte-of2 = c .byte-of2 in
     let args = c .before .before .before .before .args in
+    let at-pre = c .before .before .before .before .pre in
     let at-if2 = c .before .if2 in
-    at-byte-of2 .ensures ∙ ap bytesOf (of-user-defined (args .encoding) (args .table .now) (args .c) (at-if2 .left))
+    at-byte-of2 .ensures ∙ of-user-defined (args .encoding) (args .table .now) (args .c) (at-if2 .left) (at-pre .1)
 
 pub byte-of-spec : {M : Type 1} → statement M
 byte-of-spec =

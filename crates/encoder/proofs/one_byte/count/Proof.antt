@@ -23,7 +23,7 @@ part-count-by-end c = search needs
 count-by-requires : tie.Need-count-by-requires
 count-by-requires c κs =
     let s = start (c .before .before) in
-    ((s .pre .0, s .pre .3, empty-slots (s .args .encoding) (s .args .table .now) _ (λ k. refl)), s .pre .1, s .pre .2)
+    ((s .pre .0, empty-slots (s .args .encoding) (s .args .table .now) _ (λ k. refl)), s .pre .1, s .pre .2)
 
 returns : tie.Need-returns
 returns c = c .count-by .ensures
@@ -32,7 +32,7 @@ slice-aggregate-fill : tie.Need-slice-aggregate-fill
 slice-aggregate-fill c = search needs
 
 fill-requires : tie.Need-fill-requires
-fill-requires c κs = let s = start (c .before .before) in (s .pre .0, s .pre .3, refl)
+fill-requires c κs = let s = start (c .before .before) in (s .pre .0, refl)
 
 slice-aggregate-count-by : tie.Need-slice-aggregate-count-by
 slice-aggregate-count-by c = search needs
@@ -41,7 +41,7 @@ count-by-requires-2 : tie.Need-count-by-requires-2
 count-by-requires-2 c κs =
     let at-fill = c .before .before in
     let s = start (at-fill .before .before .before) in
-    ((s .pre .0, s .pre .3, at-fill .fill .ensures), s .pre .1, s .pre .2)
+    ((s .pre .0, at-fill .fill .ensures), s .pre .1, s .pre .2)
 
 returns-2 : tie.Need-returns-2
 returns-2 c = c .count-by2 .ensures

@@ -7,13 +7,14 @@ use native.Mathlib.Omega.{arith}
 use lib.ListN.{length, getD}
 use borrow.Author.Needs.{needs}
 use Rattle.standard.specs.Machine.{reference}
-use Rattle.encoder.specs.WriterCode.{encoderOf}
-use Rattle.encoder.proofs.Counting.{Counted, counted-start, counted-stop, counted-end, counted-on, here-byte, here-reference, here-stop, scalar-at}
+use Rattle.encoder.specs.WriterCode.{encoderOf, oneOf}
+use Rattle.encoder.proofs.Counting.{Counted, counted-start, counted-stop, counted-end, counted-on, here-bytes, here-reference, here-stop}
+use Rattle.encoder.proofs.Counting.{told-byte, told-none, scalar-at}
 use Rattle.encoder.proofs.one_byte.count_by.Statement.{statement}
 use Rattle.encoder.proofs.one_byte.count_by.Tie as tie
 
 abbrev Inv-loop : tie.InvT-loop
-Inv-loop encoding mode scalars table slots n₀ i₀ n i = Counted (encoderOf encoding table) mode scalars n i
+Inv-loop encoding mode scalars table slots n₀ i₀ n i = Counted (oneOf encoding table) mode 0 scalars n i 0
 
 abbrev μ-loop : tie.MeasureT-loop
 μ-loop encoding mode scalars table slots n₀ i₀ n i = length scalars - i
@@ -26,7 +27,7 @@ abbrev start : tie.In-loop Inv-loop μ-loop → tie.Start Inv-loop μ-loop
 start c = c .before .before .before .before .before
 
 loop-holds : tie.Need-loop-holds Inv-loop μ-loop
-loop-holds c = counted-start _ _ _
+loop-holds c = counted-start _ _ _ _
 
 mul-c : tie.Need-mul-c Inv-loop μ-loop
 mul-c c = search needs
@@ -51,13 +52,14 @@ loop-less c = search needs
 loop-again : tie.Need-loop-again Inv-loop μ-loop
 loop-again c =
     let t = turn (c .before) in
-    let here = here-byte _ _ _ _ (t .loop-test .taken) _ (c .before .byte-of .ensures) (c .if1 .taken) in
-    counted-on _ _ _ _ _ (t .before .loop .inv) (c .before .byte-of .result ∷ []) here 1 refl (omega arith)
+    let here = here-bytes _ _ _ _ _ (t .loop-test .taken) (told-byte (encoderOf _ _) _ _ (c .before .byte-of .ensures) (c .if1 .taken)) in
+    counted-on _ _ _ _ _ _ _ (t .before .loop .inv) 0 (c .before .byte-of .result ∷ []) here 1 refl (omega arith)
 
 returns : tie.Need-returns Inv-loop μ-loop
 returns c =
     let t = turn (c .before .before) in
-    counted-stop _ _ _ _ _ (t .before .loop .inv) (here-stop _ _ _ _ (t .loop-test .taken) _ (c .before .before .byte-of .ensures) (c .before .if1 .left) (c .if2 .taken))
+    let none = told-none (encoderOf _ _) _ _ (c .before .before .byte-of .ensures) (c .before .if1 .left) in
+    counted-stop _ _ _ _ _ _ _ (t .before .loop .inv) (here-stop _ _ _ _ _ (t .loop-test .taken) none (c .if2 .taken))
 
 size-requires : tie.Need-size-requires Inv-loop μ-loop
 size-requires c κs = search needs
@@ -81,12 +83,13 @@ loop-again-2 : tie.Need-loop-again-2 Inv-loop μ-loop
 loop-again-2 c =
     let b = c .before .before .before in
     let t = turn b in
-    counted-on _ _ _ _ _ (t .before .loop .inv) (reference (getD (start t .args .scalars .now) (t .before .loop .i) 0))
-    (here-reference _ _ _ _ (t .loop-test .taken) _ (b .byte-of .ensures) (c .before .before .if1 .left) (c .before .if2 .left))
+    let none = told-none (encoderOf _ _) _ _ (b .byte-of .ensures) (c .before .before .if1 .left) in
+    counted-on _ _ _ _ _ _ _ (t .before .loop .inv) 0 (reference (getD (start t .args .scalars .now) (t .before .loop .i) 0))
+    (here-reference _ _ _ _ _ (t .loop-test .taken) none (c .before .if2 .left))
     (c .size .result) (c .size .ensures .0) (omega (arith, c .size .ensures .1, small t))
 
 returns-2 : tie.Need-returns-2 Inv-loop μ-loop
-returns-2 c = counted-end _ _ _ _ _ (c .before .loop .inv) (c .loop-test .left)
+returns-2 c = counted-end _ _ _ _ _ _ _ (c .before .loop .inv) (c .loop-test .left)
 
 pub count-by-spec : {M : Type 1} → statement M
 count-by-spec =

@@ -23,7 +23,7 @@ part-write-by-end c = search needs
 write-by-requires : tie.Need-write-by-requires
 write-by-requires c κs =
     let s = start (c .before .before .before) in
-    ((s .pre .0, s .pre .1, empty-slots (s .args .encoding) (s .args .table .now) _ (λ k. refl)), s .pre .2)
+    ((s .pre .0, empty-slots (s .args .encoding) (s .args .table .now) _ (λ k. refl)), s .pre .1)
 
 same-length : tie.Need-same-length
 same-length c = search needs
@@ -35,7 +35,7 @@ slice-aggregate-fill : tie.Need-slice-aggregate-fill
 slice-aggregate-fill c = search needs
 
 fill-requires : tie.Need-fill-requires
-fill-requires c κs = let s = start (c .before .before) in (s .pre .0, s .pre .1, refl)
+fill-requires c κs = let s = start (c .before .before) in (s .pre .0, refl)
 
 slice-aggregate-write-by : tie.Need-slice-aggregate-write-by
 slice-aggregate-write-by c = search needs
@@ -44,7 +44,7 @@ write-by-requires-2 : tie.Need-write-by-requires-2
 write-by-requires-2 c κs =
     let at-fill = c .before .before .before in
     let s = start (at-fill .before .before .before) in
-    ((s .pre .0, s .pre .1, at-fill .fill .ensures), s .pre .2)
+    ((s .pre .0, at-fill .fill .ensures), s .pre .1)
 
 same-length-2 : tie.Need-same-length-2
 same-length-2 c = search needs

@@ -7,13 +7,14 @@ use native.Mathlib.Omega.{arith}
 use lib.ListN.{length, getD}
 use borrow.Author.Needs.{needs}
 use Rattle.standard.specs.Machine.{reference}
-use Rattle.encoder.specs.WriterCode.{encoderOf}
-use Rattle.encoder.proofs.Counting.{Here, Running, running-start, running-end, running-stop, running-room, running-on, here-byte, here-reference, here-stop}
+use Rattle.encoder.specs.WriterCode.{encoderOf, oneOf}
+use Rattle.encoder.proofs.Counting.{Here, Running, running-start, running-end, running-stop, running-room, running-on}
+use Rattle.encoder.proofs.Counting.{here-bytes, here-reference, here-stop, told-byte, told-none}
 use Rattle.encoder.proofs.one_byte.write_by.Statement.{statement}
 use Rattle.encoder.proofs.one_byte.write_by.Tie as tie
 
 abbrev Inv-loop : tie.InvT-loop
-Inv-loop encoding mode scalars table slots room₀ o₀ i₀ room o i = Running (encoderOf encoding table) mode scalars room₀ room i o
+Inv-loop encoding mode scalars table slots room₀ o₀ i₀ room o i = Running (oneOf encoding table) mode 0 scalars room₀ room i o 0
 
 abbrev μ-loop : tie.MeasureT-loop
 μ-loop encoding mode scalars table slots room₀ o₀ i₀ room o i = length scalars - i
@@ -33,16 +34,19 @@ abbrev refers : tie.Else2 Inv-loop μ-loop → List ℕ
 refers c = let t = turn (c .before .before) in reference (getD (start t .args .scalars .now) (t .before .loop .i) 0)
 
 abbrev Writes : tie.In-loop Inv-loop μ-loop → List ℕ → Type 0
-Writes t us = Here (encoderOf (start t .args .encoding) (start t .args .table .now)) (start t .args .mode) (start t .args .scalars .now) (t .before .loop .i) us
+Writes t us =
+    Here (oneOf (start t .args .encoding) (start t .args .table .now)) (start t .args .mode) (start t .args .scalars .now) 0 (t .before .loop .i) 0 us
 
 byte-here : (c : tie.Then1 Inv-loop μ-loop) → Writes (turn (c .before)) (byte c)
-byte-here c = here-byte _ _ _ _ (turn (c .before) .loop-test .taken) _ (c .before .byte-of .ensures) (c .if1 .taken)
+byte-here c = here-bytes _ _ _ _ _ (turn (c .before) .loop-test .taken) (told-byte (encoderOf _ _) _ _ (c .before .byte-of .ensures) (c .if1 .taken))
 
 reference-here : (c : tie.Else2 Inv-loop μ-loop) → Writes (turn (c .before .before)) (refers c)
-reference-here c = here-reference _ _ _ _ (turn (c .before .before) .loop-test .taken) _ (c .before .before .byte-of .ensures) (c .before .if1 .left) (c .if2 .left)
+reference-here c =
+    let none = told-none (encoderOf _ _) _ _ (c .before .before .byte-of .ensures) (c .before .if1 .left) in
+    here-reference _ _ _ _ _ (turn (c .before .before) .loop-test .taken) none (c .if2 .left)
 
 loop-holds : tie.Need-loop-holds Inv-loop μ-loop
-loop-holds c = running-start _ _ _ _
+loop-holds c = running-start _ _ _ _ _
 
 mul-c : tie.Need-mul-c Inv-loop μ-loop
 mul-c c = search needs
@@ -59,12 +63,12 @@ cast-room c = search needs
 slice-write-room : tie.Need-slice-write-room Inv-loop μ-loop
 slice-write-room c =
     let t = turn (c .before) in
-    omega (arith, running-room _ _ _ _ _ _ _ (t .before .loop .inv) (byte c) (byte-here c) (start t .pre .1))
+    omega (arith, running-room _ _ _ _ _ _ _ _ _ (t .before .loop .inv) 0 (byte c) (byte-here c) (start t .pre .1))
 
 add-o : tie.Need-add-o Inv-loop μ-loop
 add-o c =
     let t = turn (c .before) in
-    record { fits = omega (arith, running-room _ _ _ _ _ _ _ (t .before .loop .inv) (byte c) (byte-here c) (start t .pre .1)) }
+    record { fits = omega (arith, running-room _ _ _ _ _ _ _ _ _ (t .before .loop .inv) 0 (byte c) (byte-here c) (start t .pre .1)) }
 
 add-i : tie.Need-add-i Inv-loop μ-loop
 add-i c = search needs
@@ -75,7 +79,7 @@ loop-less c = search needs
 loop-again : tie.Need-loop-again Inv-loop μ-loop
 loop-again c =
     let t = turn (c .before) in
-    running-on _ _ _ _ _ _ _ (t .before .loop .inv) (byte c) (byte-here c) (start t .pre .1) _ _ refl refl
+    running-on _ _ _ _ _ _ _ _ _ (t .before .loop .inv) 0 (byte c) (byte-here c) (start t .pre .1) _ _ refl refl
 
 same-length : tie.Need-same-length Inv-loop μ-loop
 same-length c = search needs
@@ -83,12 +87,13 @@ same-length c = search needs
 returns : tie.Need-returns Inv-loop μ-loop
 returns c =
     let t = turn (c .before .before) in
-    running-stop _ _ _ _ _ _ _ (t .before .loop .inv) (here-stop _ _ _ _ (t .loop-test .taken) _ (c .before .before .byte-of .ensures) (c .before .if1 .left) (c .if2 .taken))
+    let none = told-none (encoderOf _ _) _ _ (c .before .before .byte-of .ensures) (c .before .if1 .left) in
+    running-stop _ _ _ _ _ _ _ _ _ (t .before .loop .inv) (here-stop _ _ _ _ _ (t .loop-test .taken) none (c .if2 .taken))
 
 put-requires : tie.Need-put-requires Inv-loop μ-loop
 put-requires c κs =
     let t = turn (c .before .before .before) in
-    running-room _ _ _ _ _ _ _ (t .before .loop .inv) (refers (c .before)) (reference-here (c .before)) (start t .pre .1)
+    running-room _ _ _ _ _ _ _ _ _ (t .before .loop .inv) 0 (refers (c .before)) (reference-here (c .before)) (start t .pre .1)
 
 add-i-2 : tie.Need-add-i-2 Inv-loop μ-loop
 add-i-2 c = search needs
@@ -101,13 +106,13 @@ loop-again-2 c =
     let at-put = c .before .before in
     let e = at-put .before .before in
     let t = turn (e .before .before) in
-    running-on _ _ _ _ _ _ _ (t .before .loop .inv) (refers e) (reference-here e) (start t .pre .1) _ _ (at-put .put .ensures .0) (at-put .put .ensures .1)
+    running-on _ _ _ _ _ _ _ _ _ (t .before .loop .inv) 0 (refers e) (reference-here e) (start t .pre .1) _ _ (at-put .put .ensures .0) (at-put .put .ensures .1)
 
 same-length-2 : tie.Need-same-length-2 Inv-loop μ-loop
 same-length-2 c = search needs
 
 returns-2 : tie.Need-returns-2 Inv-loop μ-loop
-returns-2 c = running-end _ _ _ _ _ _ _ (c .before .loop .inv) (c .loop-test .left)
+returns-2 c = running-end _ _ _ _ _ _ _ _ _ (c .before .loop .inv) (c .loop-test .left)
 
 pub write-by-spec : {M : Type 1} → statement M
 write-by-spec =

@@ -4,7 +4,7 @@ use mathlib.Core.Bool.{true}
 use borrow.Author.Needs.{needs}
 use borrow.Author.Tests.{not-true, not-false}
 use Rattle.encoder.specs.WriterCode.{writes}
-use Rattle.encoder.proofs.Calls.{refused-2, refused-3, refused-9, refused-4, refused-text, table-few}
+use Rattle.encoder.proofs.Calls.{refused-2, refused-3, refused-9, refused-4, refused-text, table-fits}
 use Rattle.encoder.proofs.refusals.refusal.Statement.{statement}
 use Rattle.encoder.proofs.refusals.refusal.Tie as tie
 
@@ -39,7 +39,7 @@ returns-4 c =
     refused-4 _ _ _ _ _ (at-mode .before .if1 .left) (at-mode .if2 .left) (writer e) (sym (c .before .tables-fit .ensures) ∙ not-true _ (c .if4 .taken))
 
 text-refusal-requires : tie.Need-text-refusal-requires
-text-refusal-requires c κs = table-few _ _ (writer (c .before .before)) (sym (c .before .tables-fit .ensures) ∙ not-false _ (c .if4 .left))
+text-refusal-requires c κs = table-fits _ _ (writer (c .before .before)) (sym (c .before .tables-fit .ensures) ∙ not-false _ (c .if4 .left))
 
 returns-5 : tie.Need-returns-5
 returns-5 c =

@@ -11,7 +11,7 @@ returns : tie.Need-returns
 returns c =
     let args = c .before .before .args in
     let at-if1 = c .if1 in
-    given-byte (args .c) (omega arith) (single-one (args .table .now) (args .c) (at-if1 .taken))
+    given-byte (args .c) (args .c) (omega arith) (single-one (args .table .now) (args .c) (at-if1 .taken))
 
 pointer-requires : tie.Need-pointer-requires
 pointer-requires c κs = search needs
@@ -46,7 +46,7 @@ returns-2 c =
     let at-pre = c .before .before .before .before .before .before .pre in
     let at-if1 = c .before .before .before .before .if1 in
     let e = ap pointerOf (sym (at-p .given .1)) ∙ at-pointer .ensures in
-    given-byte _ (omega (arith, pointer-below (args .table .now) (args .c) e, at-pre)) (single-by (args .table .now) (args .c) (at-if1 .left) e)
+    given-byte (args .c) _ (omega (arith, pointer-below (args .table .now) (args .c) e, at-pre)) (single-by (args .table .now) (args .c) (at-if1 .left) e)
 
 returns-3 : tie.Need-returns-3
 returns-3 c =

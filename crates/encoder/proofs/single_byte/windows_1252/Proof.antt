@@ -1,9 +1,8 @@
 -- `windows_1252`: A0 to FF stand for themselves, the others are searched for among the irregular cells. Assumes nothing.
 use Rattle.encoder.proofs.Scalars.{given-byte, windows-low, windows-self, windows-high}
-use Rattle.encoder_spec.specs.Writer.{bytesOf}
 use Rattle.standard.specs.Indexes.{irregular}
 use native.Mathlib.Omega.{arith}
-use mathlib.Core.Path.{ap, _∙_}
+use mathlib.Core.Path.{_∙_}
 use borrow.Author.Needs.{needs}
 use Rattle.encoder.proofs.single_byte.windows_1252.Statement.{statement}
 use Rattle.encoder.proofs.single_byte.windows_1252.Tie as tie
@@ -20,14 +19,14 @@ returns c =
     let at-byte-of = c .byte-of in
     let args = c .before .before .before .args in
     let at-if1 = c .before .before .if1 in
-    at-byte-of .ensures ∙ ap bytesOf (windows-low (args .c) (at-if1 .taken))
+    at-byte-of .ensures ∙ windows-low (args .c) (at-if1 .taken)
 
 returns-2 : tie.Need-returns-2
 returns-2 c =
     let args = c .before .before .args in
     let at-if1 = c .before .if1 in
     let at-if2 = c .if2 in
-    given-byte (args .c) (omega arith) (windows-self (args .c) (at-if1 .left) (at-if2 .taken))
+    given-byte (args .c) (args .c) (omega arith) (windows-self (args .c) (at-if1 .left) (at-if2 .taken))
 
 slice-aggregate-byte-of-2 : tie.Need-slice-aggregate-byte-of-2
 slice-aggregate-byte-of-2 c = search needs
@@ -41,7 +40,7 @@ returns-3 c =
     let at-byte-of2 = c .byte-of2 in
     let args = c .before .before .before .before .args in
     let at-if2 = c .before .before .if2 in
-    at-byte-of2 .ensures ∙ ap bytesOf (windows-high (args .c) (at-if2 .left))
+    at-byte-of2 .ensures ∙ windows-high (args .c) (at-if2 .left)
 
 pub windows-1252-spec : {M : Type 1} → statement M
 windows-1252-spec =

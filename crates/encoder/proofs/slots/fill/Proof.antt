@@ -19,21 +19,21 @@ returns : tie.Need-returns
 returns c =
     let args = c .before .before .before .args in
     let at-pre = c .before .before .before .pre in
-    zero-slots (args .encoding) (args .table .now) _ (at-pre .2)
+    zero-slots (args .encoding) (args .table .now) _ (at-pre .1)
 
 slice-aggregate-fill-table : tie.Need-slice-aggregate-fill-table
 slice-aggregate-fill-table c = search needs
 
 fill-table-requires : tie.Need-fill-table-requires
 fill-table-requires c κs =
-    (omega arith, start (c .before .before .before) .pre .2)
+    (omega arith, start (c .before .before .before) .pre .1)
 
 fill-regular-requires : tie.Need-fill-regular-requires
 unfolding irregular
 fill-regular-requires c κs =
     let at-fill = c .before .before .before in
     let s = start (at-fill .before .before .before .before) in
-    (at-fill .fill-table .kept .1 .0 ∙ ap length (s .pre .2) ∙ length-replicate {A = ℕ} 2048 0, windows-slots _ (at-fill .fill-table .ensures))
+    (at-fill .fill-table .kept .1 .0 ∙ ap length (s .pre .1) ∙ length-replicate {A = ℕ} 2048 0, windows-slots _ (at-fill .fill-table .ensures))
 
 same-length : tie.Need-same-length
 same-length c = search needs
@@ -48,7 +48,7 @@ returns-2 c =
 fill-table-requires-2 : tie.Need-fill-table-requires-2
 fill-table-requires-2 c κs =
     let s = start (c .before .before) in
-    (s .pre .1, s .pre .2)
+    (s .pre .0 .2, s .pre .1)
 
 same-length-2 : tie.Need-same-length-2
 same-length-2 c = search needs
@@ -57,7 +57,7 @@ returns-3 : tie.Need-returns-3
 returns-3 c =
     let at-table = c .before .before in
     let at-if2 = at-table .before .before in
-    let least = start (at-if2 .before) .pre .0 in
+    let least = start (at-if2 .before) .pre .0 .0 in
     slots-as _ (λ (x : ℕ). of-single-byte _ _ x (λ z. omega (arith, least, z)) (at-if2 .if2 .left) (at-if2 .before .if1 .left)) (at-table .fill-table2 .ensures)
 
 pub fill-spec : {M : Type 1} → statement M

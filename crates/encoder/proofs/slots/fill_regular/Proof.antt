@@ -7,7 +7,8 @@ use native.Mathlib.Omega.{arith}
 use Rattle.encoder.proofs.Filling.{regular-on}
 use Rattle.encoder.specs.WriterCode.{Slots}
 use Rattle.standard.specs.Indexes.{windows1252}
-use Rattle.standard.specs.Encoders.{singleByteEncode}
+use Rattle.standard.specs.Search.{searching}
+use Rattle.standard.specs.Encoders.SingleByte.{singleByteEncode}
 use lib.ListN.{length-set}
 use mathlib.Core.Path.{_≡_}
 use Prim.Native.Nat.{_≤_}
@@ -16,7 +17,7 @@ use Rattle.encoder.proofs.slots.fill_regular.Statement.{statement}
 use Rattle.encoder.proofs.slots.fill_regular.Tie as tie
 
 abbrev Inv-loop : tie.InvT-loop
-Inv-loop slots₀ c₀ slots c = (length slots ≡ 2048) × (0xA0 ≤ c) × (c ≤ 0x100) × Slots (singleByteEncode windows1252) slots
+Inv-loop slots₀ c₀ slots c = (length slots ≡ 2048) × (0xA0 ≤ c) × (c ≤ 0x100) × Slots (singleByteEncode (searching windows1252)) slots
 
 abbrev μ-loop : tie.MeasureT-loop
 μ-loop slots₀ c₀ slots c = 0x100 - c

@@ -9,7 +9,7 @@ returns : tie.Need-returns
 returns c =
     let args = c .before .args in
     let at-if1 = c .if1 in
-    given-byte (args .c) (omega arith) (user-one (args .c) (at-if1 .taken))
+    given-byte (args .c) (args .c) (omega arith) (user-one (args .c) (at-if1 .taken))
 
 returns-2 : tie.Need-returns-2
 returns-2 c =
@@ -26,7 +26,7 @@ returns-3 c =
     let args = c .before .before .before .args in
     let at-if2 = c .before .if2 in
     let at-if3 = c .if3 in
-    given-byte _ (omega arith) (user-byte (args .c) (at-if2 .left) (at-if3 .taken))
+    given-byte (args .c) _ (omega arith) (user-byte (args .c) (at-if2 .left) (at-if3 .taken))
 
 returns-4 : tie.Need-returns-4
 returns-4 c =

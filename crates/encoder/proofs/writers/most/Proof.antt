@@ -1,25 +1,29 @@
 -- `most`, by its tests. Assumes nothing.
+use mathlib.Core.Path.{sym, _∙_}
 use borrow.Author.Tests.{eq-eqb, ne-eqb}
 use native.Mathlib.Omega.{arith}
+use borrow.Author.Needs.{needs}
 use Rattle.encoder.proofs.writers.most.Statement.{statement}
 use Rattle.encoder.proofs.writers.most.Tie as tie
 
 returns : tie.Need-returns
-returns c =
-    let at-if1 = c .if1 in
-    (rw (eq-eqb _ _ (at-if1 .taken)), omega arith)
+returns c = (rw (eq-eqb _ _ (c .if1 .taken)), omega arith)
 
 returns-2 : tie.Need-returns-2
-returns-2 c =
-    let at-if1 = c .before .if1 in
-    let at-if2 = c .if2 in
-    (rw (ne-eqb _ _ (at-if1 .left), eq-eqb _ _ (at-if2 .taken)), omega arith)
+returns-2 c = (rw (ne-eqb _ _ (c .before .if1 .left), ne-eqb _ _ (c .if2 .taken)), omega arith)
+
+pairs-requires : tie.Need-pairs-requires
+pairs-requires c κs = search needs
 
 returns-3 : tie.Need-returns-3
 returns-3 c =
-    let at-if1 = c .before .if1 in
-    let at-if2 = c .if2 in
-    (rw (ne-eqb _ _ (at-if1 .left), ne-eqb _ _ (at-if2 .left)), omega arith)
+    let e = c .before .before in
+    (rw (ne-eqb _ _ (e .before .if1 .left), eq-eqb _ _ (e .if2 .left), sym (c .before .pairs .ensures) ∙ c .if3 .taken), omega arith)
+
+returns-4 : tie.Need-returns-4
+returns-4 c =
+    let e = c .before .before in
+    (rw (ne-eqb _ _ (e .before .if1 .left), eq-eqb _ _ (e .if2 .left), sym (c .before .pairs .ensures) ∙ c .if3 .left), omega arith)
 
 pub most-spec : {M : Type 1} → statement M
-most-spec = tie.close (tie.spec returns returns-2 returns-3)
+most-spec = tie.close (tie.spec returns returns-2 pairs-requires returns-3 returns-4)

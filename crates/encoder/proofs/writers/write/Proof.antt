@@ -1,19 +1,23 @@
--- `writers::write`: UTF-8 writes the same in both modes; the other writers have one byte a scalar. Assumes nothing.
-use mathlib.Core.Path.{ap}
-use native.Mathlib.Omega.{arith}
+-- `writers::write`: UTF-8 writes the same in both modes; the others by what they write. Assumes nothing.
+use mathlib.Core.Path.{_≡_, sym, ap, _∙_}
+use mathlib.Core.Bool.{false}
 use lib.ListN.{length}
-use borrow.Author.Needs.{needs}
-use Rattle.encoder_spec.specs.Writer.{Writing}
+use Rattle.encoder_spec.specs.Writing.{Writing}
+use Rattle.encoder.specs.WriterCode.{pairs}
 use Rattle.encoder.proofs.Most.{utf8-writing, utf8-wrote}
+use native.Mathlib.Omega.{arith}
+use borrow.Author.Needs.{needs}
 use Rattle.encoder.proofs.writers.write.Statement.{statement}
 use Rattle.encoder.proofs.writers.write.Tie as tie
 
+abbrev start : tie.Else1 → tie.Start
+start c = c .before .before .before .before
+
 write-requires : tie.Need-write-requires
 write-requires c κs =
-    let at-if1 = c .before .if1 in
     let s = c .before .before .before .before .before in
-    let e = utf8-writing (s .args .encoding) (s .args .mode) (s .args .table .now) (s .args .scalars .now) (at-if1 .taken) in
-    (s .pre .0, omega (arith, s .pre .2, ap (λ (w : Writing). length (w .bytes)) e))
+    let e = utf8-writing (s .args .encoding) (s .args .mode) (s .args .table .now) (s .args .scalars .now) (c .before .if1 .taken) in
+    (s .pre .0 .0, omega (arith, s .pre .1, ap (λ (w : Writing). length (w .bytes)) e))
 
 same-length : tie.Need-same-length
 same-length c = search needs
@@ -23,10 +27,15 @@ returns c =
     let at-write = c .before .before in
     utf8-wrote _ _ _ _ (at-write .before .before .if1 .taken) _ (at-write .write .ensures)
 
+pairs-requires : tie.Need-pairs-requires
+pairs-requires c κs = search needs
+
 write-requires-2 : tie.Need-write-requires-2
 write-requires-2 c κs =
-    let s = c .before .before .before .before .before in
-    (omega (arith, c .before .if1 .left), s .pre .1, s .pre .2)
+    let t = c .before in
+    let s = start (t .before .before) in
+    let p = sym (t .before .pairs .ensures) ∙ t .if2 .taken in
+    ((p, s .pre .0 .1, s .pre .0 .2 .of-pairs p), s .pre .1)
 
 same-length-2 : tie.Need-same-length-2
 same-length-2 c = search needs
@@ -34,6 +43,31 @@ same-length-2 c = search needs
 returns-2 : tie.Need-returns-2
 returns-2 c = c .before .before .write2 .ensures
 
+write-requires-3 : tie.Need-write-requires-3
+write-requires-3 c κs =
+    let t = c .before in
+    let e = t .before .before in
+    let s = start e in
+    let p : pairs (s .args .encoding) ≡ false = sym (t .before .pairs .ensures) ∙ t .if2 .left in
+    ((omega (arith, e .if1 .left), p, s .pre .0 .2 .of-bytes p), s .pre .1)
+
+same-length-3 : tie.Need-same-length-3
+same-length-3 c = search needs
+
+returns-3 : tie.Need-returns-3
+returns-3 c = c .before .before .write3 .ensures
+
 pub write-spec : {M : Type 1} → statement M
 write-spec =
-    tie.close (tie.spec write-requires same-length returns write-requires-2 same-length-2 returns-2)
+    tie.close
+    (tie.spec
+    write-requires
+    same-length
+    returns
+    pairs-requires
+    write-requires-2
+    same-length-2
+    returns-2
+    write-requires-3
+    same-length-3
+    returns-3)

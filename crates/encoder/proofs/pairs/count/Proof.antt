@@ -1,0 +1,52 @@
+-- `pairs::count`: without slots, and with filled ones. Assumes nothing.
+use mathlib.Core.Path.{refl}
+use native.Mathlib.Omega.{arith}
+use borrow.Author.Needs.{needs}
+use Rattle.encoder.proofs.pairs.count.Statement.{statement}
+use Rattle.encoder.proofs.pairs.count.Tie as tie
+
+others-requires : tie.Need-others-requires
+others-requires c κs = c .before .before .pre .1
+
+slice-aggregate-count-by : tie.Need-slice-aggregate-count-by
+slice-aggregate-count-by c = search needs
+
+count-by-requires : tie.Need-count-by-requires
+count-by-requires c κs =
+    let s = c .before .before .before .before .before in
+    (s .pre .0, s .pre .1, (s .pre .2, λ l. absurd (omega (arith, l))))
+
+returns : tie.Need-returns
+returns c = c .count-by .ensures
+
+slice-aggregate-fill : tie.Need-slice-aggregate-fill
+slice-aggregate-fill c = search needs
+
+fill-requires : tie.Need-fill-requires
+fill-requires c κs = search needs
+
+slice-aggregate-count-by-2 : tie.Need-slice-aggregate-count-by-2
+slice-aggregate-count-by-2 c = search needs
+
+count-by-requires-2 : tie.Need-count-by-requires-2
+count-by-requires-2 c κs =
+    let at-fill = c .before .before in
+    let s = at-fill .before .before .before .before .before .before in
+    (s .pre .0, s .pre .1, at-fill .fill .ensures (s .pre .2, refl))
+
+returns-2 : tie.Need-returns-2
+returns-2 c = c .count-by2 .ensures
+
+pub count-spec : {M : Type 1} → statement M
+count-spec =
+    tie.close
+    (tie.spec
+    others-requires
+    slice-aggregate-count-by
+    count-by-requires
+    returns
+    slice-aggregate-fill
+    fill-requires
+    slice-aggregate-count-by-2
+    count-by-requires-2
+    returns-2)

@@ -1,0 +1,80 @@
+// What the writers of pairs share.
+
+use crate::One;
+use crate::slots;
+use index::Found;
+ghost use mathlib.Core.Path.{_≡_};
+ghost use mathlib.Core.List.{[], _∷_};
+ghost use Rattle.standard.specs.Base.{within};
+ghost use Rattle.standard.specs.Machine.{tokens, error-with};
+ghost use Rattle.standard.specs.Search.{passOver, first, search};
+ghost use Rattle.standard.specs.Encoders.Pairs.{pairOrErrorWith, minus};
+ghost use Rattle.layouts.specs.Rows.{layoutOf};
+ghost use Rattle.pair_writers.specs.Pairs.{told, Aids, InRows};
+
+pub(crate) fn one_byte(b: u8) -> One
+    ensures { λ r. ⌜ told r ≡ tokens (b ∷ []) ⌝ }
+{
+    One {
+        named: 0,
+        count: 1,
+        first: b,
+        second: 0,
+    }
+}
+
+pub(crate) fn two_bytes(u: u8, v: u8) -> One
+    ensures { λ r. ⌜ told r ≡ tokens (u ∷ v ∷ []) ⌝ }
+{
+    One {
+        named: 0,
+        count: 2,
+        first: u,
+        second: v,
+    }
+}
+
+pub(crate) fn unwritable(c: u32) -> One
+    ensures { λ r. ⌜ told r ≡ error-with c ⌝ }
+{
+    One {
+        named: c,
+        count: 0,
+        first: 0,
+        second: 0,
+    }
+}
+
+// Is it a katakana of half width?
+pub(crate) fn katakana(c: u32) -> bool
+    ensures { λ r. ⌜ r ≡ within 0xFF61 c 0xFF9F ⌝ }
+{
+    if c < 0xFF61 {
+        return false;
+    }
+    c <= 0xFF9F
+}
+
+// U+2212 is looked up, and named in an error, as U+FF0D.
+pub(crate) fn minus(c: u32) -> u32
+    ensures { λ r. ⌜ r ≡ minus c ⌝ }
+{
+    if c == 0x2212 {
+        return 0xFF0D;
+    }
+    c
+}
+
+// The two bytes of a code point's pointer, with the pointers from low to high passed over; or an error that names the code point.
+pub(crate) fn pair(encoding: u8, table: &[u32], slots: &[u16], low: u32, high: u32, c: u32) -> One
+    ensures { λ r. ⌜ (InRows low high (now (table .entry)) (layoutOf encoding) → Aids (passOver low high) (now (table .entry)) (now (slots .entry)) →
+        told r ≡ pairOrErrorWith (layoutOf encoding) (search first (passOver low high) (now (table .entry)) c) c) ⌝ }
+{
+    match slots::pointer(table, slots, low, high, c) {
+        Found::At(p) => {
+            let pair = layouts::two_bytes(encoding, p);
+            two_bytes(pair.lead, pair.trail)
+        }
+        Found::Missing => unwritable(c),
+    }
+}

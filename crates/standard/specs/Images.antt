@@ -1,0 +1,48 @@
+-- What a written scalar reads back as, and the law of one scalar: its bytes are one sequence that gives this. Assumes nothing.
+use mathlib.Core.Path.{_≡_}
+use mathlib.Core.Bool.{Bool, true, false, _||_}
+use mathlib.Core.List.{List, _++_}
+use Prim.Native.Nat.{ℕ}
+use lib.Dec.{eqb}
+use lib.ListN.{length}
+use Rattle.standard.specs.Base.{_then_else_, isScalar}
+use Rattle.standard.specs.Encodings.{Tables, fits}
+use Rattle.standard.specs.Machine.{Result, tokens}
+use Rattle.standard.specs.Search.{Lookup, Sound}
+use Rattle.standard.specs.Encoders.Pairs.{minus}
+use Rattle.standard.specs.Sequence.{plain, scalar}
+use Rattle.standard.specs.Next.{next}
+use Rattle.standard.specs.Writers.{Writer, utf-8, single-byte, windows-1252, euc-jp, shift-jis, x-user-defined}
+use Rattle.standard.specs.Writers.{stateless, coding, reader}
+
+-- Shift_JIS and EUC-JP: itself, but U+00A5 as 5C, U+203E as 7E, U+2212 as U+FF0D
+abbrev pub jpImage : ℕ → ℕ
+jpImage c = eqb c 0xA5 then 0x5C else eqb c 0x203E then 0x7E else minus c
+
+-- with the second table that the writer is lent
+abbrev pub image : Writer → List ℕ → ℕ → ℕ
+image utf-8 second c = c
+image single-byte second c = c
+image windows-1252 second c = c
+image euc-jp second c = jpImage c
+image shift-jis second c = jpImage c
+image x-user-defined second c = c
+
+-- 02: the scalars that the read-back clause leaves out
+abbrev pub jpLeavesOut : ℕ → Bool
+jpLeavesOut c = eqb c 0xA5 || eqb c 0x203E || eqb c 0x2212
+
+abbrev pub leavesOut : Writer → ℕ → Bool
+leavesOut utf-8 c = false
+leavesOut single-byte c = false
+leavesOut windows-1252 c = false
+leavesOut euc-jp c = jpLeavesOut c
+leavesOut shift-jis c = jpLeavesOut c
+leavesOut x-user-defined c = false
+
+-- The law of one scalar; `proofs/Writers.antt` proves it. With tables that fit and any sound look-up, the bytes of a scalar, whatever
+-- follows them, are one sequence at the front, of just their width, that gives the scalar's image.
+abbrev pub OneScalar : Type 0
+OneScalar = (w : Writer) (t : Tables) (look : Lookup) (encode : ℕ → Result) → fits (reader w) t ≡ true → Sound look (t .first) →
+    coding w look (t .second) ≡ stateless encode → (c : ℕ) (bs ys : List ℕ) → isScalar c ≡ true → encode c ≡ tokens bs →
+    next t (reader w) plain (bs ++ ys) ≡ scalar (length bs) (image w (t .second) c)

@@ -1,0 +1,71 @@
+-- The writers by encoding number: 000's encoders, run by the same machine as the decoders, and the decoder that reads each.
+-- Assumes nothing.
+use mathlib.Core.List.{List, []}
+use mathlib.Core.Option.{Option, some, none}
+use Prim.Native.Nat.{ℕ, _+_, _*_}
+use lib.Dec.{leb, eqb}
+use lib.ListN.{length}
+use Rattle.standard.specs.Base.{_then_else_}
+use Rattle.standard.specs.Encodings.{Family}
+use Rattle.standard.specs.Indexes.{windows1252}
+use Rattle.standard.specs.Machine.{Token, token, end-of-stream, Result, finished, Step, return, Mode, Ran, run, stream}
+use Rattle.standard.specs.Search.{Lookup, searching}
+use Rattle.standard.specs.Encoders.Utf8.{utf8Encode}
+use Rattle.standard.specs.Encoders.SingleByte.{singleByteEncode}
+use Rattle.standard.specs.Encoders.UserDefined.{userDefinedEncode}
+use Rattle.standard.specs.Encoders.EucJp.{eucJpEncode}
+use Rattle.standard.specs.Encoders.ShiftJis.{shiftJisEncode}
+
+pub data Writer : Type 0 where
+  utf-8 single-byte windows-1252 euc-jp shift-jis x-user-defined : Writer
+
+-- The numbers that have a writer; the others have none (refusal 9).
+unfoldable pub writerOf : ℕ → Option Writer
+writerOf e =
+    eqb e 0 then some utf-8 else
+    eqb e 21 then some windows-1252 else
+    leb e 28 then some single-byte else
+    eqb e 32 then some euc-jp else
+    eqb e 34 then some shift-jis else
+    eqb e 39 then some x-user-defined else
+    none
+
+-- How a writer writes: by an encoder that has no variables, given without its step 1.
+pub data Coding : Type 0 where
+  stateless : (ℕ → Result) → Coding
+
+-- with a look-up in the first table that is lent, and with the second table
+abbrev pub coding : Writer → Lookup → List ℕ → Coding
+coding utf-8 look second = stateless utf8Encode
+coding single-byte look second = stateless (singleByteEncode look)
+coding windows-1252 look second = stateless (singleByteEncode (searching windows1252))
+coding euc-jp look second = stateless (eucJpEncode look)
+coding shift-jis look second = stateless (shiftJisEncode look)
+coding x-user-defined look second = stateless userDefinedEncode
+
+-- step 1 of each encoder without variables, and the others
+unfoldable pub encode-handler : (ℕ → Result) → Unit {0} → Token → Step (Unit {0})
+encode-handler encode v end-of-stream = return finished v
+encode-handler encode v (token c) = return (encode c) v
+
+-- An encoder: its variables, their first values, and its handler.
+pub record Encoder : Type 1 where
+  pub Variables : Type 0
+  pub new : Variables
+  pub handler : Variables → Token → Step Variables
+
+abbrev pub encoder : Coding → Encoder
+encoder (stateless encode) = record { Variables = Unit {0}; new = tt; handler = encode-handler encode }
+
+-- An encoder run on all the scalars: 000's `run`. The fuel is enough, since the theorems equate this with `some`.
+unfoldable pub standardEncode : Encoder → Mode → List ℕ → Option Ran
+standardEncode e m cs = run (e .handler) m (2 * length cs + 2) (e .new) (stream cs) []
+
+-- the decoder that reads a writer's bytes
+abbrev pub reader : Writer → Family
+reader utf-8 = Family.UTF-8
+reader single-byte = Family.single-byte
+reader windows-1252 = Family.windows-1252
+reader euc-jp = Family.EUC-JP
+reader shift-jis = Family.Shift-JIS
+reader x-user-defined = Family.x-user-defined
