@@ -44,14 +44,14 @@ extern "C" {
 
 /* ---- Version --------------------------------------------------------------------------------------------------- */
 
-#define HAMVUKILE_VERSION "0.5.0"
+#define HAMVUKILE_VERSION "0.6.0"
 #define HAMVUKILE_VERSION_MAJOR 0
-#define HAMVUKILE_VERSION_MINOR 5
+#define HAMVUKILE_VERSION_MINOR 6
 #define HAMVUKILE_VERSION_PATCH 0
 
 /* The version as one number: 10,000 times major, 100 times minor, and patch. Records and calls of another version may
  * differ, so a program that finds another number than this in the library has been linked with the wrong one. */
-#define HAMVUKILE_VERSION_NUMBER 500
+#define HAMVUKILE_VERSION_NUMBER 600
 
 /* The version of the library. */
 uint32_t hamvukile_version(void);
@@ -75,7 +75,10 @@ enum {
                                          the error is written, and a decoder has ended */
     HAMVUKILE_BAD_LINE = 12,          /* the line is no line of an index file */
     HAMVUKILE_TAKEN_CELL = 13,        /* the line's pointer is not below the table's length, or its cell is not 0 */
-    HAMVUKILE_TOO_MUCH = 14           /* with this chunk the decoder would have taken more than HAMVUKILE_MAX_TAKEN bytes */
+    HAMVUKILE_TOO_MUCH = 14,          /* with this chunk the decoder would have taken more than HAMVUKILE_MAX_TAKEN bytes */
+    HAMVUKILE_BAD_OPTION_LINE = 16,   /* a line of a list has no tab, or several */
+    HAMVUKILE_UNKNOWN_OPTION = 17,    /* the name of a line of a list is empty, or none of the known names */
+    HAMVUKILE_REPEATED_OPTION = 18    /* an earlier line of the list has the same name */
 };
 
 /* Modes. */
@@ -321,6 +324,42 @@ typedef struct {
 hamvukile_written hamvukile_encode(uint8_t encoding, uint8_t mode, const uint32_t *scalars, size_t scalars_length,
                                    const uint32_t *first, size_t first_length, const uint32_t *second,
                                    size_t second_length, uint8_t *room, size_t room_length);
+
+/* ---- Lists ----------------------------------------------------------------------------------------------------- */
+
+/*
+ * An options list has one option a line: name, tab, value. A line feed (U+000A) ends a line; a carriage return (U+000D)
+ * just before it is dropped, and only one; the last line may lack its line feed. A line that is then empty is passed
+ * over, but counted. A list is faultless where every other line has one tab (U+0009) and a known name that is not empty
+ * and that no earlier line has. An option is handed out as five cells:
+ *
+ *     0      the number of its line, from 1
+ *     1, 2   where its name starts in the text, and just after it ends
+ *     3, 4   where its value starts, and just after it ends
+ *
+ * Places count from 0. The text is the caller's: name and value are the text from one place to the other.
+ */
+enum {
+    HAMVUKILE_OPTION_CELLS = 5
+};
+
+/* What `hamvukile_read_list` answers. */
+typedef struct {
+    size_t options;  /* the options at the front of the room; 0 where the call is refused */
+    size_t line;     /* with HAMVUKILE_BAD_OPTION_LINE, HAMVUKILE_UNKNOWN_OPTION and HAMVUKILE_REPEATED_OPTION the line at
+                        fault, from 1; else 0 */
+    uint8_t refusal; /* 0 or a refusal */
+} hamvukile_listed;
+
+/* Reads a list of decoded characters (any numbers; they are compared as numbers): writes the cells of its options to
+ * the front of the room, in order, and changes nothing behind them. The known names are lent as characters, each closed
+ * by a line feed; characters after the last line feed name nothing, an empty name makes no name known, and no carriage
+ * return is dropped there. The room needs HAMVUKILE_OPTION_CELLS cells for each option: as many as the list has line
+ * feeds and one more are always enough. Refusals: by the first line at fault HAMVUKILE_BAD_OPTION_LINE,
+ * HAMVUKILE_UNKNOWN_OPTION, HAMVUKILE_REPEATED_OPTION, in this order within it; then HAMVUKILE_SMALL_ROOM. The whole list
+ * is judged before anything is written. The call has up to 330 KB of its own on the stack. */
+hamvukile_listed hamvukile_read_list(const uint32_t *text, size_t length, const uint32_t *names, size_t names_length,
+                                     uint64_t *room, size_t room_length);
 
 #ifdef __cplusplus
 }

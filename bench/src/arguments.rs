@@ -14,9 +14,10 @@ pub enum Part {
     Empty,
     Labels,
     Indexes,
+    Lists,
 }
 
-const PARTS: [(&str, Part); 7] = [
+const PARTS: [(&str, Part); 8] = [
     ("decode", Part::Decode),
     ("short", Part::Short),
     ("check", Part::Check),
@@ -24,6 +25,7 @@ const PARTS: [(&str, Part); 7] = [
     ("empty", Part::Empty),
     ("labels", Part::Labels),
     ("indexes", Part::Indexes),
+    ("lists", Part::Lists),
 ];
 
 pub struct Arguments {

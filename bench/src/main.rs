@@ -8,6 +8,7 @@ mod decode;
 mod decoders;
 mod iconv;
 mod inputs;
+mod list;
 mod measure;
 mod simple;
 mod table;
@@ -191,6 +192,9 @@ fn run(arguments: &Arguments) -> Result<(), String> {
     }
     if arguments.has(Part::Indexes) {
         calls::indexes(arguments.rounds, &mut counts)?;
+    }
+    if arguments.has(Part::Lists) {
+        list::lists(arguments.rounds, &mut counts);
     }
     println!();
     println!(

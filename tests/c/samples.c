@@ -262,6 +262,83 @@ static void lists(void) {
     checked_as("clean: the bytes before it", check_text(0, none, long_text, 65535), 0, 1, 0, 0);
 }
 
+/* Characters of a text, and their number. */
+static size_t characters(const char *text, uint32_t *to) {
+    size_t n = 0;
+    for (; text[n] != 0; n++) to[n] = (uint8_t)text[n];
+    return n;
+}
+
+static void listed_as(const char *what, const char *text, const char *names, size_t room_length, uint8_t refusal, size_t line, const uint64_t *want, size_t options) {
+    uint32_t t[64], n[64];
+    uint64_t room[32];
+    size_t i, cells = options * HAMVUKILE_OPTION_CELLS;
+    hamvukile_listed l;
+    int same;
+    for (i = 0; i < 32; i++) room[i] = UNTOUCHED;
+    i = characters(text, t);
+    l = hamvukile_read_list(t, i, n, characters(names, n), room, room_length);
+    same = l.refusal == refusal && l.line == line && l.options == options;
+    for (i = 0; i < 32; i++) same = same && room[i] == (i < cells ? want[i] : UNTOUCHED);
+    check(what, same);
+    if (!same) printf("  came refusal %d, line %lu, options %lu\n", l.refusal, (unsigned long)l.line, (unsigned long)l.options);
+}
+
+#define CELLS(...) ((const uint64_t[]){ __VA_ARGS__ }), (sizeof((const uint64_t[]){ __VA_ARGS__ }) / sizeof(uint64_t) / HAMVUKILE_OPTION_CELLS)
+#define OPTIONS(what, text, names, room, ...) listed_as(what, text, names, room, HAMVUKILE_ACCEPTED, 0, CELLS(__VA_ARGS__))
+#define FAULTY(what, text, names, room, refusal, line) listed_as(what, text, names, room, refusal, line, NULL, 0)
+
+/* Options lists: the cells of each option, the refusals with their line and their order, and that they change nothing. */
+static void options(void) {
+    const char *names = "a\nb\nab\nname\n";
+    static uint32_t text[4 * 5000], known[2 * 5000];
+    static uint64_t room[HAMVUKILE_OPTION_CELLS * 5000];
+    hamvukile_listed l;
+    int i;
+    listed_as("nothing", "", "", 0, HAMVUKILE_ACCEPTED, 0, NULL, 0);
+    OPTIONS("three options", "a\tv\nb\tw\r\nab\tx", names, 16, 1, 0, 1, 2, 3, 2, 4, 5, 6, 7, 3, 9, 11, 12, 13);
+    OPTIONS("two carriage returns", "a\tv\r\r\n", names, 5, 1, 0, 1, 2, 4);
+    OPTIONS("a carriage return at the end", "a\tv\r", names, 5, 1, 0, 1, 2, 4);
+    OPTIONS("a carriage return inside", "a\tv\rw\n", names, 5, 1, 0, 1, 2, 5);
+    OPTIONS("lines that are passed over", "\n\r\n\na\tv\n", names, 5, 4, 4, 5, 6, 7);
+    OPTIONS("no value", "a\t\r\n", names, 5, 1, 0, 1, 2, 2);
+    OPTIONS("the room exactly", "a\tv\nb\tw\n", names, 10, 1, 0, 1, 2, 3, 2, 4, 5, 6, 7);
+    FAULTY("16: no tab", "a\n", names, 5, HAMVUKILE_BAD_OPTION_LINE, 1);
+    FAULTY("16: two tabs", "a\tv\tw\n", names, 5, HAMVUKILE_BAD_OPTION_LINE, 1);
+    FAULTY("16: a line of blanks", "a\tv\n \n", names, 5, HAMVUKILE_BAD_OPTION_LINE, 2);
+    FAULTY("16: a carriage return alone, at the end", "a\tv\n\r", names, 5, HAMVUKILE_BAD_OPTION_LINE, 2);
+    FAULTY("17: unknown", "a\tv\n\nc\tw\n", names, 10, HAMVUKILE_UNKNOWN_OPTION, 3);
+    FAULTY("17: empty", "\tv\n", "\n\na\n", 5, HAMVUKILE_UNKNOWN_OPTION, 1);
+    FAULTY("17: the front of a known name", "nam\tv\n", names, 5, HAMVUKILE_UNKNOWN_OPTION, 1);
+    FAULTY("17: longer than a known name", "names\tv\n", names, 5, HAMVUKILE_UNKNOWN_OPTION, 1);
+    FAULTY("17: the end of a known name", "me\tv\n", names, 5, HAMVUKILE_UNKNOWN_OPTION, 1);
+    FAULTY("17: a known name without its line feed", "b\tv\n", "a\nb", 5, HAMVUKILE_UNKNOWN_OPTION, 1);
+    FAULTY("17: a known name with a carriage return", "a\tv\n", "a\r\n", 5, HAMVUKILE_UNKNOWN_OPTION, 1);
+    FAULTY("18: used before", "a\tv\nb\tw\n\r\nab\tx\na\ty\n", names, 20, HAMVUKILE_REPEATED_OPTION, 5);
+    FAULTY("the first line at fault", "a\tv\na\tw\nc\n", names, 15, HAMVUKILE_REPEATED_OPTION, 2);
+    FAULTY("16 before 17", "c\tv\tw\n", names, 5, HAMVUKILE_BAD_OPTION_LINE, 1);
+    FAULTY("16 before 18", "a\tv\na\n", names, 10, HAMVUKILE_BAD_OPTION_LINE, 2);
+    FAULTY("7: a cell short", "a\tv\nb\tw\n", names, 9, HAMVUKILE_SMALL_ROOM, 0);
+    FAULTY("17 before 7", "a\tv\nx\ty\n", names, 0, HAMVUKILE_UNKNOWN_OPTION, 2);
+    /* 5,000 names of one character, known in the other order */
+    for (i = 0; i < 5000; i++) {
+        text[4 * i] = 0x4E00 + (uint32_t)i;
+        text[4 * i + 1] = '\t';
+        text[4 * i + 2] = 'v';
+        text[4 * i + 3] = '\n';
+        known[2 * i] = 0x4E00 + 4999 - (uint32_t)i;
+        known[2 * i + 1] = '\n';
+    }
+    l = hamvukile_read_list(text, 4 * 5000, known, 2 * 5000, room, HAMVUKILE_OPTION_CELLS * 5000);
+    check("5,000 options", l.refusal == 0 && l.options == 5000 && room[5 * 4999] == 5000 && room[5 * 4999 + 1] == 4 * 4999);
+    text[4 * 4999] = 0x4E00 + 1500;
+    l = hamvukile_read_list(text, 4 * 5000, known, 2 * 5000, room, HAMVUKILE_OPTION_CELLS * 5000);
+    check("18: the last of 5,000", l.refusal == HAMVUKILE_REPEATED_OPTION && l.line == 5000);
+    text[4 * 4999] = 0xFFFFFFFF;
+    l = hamvukile_read_list(text, 4 * 5000, known, 2 * 5000, room, HAMVUKILE_OPTION_CELLS * 5000);
+    check("17: the last of 5,000", l.refusal == HAMVUKILE_UNKNOWN_OPTION && l.line == 5000);
+}
+
 /* Sample 15, and what else a writer answers. */
 static void writing(void) {
     static const uint32_t han[] = { 0x4E00 }, text[] = { 0x41, 0x4E00 }, surrogate[] = { 0x4E00, 0xD800 };
@@ -597,6 +674,7 @@ int main(void) {
     part("user rows of Shift_JIS in every cut", user_rows);
     part("places and lines of errors in every cut", places);
     part("clean lists", lists);
+    part("options lists", options);
     part("writing, with sample 15", writing);
     part("writing Shift_JIS and EUC-JP", japanese);
     part("marks that choose in every cut", choices);

@@ -1,6 +1,6 @@
 //! The calls of `include/hamvukile.h`, with slices for pointers and lengths. They answer as they do through C.
 
-use crate::ffi::{self, Answer, Checked, Decoder, Found, Line, Named, Reply, Written};
+use crate::ffi::{self, Answer, Checked, Decoder, Found, Line, Listed, Named, Reply, Written};
 
 #[inline]
 pub fn version() -> u32 {
@@ -153,6 +153,21 @@ pub fn encode(
             first.len(),
             second.as_ptr(),
             second.len(),
+            room.as_mut_ptr(),
+            room.len(),
+        )
+    }
+}
+
+#[inline]
+pub fn read_list(text: &[u32], names: &[u32], room: &mut [u64]) -> Listed {
+    // SAFETY: each slice is valid for its length; the room, borrowed mutably, overlaps no other.
+    unsafe {
+        ffi::hamvukile_read_list(
+            text.as_ptr(),
+            text.len(),
+            names.as_ptr(),
+            names.len(),
             room.as_mut_ptr(),
             room.len(),
         )

@@ -70,6 +70,13 @@ pub struct Written {
     pub refusal: u8,
 }
 
+#[repr(C)]
+pub struct Listed {
+    pub options: usize,
+    pub line: usize,
+    pub refusal: u8,
+}
+
 extern "C" {
     pub fn hamvukile_version() -> u32;
     pub fn hamvukile_label(bytes: *const u8, length: usize) -> Found;
@@ -142,4 +149,12 @@ extern "C" {
         room: *mut u8,
         room_length: usize,
     ) -> Written;
+    pub fn hamvukile_read_list(
+        text: *const u32,
+        length: usize,
+        names: *const u32,
+        names_length: usize,
+        room: *mut u64,
+        room_length: usize,
+    ) -> Listed;
 }

@@ -1,4 +1,5 @@
-//! The labels, decoders and encoders of the Encoding Standard: a safe wrapper of the proved library `hamvukile`.
+//! The labels, decoders and encoders of the Encoding Standard, and a reader of options lists: a safe wrapper of the proved
+//! library `hamvukile`.
 //!
 //! The library allocates nothing and keeps nothing between calls: text goes in and out through lent slices, and the
 //! index tables of the standard are the caller's, lent to each call that may read them ([`Tables`]).
@@ -39,12 +40,14 @@ pub const MAX_HELD: usize = 3;
 pub const MAX_TAKEN: u32 = u32::MAX;
 /// The most bytes that [`encode`] writes for a scalar.
 pub const MAX_BYTES_OF_A_SCALAR: usize = 10;
+/// The cells of an option that [`read_list`] writes.
+pub const OPTION_CELLS: usize = 5;
 const MAX_NAME: usize = 14;
 
 /// The version of the library that is linked: 10,000 times major, 100 times minor, and patch.
 ///
 /// ```
-/// assert_eq!(hamvukile::version(), 500); // 0.5.0
+/// assert_eq!(hamvukile::version(), 600); // 0.6.0
 /// ```
 pub fn version() -> u32 {
     calls::version()
@@ -83,6 +86,12 @@ pub enum Refusal {
     TakenCell = 13,
     /// With this chunk the decoder would have taken more than [`MAX_TAKEN`] bytes.
     TooMuch = 14,
+    /// A line of a list has no tab, or several.
+    BadOptionLine = 16,
+    /// The name of a line of a list is empty, or none of the known names.
+    UnknownOption = 17,
+    /// An earlier line of the list has the same name.
+    RepeatedOption = 18,
 }
 
 impl Refusal {
@@ -107,6 +116,9 @@ impl Refusal {
             12 => Refusal::BadLine,
             13 => Refusal::TakenCell,
             14 => Refusal::TooMuch,
+            16 => Refusal::BadOptionLine,
+            17 => Refusal::UnknownOption,
+            18 => Refusal::RepeatedOption,
             _ => unreachable!("the library has no refusal {number}"),
         }
     }
@@ -129,6 +141,9 @@ impl fmt::Display for Refusal {
             Refusal::BadLine => "not a line of an index file",
             Refusal::TakenCell => "no free cell at the line's pointer",
             Refusal::TooMuch => "a decoder takes at most 4,294,967,295 bytes",
+            Refusal::BadOptionLine => "not one tab",
+            Refusal::UnknownOption => "an unknown name",
+            Refusal::RepeatedOption => "a name that an earlier line has",
         })
     }
 }
@@ -720,9 +735,135 @@ pub fn index_line(line: &[u8], table: &mut [u32]) -> Result<Option<u32>, Error> 
     }
 }
 
+/// Why [`read_list`] refused a list.
+#[derive(Clone, Copy, Debug, PartialEq, Eq)]
+#[non_exhaustive]
+pub struct ListError {
+    /// Why.
+    pub refusal: Refusal,
+    /// The line at fault, counted from 1; 0 with [`Refusal::SmallRoom`].
+    pub line: usize,
+}
+
+impl fmt::Display for ListError {
+    fn fmt(&self, f: &mut fmt::Formatter<'_>) -> fmt::Result {
+        match self.line {
+            0 => self.refusal.fmt(f),
+            line => write!(f, "line {line}: {}", self.refusal),
+        }
+    }
+}
+
+impl std::error::Error for ListError {}
+
+/// An option of a list: its line, counted from 1, and its name and value, which are parts of the text.
+#[derive(Clone, Copy, Debug, PartialEq, Eq)]
+#[non_exhaustive]
+pub struct ListOption<'t> {
+    /// The number of its line.
+    pub line: usize,
+    /// The characters of its name.
+    pub name: &'t [u32],
+    /// The characters of its value.
+    pub value: &'t [u32],
+}
+
+/// The options of a list, in order, borrowed from its text.
+#[derive(Clone, Debug)]
+pub struct Options<'t, 'r> {
+    text: &'t [u32],
+    cells: std::slice::ChunksExact<'r, u64>,
+}
+
+impl<'t> Options<'t, '_> {
+    fn option(text: &'t [u32], cells: &[u64]) -> ListOption<'t> {
+        let place = |cell: usize| cells[cell] as usize;
+        ListOption {
+            line: place(0),
+            name: &text[place(1)..place(2)],
+            value: &text[place(3)..place(4)],
+        }
+    }
+}
+
+impl<'t> Iterator for Options<'t, '_> {
+    type Item = ListOption<'t>;
+
+    fn next(&mut self) -> Option<ListOption<'t>> {
+        let cells = self.cells.next()?;
+        Some(Options::option(self.text, cells))
+    }
+
+    fn size_hint(&self) -> (usize, Option<usize>) {
+        self.cells.size_hint()
+    }
+}
+
+impl DoubleEndedIterator for Options<'_, '_> {
+    fn next_back(&mut self) -> Option<Self::Item> {
+        let cells = self.cells.next_back()?;
+        Some(Options::option(self.text, cells))
+    }
+}
+
+impl ExactSizeIterator for Options<'_, '_> {}
+impl std::iter::FusedIterator for Options<'_, '_> {}
+
+/// Reads an options list of decoded characters: one option a line, name, tab, value. A line feed ends a line, and a
+/// carriage return just before it is dropped; the last line may lack its line feed; an empty line is passed over, but
+/// counted. The known names are characters, too, each closed by a line feed. The list is refused by its first line that has
+/// not one tab, or whose name is not known, is empty, or is that of an earlier line. The room needs [`OPTION_CELLS`] cells
+/// for each option, and a refused list leaves it as it was.
+///
+/// ```
+/// use hamvukile::{read_list, Decoder, Encoding, Mark, OnError, Refusal, Tables, MAX_HELD, OPTION_CELLS};
+///
+/// // a list from a supplier, in windows-1252
+/// let bytes = b"colour\tgr\xFCn\r\n\r\nwidth\t80";
+/// let mut text = [0; 64];
+/// let mut decoder = Decoder::new(Encoding::WINDOWS_1252, OnError::Replace, Mark::Drop);
+/// let n = decoder.feed(bytes, &Tables::none(), &mut text).unwrap();
+/// let mut last = [0; MAX_HELD];
+/// assert_eq!(decoder.finish(&Tables::none(), &mut last), Ok(0));
+///
+/// let characters = |s: &str| s.chars().map(u32::from).collect::<Vec<_>>();
+/// let names = characters("width\nheight\ncolour\n");
+/// let mut room = [0; 10 * OPTION_CELLS];
+/// let options: Vec<_> = read_list(&text[..n], &names, &mut room).unwrap().collect();
+/// assert_eq!(options.len(), 2);
+/// assert_eq!(options[0].name, characters("colour"));
+/// assert_eq!(options[0].value, characters("grün"));
+/// assert_eq!((options[1].line, options[1].value), (3, &characters("80")[..]));
+///
+/// let fault = read_list(&characters("width\t80\nwidth\t90\n"), &names, &mut room).unwrap_err();
+/// assert_eq!((fault.refusal, fault.line), (Refusal::RepeatedOption, 2));
+/// assert_eq!(fault.to_string(), "line 2: a name that an earlier line has");
+/// ```
+pub fn read_list<'t, 'r>(
+    text: &'t [u32],
+    names: &[u32],
+    room: &'r mut [u64],
+) -> Result<Options<'t, 'r>, ListError> {
+    let answer = calls::read_list(text, names, room);
+    match answer.refusal {
+        0 => Ok(Options {
+            text,
+            cells: room[..answer.options * OPTION_CELLS].chunks_exact(OPTION_CELLS),
+        }),
+        n => Err(ListError {
+            refusal: Refusal::of(n),
+            line: answer.line,
+        }),
+    }
+}
+
 #[cfg(test)]
 mod tests {
     use super::*;
+
+    fn characters(text: &str) -> Vec<u32> {
+        text.chars().map(u32::from).collect()
+    }
 
     #[test]
     fn every_name_is_a_label_of_its_encoding() {
@@ -747,7 +888,7 @@ mod tests {
 
     #[test]
     fn each_refusal_has_its_number() {
-        for number in 1..15 {
+        for number in (1..15).chain(16..19) {
             assert_eq!(Refusal::of(number).number(), number);
         }
     }
@@ -839,6 +980,48 @@ mod tests {
                 (Refusal::Malformed, 7, 3)
             );
             assert_eq!(decoder.lines(), 2);
+        }
+    }
+
+    #[test]
+    fn options_are_parts_of_the_text() {
+        let text = characters("b\t\n\na\tx y\r");
+        let mut room = [7; 11];
+        let options = read_list(&text, &characters("a\nb\n"), &mut room).unwrap();
+        assert_eq!(options.len(), 2);
+        let found: Vec<_> = options.map(|o| (o.line, o.name, o.value)).collect();
+        let none: &[u32] = &[];
+        assert_eq!(
+            found,
+            [(1, &text[0..1], none), (3, &text[4..5], &text[6..])]
+        );
+        assert_eq!(found[1].1.as_ptr(), text[4..].as_ptr());
+        assert_eq!(room[10], 7);
+    }
+
+    #[test]
+    fn options_may_be_taken_from_both_ends() {
+        let text = characters("a\t1\nb\t2\nc\t3\n");
+        let mut room = [0; 15];
+        let mut options = read_list(&text, &characters("a\nb\nc\n"), &mut room).unwrap();
+        assert_eq!(options.next_back().map(|o| o.line), Some(3));
+        assert_eq!(options.next().map(|o| o.line), Some(1));
+        assert_eq!(options.len(), 1);
+    }
+
+    #[test]
+    fn a_refused_list_leaves_the_room() {
+        let names = characters("a\nb\n");
+        for (text, refusal, line) in [
+            ("a\t1\nb", Refusal::BadOptionLine, 2),
+            ("a\t1\n\nc\t2", Refusal::UnknownOption, 3),
+            ("a\t1\na\t2", Refusal::RepeatedOption, 2),
+            ("a\t1\nb\t2", Refusal::SmallRoom, 0),
+        ] {
+            let mut room = [7; 9];
+            let error = read_list(&characters(text), &names, &mut room).unwrap_err();
+            assert_eq!(error, ListError { refusal, line });
+            assert_eq!(room, [7; 9]);
         }
     }
 

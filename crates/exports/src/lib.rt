@@ -8,6 +8,7 @@ ghost use Rattle.decoder.specs.Calls.{opening, feeding, finishing};
 ghost use Rattle.in_place.specs.Replies.{Leaves};
 ghost use Rattle.clean.specs.Checking.{checking};
 ghost use Rattle.encoder_spec.specs.Writer.{writerCall};
+ghost use Rattle.list_spec.specs.ListCall.{listCall};
 use clean::Checked;
 use decoder::Answer;
 use decoder::Decoder;
@@ -16,13 +17,14 @@ use in_place::Reply;
 use index_spec::Line;
 use labels_spec::Found;
 use labels_spec::Named;
+use list_spec::Listed;
 
-// The version of the library, 0.5.0: 10,000 times major, 100 times minor, and patch.
+// The version of the library, 0.6.0: 10,000 times major, 100 times minor, and patch.
 #[no_mangle]
 pub extern "C" fn hamvukile_version() -> u32
-    ensures { λ r. ⌜ r ≡ 500 ⌝ }
+    ensures { λ r. ⌜ r ≡ 600 ⌝ }
 {
-    500
+    600
 }
 
 // The label call.
@@ -149,4 +151,13 @@ pub extern "C" fn hamvukile_encode(
         (now (scalars .entry)) (now (room .entry)) .room) ⌝ }
 {
     encoder::encode(encoding, mode, scalars, first, second, room)
+}
+
+// The list reader.
+#[no_mangle]
+pub extern "C" fn hamvukile_read_list(text: &[u32], names: &[u32], room: &mut [u64]) -> Listed
+    ensures { λ r. ⌜ (r ≡ listCall (now (text .entry)) (now (names .entry)) (now (room .entry)) .answer) ×
+        (now (room .exit) ≡ listCall (now (text .entry)) (now (names .entry)) (now (room .entry)) .room) ⌝ }
+{
+    list::read_list(text, names, room)
 }

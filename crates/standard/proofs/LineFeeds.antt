@@ -82,7 +82,7 @@ of-separators (x ∷ xs) = go (ltb x 0x30) refl (of-separators xs)
     go true e h = rw h
     go false e h = rw (ne-eqb x 0x0A (λ z. omega (arith, ltb-false x 0x30 e))) h
 
-same-separators : (xs ys : List ℕ) → separators xs ≡ separators ys → lineFeeds xs ≡ lineFeeds ys
+pub same-separators : (xs ys : List ℕ) → separators xs ≡ separators ys → lineFeeds xs ≡ lineFeeds ys
 same-separators xs ys h = sym (of-separators xs) ∙ ap lineFeeds h ∙ of-separators ys
 
 no-separators : (xs : List ℕ) → separators xs ≡ [] → lineFeeds xs ≡ 0

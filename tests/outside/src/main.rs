@@ -3,7 +3,7 @@
 //! Arguments, each with its default where it may be left out:
 //!
 //! - `[NUMBER [SEED]]`: every comparison; the number of random calls (1000000) and their seed (1).
-//! - `random [NUMBER [SEED]]`: long texts, fields, random calls and random index lines alone.
+//! - `random [NUMBER [SEED]]`: long texts, fields, random calls, random index lines and random lists alone.
 //! - `showtext PROGRAM [SEED]`: the program `showtext` beside the reference; the seed of its random inputs (1).
 
 mod compare;
@@ -13,6 +13,7 @@ mod exhaustive;
 mod fields;
 mod labels;
 mod lines;
+mod list;
 mod long;
 mod marks;
 mod order;
@@ -61,6 +62,7 @@ fn compare_all(number: usize, seed: u64) -> Result<(), String> {
     show("writers of pairs", || exhaustive::pair_writers(&tables))?;
     show("block borders", || long::borders(&tables))?;
     show("stretches of ASCII", || stretches::stretches(&tables))?;
+    show("short lists", list::short_texts)?;
     compare_random(&tables, number, seed)
 }
 
@@ -69,7 +71,9 @@ fn compare_random(tables: &data::Published, number: usize, seed: u64) -> Result<
     show("long texts checked", || long::checks(tables, seed))?;
     show("fields", || fields::fields(tables, seed))?;
     show("random calls", || random::calls(tables, number, seed))?;
-    show("random index lines", || lines::lines(seed))
+    show("random index lines", || lines::lines(seed))?;
+    show("random lists", || list::random_lists(seed))?;
+    show("long lists", || list::long_lists(seed))
 }
 
 fn compare_showtext(program: &str, seed: u64) -> Result<(), String> {

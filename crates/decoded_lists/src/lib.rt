@@ -1,0 +1,1 @@
+// What the list call reads from what a decoder hands out: specs/ and proofs/. No code.

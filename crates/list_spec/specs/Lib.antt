@@ -1,0 +1,5 @@
+pub mod Lines
+pub mod ListCall
+pub mod Spans
+pub mod Statements
+pub mod Samples
