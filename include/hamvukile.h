@@ -44,14 +44,14 @@ extern "C" {
 
 /* ---- Version --------------------------------------------------------------------------------------------------- */
 
-#define HAMVUKILE_VERSION "0.6.0"
+#define HAMVUKILE_VERSION "0.7.0"
 #define HAMVUKILE_VERSION_MAJOR 0
-#define HAMVUKILE_VERSION_MINOR 6
+#define HAMVUKILE_VERSION_MINOR 7
 #define HAMVUKILE_VERSION_PATCH 0
 
 /* The version as one number: 10,000 times major, 100 times minor, and patch. Records and calls of another version may
  * differ, so a program that finds another number than this in the library has been linked with the wrong one. */
-#define HAMVUKILE_VERSION_NUMBER 600
+#define HAMVUKILE_VERSION_NUMBER 700
 
 /* The version of the library. */
 uint32_t hamvukile_version(void);
@@ -314,11 +314,11 @@ typedef struct {
     uint8_t refusal; /* 0 or a refusal */
 } hamvukile_written;
 
-/* Encodes scalars as UTF-8 (0), a single-byte encoding (1 to 28), EUC-JP (32), Shift_JIS (34) or x-user-defined (39):
- * writes the bytes to the front of the room, and changes nothing behind them. The tables are those of decoding. The room
- * needs the bytes that are written, and no more: at most 10 for each scalar. EUC-JP and Shift_JIS write U+00A5 as 5C,
- * U+203E as 7E and U+2212 as U+FF0D, so these three are read back as another character; every other scalar that is
- * written is read back as itself. Characters of jis0212 and of Shift_JIS's user rows are read, and not written. Refusals: HAMVUKILE_UNKNOWN_ENCODING, HAMVUKILE_UNKNOWN_MODE, HAMVUKILE_NO_ENCODER,
+/* Encodes scalars in any encoding but ISO-2022-JP (33), replacement (36) and UTF-16 (37, 38): writes the bytes to the
+ * front of the room, and changes nothing behind them. The tables are those of decoding. The room needs the bytes that are
+ * written, and no more: at most 10 for each scalar. EUC-JP and Shift_JIS write U+00A5 as 5C, U+203E as 7E and U+2212 as
+ * U+FF0D, so these three are read back as another character; every other scalar that is written is read back as itself.
+ * Characters of jis0212, of Shift_JIS's user rows and of Big5's first 32 rows are read, and not written. Refusals: HAMVUKILE_UNKNOWN_ENCODING, HAMVUKILE_UNKNOWN_MODE, HAMVUKILE_NO_ENCODER,
  * HAMVUKILE_WRONG_TABLE, HAMVUKILE_TOO_LONG, HAMVUKILE_NOT_SCALAR, HAMVUKILE_SMALL_ROOM, in this order; then, in
  * refusing mode, HAMVUKILE_MALFORMED. */
 hamvukile_written hamvukile_encode(uint8_t encoding, uint8_t mode, const uint32_t *scalars, size_t scalars_length,

@@ -38,7 +38,7 @@ const SHORT: [&str; 8] = [
 const CHECKED: [usize; 4] = [512, 4096, 16384, 65536];
 
 /// The inputs that are written again.
-const WRITTEN: [&str; 8] = [
+const WRITTEN: [&str; 12] = [
     "utf-8-ascii",
     "utf-8-french",
     "utf-8-russian",
@@ -47,6 +47,10 @@ const WRITTEN: [&str; 8] = [
     "windows-1251-dense",
     "windows-1252-ascii",
     "windows-1252-dense",
+    "euc-jp-list",
+    "euc-jp-dense",
+    "shift_jis-list",
+    "shift_jis-dense",
 ];
 
 fn about(arguments: &Arguments) {

@@ -356,8 +356,8 @@ static void writing(void) {
     check("U+4E00 as UTF-8", w.refusal == 0 && w.written == 3 && memcmp(room, "\xE4\xB8\x80", 3) == 0);
     check("writing: 7", hamvukile_encode(0, HAMVUKILE_HTML, han, 1, NULL, 0, NULL, 0, room, 2).refusal == HAMVUKILE_SMALL_ROOM);
     check("writing: 2 before 3", hamvukile_encode(40, 2, han, 1, NULL, 0, NULL, 0, room, 16).refusal == HAMVUKILE_UNKNOWN_ENCODING);
-    check("writing: 3 before 9", hamvukile_encode(30, 2, han, 1, NULL, 0, NULL, 0, room, 16).refusal == HAMVUKILE_UNKNOWN_MODE);
-    check("writing: 9 before 4", hamvukile_encode(30, 0, han, 1, NULL, 0, NULL, 0, room, 16).refusal == HAMVUKILE_NO_ENCODER);
+    check("writing: 3 before 9", hamvukile_encode(36, 2, han, 1, NULL, 0, NULL, 0, room, 16).refusal == HAMVUKILE_UNKNOWN_MODE);
+    check("writing: 9 before 4", hamvukile_encode(36, 0, han, 1, NULL, 0, NULL, 0, room, 16).refusal == HAMVUKILE_NO_ENCODER);
     check("writing: 4", hamvukile_encode(1, 0, han, 1, NULL, 0, NULL, 0, room, 16).refusal == HAMVUKILE_WRONG_TABLE);
     check("writing: 8", hamvukile_encode(0, 0, unmapped, 16385, NULL, 0, NULL, 0, room, 16).refusal == HAMVUKILE_TOO_LONG);
     check("writing: 10 before 7", hamvukile_encode(21, 1, surrogate, 2, NULL, 0, NULL, 0, room, 0).refusal == HAMVUKILE_NOT_SCALAR);
@@ -455,6 +455,48 @@ static void japanese(void) {
     check("Shift_JIS: U+0080", encode(34, 1, control, 1, sjis, room, 1).written == 1 && room[0] == 0x80);
     check("EUC-JP: U+0080 without a cell", encode(32, 1, control, 1, euc, room, 1).refusal == HAMVUKILE_MALFORMED);
     check("4: both tables", encode(32, 1, control, 1, sjis, room, 1).refusal == HAMVUKILE_WRONG_TABLE);
+}
+
+/* Writing GBK, gb18030, Big5 and EUC-KR: the rules before the table, first and last pointers, and the ranges. */
+static uint32_t cells[HAMVUKILE_GB18030_CELLS];
+
+static void chinese(void) {
+    static const uint32_t ruled[] = { 0x20AC, 0xE5E5, 0xE7C7, 0x4E00 }, lines[] = { 0x2550, 0x4E00 }, far[] = { 0x10000 };
+    /* the last pair whose code point is not above the scalar, not the first; and one whose sum is above 32 bits */
+    static const uint32_t ranges[] = { 0, 0x80, 189000, 0x10000, 0, 0x4E00 }, wide[] = { 0, 0x10000, 0xFFFFFFFF, 0xFFFF };
+    tables gb = { cells, HAMVUKILE_GB18030_CELLS, NULL, 0 }, big5 = { cells, HAMVUKILE_BIG5_CELLS, NULL, 0 };
+    uint8_t room[64];
+    hamvukile_written w;
+    cells[1] = 0x20AC;
+    cells[2] = 0xE5E5;
+    cells[190] = 0x4E00;
+    w = encode(29, 0, ruled, 4, gb, room, 64);
+    check("GBK: 80, and errors", w.refusal == 0 && w.written == 19 && memcmp(room, "\x80&#58853;&#59335;\x82\x40", 19) == 0);
+    w = encode(30, 0, ruled, 4, gb, room, 64);
+    check("gb18030: by the table, and U+E7C7 by four bytes", w.refusal == 0 && w.written == 16
+        && memcmp(room, "\x81\x41&#58853;\x81\x35\xF4\x37\x82\x40", 16) == 0);
+    w = encode(35, 0, ruled + 3, 1, gb, room, 64);
+    check("EUC-KR", w.refusal == 0 && w.written == 2 && memcmp(room, "\x82\x41", 2) == 0);
+    cells[190] = 0;
+    check("gb18030: no pair", encode(30, 1, ruled + 3, 1, gb, room, 64).refusal == HAMVUKILE_MALFORMED);
+    gb.second = ranges;
+    gb.second_length = 6;
+    w = encode(30, 1, ruled + 3, 1, gb, room, 4);
+    check("gb18030: the last pair", w.refusal == 0 && w.written == 4 && memcmp(room, "\x81\x30\x81\x30", 4) == 0);
+    check("gb18030: a pointer that is not read back", encode(30, 1, far, 1, gb, room, 64).refusal == HAMVUKILE_MALFORMED);
+    gb.second_length = 4;
+    w = encode(30, 1, far, 1, gb, room, 4);
+    check("gb18030: 90 30 81 30", w.refusal == 0 && w.written == 4 && memcmp(room, "\x90\x30\x81\x30", 4) == 0);
+    check("GBK does not use the ranges", encode(29, 1, far, 1, gb, room, 64).refusal == HAMVUKILE_MALFORMED);
+    gb.second = wide;
+    gb.second_length = 4;
+    check("gb18030: a sum above 32 bits", encode(30, 1, far, 1, gb, room, 64).refusal == HAMVUKILE_MALFORMED);
+    cells[5023] = cells[5024] = cells[5025] = 0x2550;
+    cells[5026] = cells[5027] = 0x4E00;
+    w = encode(31, 1, lines, 2, big5, room, 4);
+    check("Big5: the last pointer of U+2550, the first of others", w.refusal == 0 && w.written == 4 && memcmp(room, "\xA1\x41\xA1\x42", 4) == 0);
+    cells[5024] = cells[5025] = 0;
+    check("Big5: not below 5,024", encode(31, 1, lines, 1, big5, room, 4).refusal == HAMVUKILE_MALFORMED);
 }
 
 /* A mark that chooses, in every cut; the tables of the opening's encoding at a feed, and at a finish before the choice. */
@@ -677,6 +719,7 @@ int main(void) {
     part("options lists", options);
     part("writing, with sample 15", writing);
     part("writing Shift_JIS and EUC-JP", japanese);
+    part("writing GBK, gb18030, Big5 and EUC-KR", chinese);
     part("marks that choose in every cut", choices);
     part("a decoder that is lent", in_place);
     part("refusals, with sample 16", refusals);

@@ -47,7 +47,7 @@ const MAX_NAME: usize = 14;
 /// The version of the library that is linked: 10,000 times major, 100 times minor, and patch.
 ///
 /// ```
-/// assert_eq!(hamvukile::version(), 600); // 0.6.0
+/// assert_eq!(hamvukile::version(), 700); // 0.7.0
 /// ```
 pub fn version() -> u32 {
     calls::version()
@@ -667,8 +667,8 @@ pub enum OnUnwritable {
     Refuse = 1,
 }
 
-/// Encodes scalars, at most [`MAX_SCALARS`], as UTF-8, a single-byte encoding, EUC-JP, Shift_JIS or x-user-defined:
-/// writes the bytes to the front of the room and returns how many; the bytes behind them do not change. The room needs
+/// Encodes scalars, at most [`MAX_SCALARS`], in any encoding but ISO-2022-JP, replacement and UTF-16: writes the bytes
+/// to the front of the room and returns how many; the bytes behind them do not change. The room needs
 /// the bytes written and no more, at most [`MAX_BYTES_OF_A_SCALAR`] for each scalar. EUC-JP and Shift_JIS write U+00A5
 /// as 5C, U+203E as 7E and U+2212 as U+FF0D; every other scalar that is written is read back as itself.
 ///

@@ -12,23 +12,22 @@ use Rattle.standard.specs.Base.{_then_else_, scalars}
 use Rattle.standard.specs.Encodings.{Family, family, traits, secondFits, Tables, fits}
 use Rattle.standard.specs.Writers.{writerOf}
 use Rattle.standard.proofs.Families.{family-single-byte}
-use Rattle.standard.proofs.Tests.{split, or-case, and-left}
-use Rattle.pair_writers.specs.Pairs.{pairEncode}
+use Rattle.standard.proofs.Tests.{split, or-case, and-left, out-above}
+use Rattle.pair_writers.specs.Pairs.{pairEncode, cellsOf}
 use Rattle.encoder_spec.specs.Writing.{Writing}
 use Rattle.encoder_spec.specs.Writer.{Outcome, refuse, write, writeAccepted, writeBy, writerCall}
 use Rattle.encoder_spec.specs.declared.Written.{Written}
-use Rattle.encoder.specs.WriterCode.{pairs, writes, encoderOf, Tabled, oneOf, writingOf, Space, Wrote, textRefusal, refusalOf}
-use Rattle.encoder.proofs.Scalars.{pairs-past, no-pairs}
+use Rattle.encoder.specs.WriterCode.{pairs, writes, encoderOf, lentEncoder, plain, Tabled, lentWriting, Space, Wrote}
+use Rattle.encoder.specs.WriterCode.{textRefusal, refusalOf}
+use Rattle.encoder.proofs.Scalars.{by-pairs, no-pairs}
 
 -- the encodings with a writer
 module _ {A : Type 0} (e : ℕ) (w : writes e ≡ true) where
-  by-writer : (e ≡ 0 → A) → (e ≡ 21 → A) → ((e ≡ 0 → ⊥) → (e ≡ 21 → ⊥) → e ≤ 28 → A) → (e ≡ 32 → A) → (e ≡ 34 → A) → (e ≡ 39 → A) → A
-  by-writer f g h i j k = or-case (leb e 28) (pairs e || eqb e 39) w
+  by-writer : (e ≡ 0 → A) → (e ≡ 21 → A) → ((e ≡ 0 → ⊥) → (e ≡ 21 → ⊥) → e ≤ 28 → A) → (pairs e ≡ true → A) → (e ≡ 39 → A) → A
+  by-writer f g h i k = or-case (leb e 28) (pairs e || eqb e 39) w
       (λ l. split (eqb e 0) (λ z. f (eqb-true e 0 z)) (λ z.
       split (eqb e 21) (λ y. g (eqb-true e 21 y)) (λ y. h (eqb-false e 0 z) (eqb-false e 21 y) (leb-true e 28 l))))
-      (λ l. or-case (pairs e) (eqb e 39) l
-      (λ p. or-case (eqb e 32) (eqb e 34) p (λ z. i (eqb-true e 32 z)) (λ z. j (eqb-true e 34 z)))
-      (λ z. k (eqb-true e 39 z)))
+      (λ l. or-case (pairs e) (eqb e 39) l i (λ z. k (eqb-true e 39 z)))
 
 -- those without
 or-none : (a b : Bool) → a || b ≡ false → (a ≡ false) × (b ≡ false)
@@ -37,21 +36,40 @@ or-none false b h = (refl, h)
 
 no-writer : (e : ℕ) → writes e ≡ false → writerOf e ≡ none
 unfolding writerOf
-no-writer e w =
-    let a = or-none (leb e 28) (pairs e || eqb e 39) w in
-    let b = or-none (pairs e) (eqb e 39) (a .1) in
-    let c = or-none (eqb e 32) (eqb e 34) (b .0) in
-    let l : 28 < e = leb-false e 28 (a .0) in
-    rw (ne-eqb e 0 (λ z. omega arith), ne-eqb e 21 (λ z. omega arith), a .0, c .0, c .1, b .1)
+no-writer e w = split (eqb e 33)
+    (λ z. rw (eqb-true e 33 z))
+    (λ z. let k = past z in
+    rw (
+      ne-eqb e 0 (λ z. omega arith),
+      ne-eqb e 21 (λ z. omega arith),
+      a .0,
+      ne-eqb e 29 (λ z. omega arith),
+      ne-eqb e 30 (λ z. omega arith),
+      ne-eqb e 31 (λ z. omega arith),
+      ne-eqb e 32 (λ z. omega arith),
+      ne-eqb e 34 (λ z. omega arith),
+      ne-eqb e 35 (λ z. omega arith),
+      b .1,
+    ))
+  where
+    a : (leb e 28 ≡ false) × (pairs e || eqb e 39 ≡ false)
+    a = or-none (leb e 28) (pairs e || eqb e 39) w
+
+    b : (pairs e ≡ false) × (eqb e 39 ≡ false)
+    b = or-none (pairs e) (eqb e 39) (a .1)
+
+    past : eqb e 33 ≡ false → 35 < e
+    past z = out-above 29 e 35 (rw z at (b .0)) (leb-false e 28 (a .0))
 
 -- what an encoding number writes, by the tests of the code
 written-by : (e m : ℕ) (t : Tables) (cs room : List ℕ) →
     writeBy (writerOf e) m t cs room ≡
-    (writes e then (fits (family e) t then writeAccepted (oneOf e (t .first)) m cs room else refuse 4 room) else refuse 9 room)
-unfolding writerOf family encoderOf pairEncode
+    (writes e then (fits (family e) t then writeAccepted (plain (lentEncoder e t)) m cs room else refuse 4 room) else refuse 9 room)
+unfolding writerOf family lentEncoder encoderOf pairEncode
 written-by e m t cs room = split (writes e)
     (λ w. by-writer e w
-    (λ h. rw h) (λ h. rw h) (λ f g h. rw (ne-eqb e 0 f, ne-eqb e 21 g, le-leb e 28 h)) (λ h. rw h) (λ h. rw h) (λ h. rw h))
+    (λ h. rw h) (λ h. rw h) (λ f g h. rw (no-pairs e h, ne-eqb e 0 f, ne-eqb e 21 g, le-leb e 28 h))
+    (λ p. by-pairs e p (λ h. rw h) (λ h. rw h) (λ h. rw h) (λ h. rw h) (λ h. rw h) (λ h. rw h)) (λ h. rw h))
     (λ w. rw (no-writer e w, w))
 
 -- its first table
@@ -68,23 +86,22 @@ table-fits e t w f = record {
   of-bytes = λ p. omega (arith, first-fits (family e) t f, few p);
 }
   where
-    cells : pairs e ≡ true → traits (family e) .first ≡ 11280
-    cells p = or-case (eqb e 32) (eqb e 34) p (λ z. rw (eqb-true e 32 z)) (λ z. rw (eqb-true e 34 z))
+    cells : pairs e ≡ true → traits (family e) .first ≡ cellsOf e
+    cells p = by-pairs e p (λ z. rw z) (λ z. rw z) (λ z. rw z) (λ z. rw z) (λ z. rw z) (λ z. rw z)
 
     few : pairs e ≡ false → traits (family e) .first ≤ 128
     few p = by-writer e w
         (λ h. rw h (omega arith))
         (λ h. rw h (omega arith))
         (λ f g h. rw (family-single-byte e f g h) (omega arith))
-        (λ h. let z : _≡_ {A = ℕ} 0 1 = cc (rw h at p) in absurd (omega arith))
-        (λ h. let z : _≡_ {A = ℕ} 0 1 = cc (rw h at p) in absurd (omega arith))
+        (λ h. let z : _≡_ {A = ℕ} 0 1 = cc in absurd (omega arith))
         (λ h. rw h (omega arith))
 
 -- The call, by its refusal.
 module _ (e m : ℕ) (t : Tables) (cs room : List ℕ) where
   -- the bytes, and the refusal
   abbrev w : Writing
-  w = writingOf e m (t .first) cs
+  w = lentWriting e m t cs
 
   abbrev refused : ℕ
   refused = refusalOf e m t cs (length room)
@@ -175,22 +192,22 @@ module _ (e m : ℕ) (t : Tables) (cs : List ℕ) (n : ℕ) where
         unfolding refusalOf
         refused-4 h = rw (le-ltb 39 e h2, le-ltb 1 m h3, h9, h)
 
-        pub refused-text : fits (family e) t ≡ true → textRefusal e m (t .first) cs n ≡ refusalOf e m t cs n
+        pub refused-text : fits (family e) t ≡ true → textRefusal e m t cs n ≡ refusalOf e m t cs n
         unfolding refusalOf
         refused-text h = rw (le-ltb 39 e h2, le-ltb 1 m h3, h9, h)
 
 -- Those that depend on the scalars.
-module _ (e m : ℕ) (table cs : List ℕ) (n : ℕ) where
-  pub refused-8 : 16384 < length cs → 8 ≡ textRefusal e m table cs n
+module _ (e m : ℕ) (t : Tables) (cs : List ℕ) (n : ℕ) where
+  pub refused-8 : 16384 < length cs → 8 ≡ textRefusal e m t cs n
   unfolding textRefusal
   refused-8 h = rw (lt-ltb 16384 (length cs) h)
 
   module _ (h8 : length cs ≤ 16384) where
-    pub refused-10 : scalars cs ≡ false → 10 ≡ textRefusal e m table cs n
+    pub refused-10 : scalars cs ≡ false → 10 ≡ textRefusal e m t cs n
     unfolding textRefusal
     refused-10 h = rw (le-ltb 16384 (length cs) h8, h)
 
-    pub refused-7 : scalars cs ≡ true → (r : Bool) → r ≡ ltb n (length (writingOf e m table cs .bytes)) →
-        (r then 7 else 0) ≡ textRefusal e m table cs n
+    pub refused-7 : scalars cs ≡ true → (r : Bool) → r ≡ ltb n (length (lentWriting e m t cs .bytes)) →
+        (r then 7 else 0) ≡ textRefusal e m t cs n
     unfolding textRefusal
     refused-7 h r z = rw (le-ltb 16384 (length cs) h8, h, z)

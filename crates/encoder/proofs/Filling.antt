@@ -16,11 +16,14 @@ use Rattle.standard.specs.Search.{first, either, searchFrom, searching, pointer
 use Rattle.standard.specs.Encoders.Utf8.{utf8Encode}
 use Rattle.standard.specs.Encoders.SingleByte.{singleByteEncode}
 use Rattle.standard.specs.Encoders.UserDefined.{userDefinedEncode}
+use Rattle.standard.specs.Encoders.Gb18030.{gb18030Encode}
+use Rattle.standard.specs.Encoders.Big5.{big5Encode}
 use Rattle.standard.specs.Encoders.EucJp.{eucJpEncode}
 use Rattle.standard.specs.Encoders.ShiftJis.{shiftJisEncode}
+use Rattle.standard.specs.Encoders.EucKr.{eucKrEncode}
 use Rattle.standard.proofs.Tests.{split, and-left, and-right}
 use Rattle.pair_writers.specs.Pairs.{pairEncode}
-use Rattle.encoder.specs.WriterCode.{given, pairs, encoderOf, Slots, entered}
+use Rattle.encoder.specs.WriterCode.{given, encoderOf, Slots, entered}
 use Rattle.encoder.proofs.Scalars.{windows-self, windows-more}
 
 -- a cell that counts as mapped is a scalar of at least 0x80
@@ -141,27 +144,31 @@ regular-on slots c l h g s = slots-set (singleByteEncode (searching windows1252)
     (let d : (c * 256 + c) / 256 ≡ c = omega arith in let m : (c * 256 + c) % 256 ≡ c = omega arith in rw (d, m) (sym (windows-self c h (omega arith))))
 
 -- ASCII is its own byte in the encodings that write pairs
-pub pair-80 : (e : ℕ) (table : List ℕ) (c : ℕ) → c < 0x80 → tokens (c ∷ []) ≡ pairEncode e table c
-unfolding pairEncode eucJpEncode shiftJisEncode
-pair-80 e table c h = go (eqb e 32)
+pub pair-80 : (e : ℕ) (table second : List ℕ) (c : ℕ) → c < 0x80 → tokens (c ∷ []) ≡ pairEncode e table second c
+unfolding pairEncode gb18030Encode big5Encode eucJpEncode shiftJisEncode eucKrEncode
+pair-80 e table second c h = go (leb e 30) (eqb e 31) (eqb e 32) (eqb e 34)
   where
-    go : (j : Bool) → tokens (c ∷ []) ≡ (j then eucJpEncode (searching table) else shiftJisEncode (searching table)) c
-    go true = rw (lt-ltb c 0x80 h)
-    go false = rw (lt-ltb c 0x80 h)
+    go : (g b j s : Bool) → tokens (c ∷ []) ≡ (g then gb18030Encode (eqb e 29) (searching table) second else
+        b then big5Encode (searching table) else j then eucJpEncode (searching table) else
+        s then shiftJisEncode (searching table) else eucKrEncode (searching table)) c
+    go true b j s = rw (lt-ltb c 0x80 h)
+    go false true j s = rw (lt-ltb c 0x80 h)
+    go false false true s = rw (lt-ltb c 0x80 h)
+    go false false false true = rw (lt-ltb c 0x80 h)
+    go false false false false = rw (lt-ltb c 0x80 h)
 
 -- by the encoding's number
 module _ (e : ℕ) (table : List ℕ) where
   pub below-80 : (c : ℕ) → c < 0x80 → tokens (c ∷ []) ≡ encoderOf e table c
   unfolding encoderOf utf8Encode singleByteEncode userDefinedEncode
-  below-80 c h = go (eqb e 0) (eqb e 21) (leb e 28) (pairs e)
+  below-80 c h = go (eqb e 0) (eqb e 21) (leb e 28)
     where
-      go : (u w s p : Bool) → tokens (c ∷ []) ≡ (u then utf8Encode else w then singleByteEncode (searching windows1252) else
-          s then singleByteEncode (searching table) else p then pairEncode e table else userDefinedEncode) c
-      go true w s p = rw (lt-ltb c 0x80 h)
-      go false true s p = rw (lt-ltb c 0x80 h)
-      go false false true p = rw (lt-ltb c 0x80 h)
-      go false false false true = pair-80 e table c h
-      go false false false false = rw (lt-ltb c 0x80 h)
+      go : (u w s : Bool) → tokens (c ∷ []) ≡ (u then utf8Encode else w then singleByteEncode (searching windows1252) else
+          s then singleByteEncode (searching table) else userDefinedEncode) c
+      go true w s = rw (lt-ltb c 0x80 h)
+      go false true s = rw (lt-ltb c 0x80 h)
+      go false false true = rw (lt-ltb c 0x80 h)
+      go false false false = rw (lt-ltb c 0x80 h)
 
   pub given-80 : (c : ℕ) → c < 0x80 → given c c ≡ encoderOf e table c
   given-80 c h = rw (lt-ltb c 256 (omega arith)) (below-80 c h)

@@ -1,6 +1,5 @@
 -- The answers of the writers of pairs: their bytes in a room, and what is written of a scalar. Assumes nothing.
 use mathlib.Core.Path.{_≡_, sym, ap, _∙_}
-use mathlib.Core.Bool.{true}
 use mathlib.Core.List.{List, [], _∷_}
 use Prim.Native.Nat.{ℕ, _+_, _≤_}
 use native.Mathlib.Omega.{arith}
@@ -12,42 +11,58 @@ use Rattle.standard.proofs.Tests.{split}
 use Rattle.pair_writers.specs.Pairs.{bytesOf, told, pairEncode}
 use Rattle.pair_writers.specs.declared.One.{One}
 use Rattle.encoder_spec.specs.Writing.{wrote, cannot}
-use Rattle.encoder.specs.WriterCode.{pairs, oneOf, encoderOf}
+use Rattle.encoder.specs.WriterCode.{pairOf}
 use Rattle.encoder.proofs.Counting.{told-bytes, told-error}
-use Rattle.encoder.proofs.Rooms.{same-list, put-one, put-two}
-use Rattle.encoder.proofs.Scalars.{of-pairs}
+use Rattle.encoder.proofs.Rooms.{same-list, put-one, put-two, put-four}
 
--- one byte or two
+-- one byte, two or four
 module _ (o : One) where
   one-byte : o .count ≡ 1 → bytesOf o ≡ o .first ∷ []
   one-byte h = rw (eq-eqb (o .count) 1 h)
 
-  two-bytes : (o .count ≡ 1 → ⊥) → bytesOf o ≡ o .first ∷ o .second ∷ []
-  two-bytes h = rw (ne-eqb (o .count) 1 h)
+  two-bytes : o .count ≡ 2 → bytesOf o ≡ o .first ∷ o .second ∷ []
+  two-bytes h = rw h
+
+  four-bytes : (o .count ≡ 1 → ⊥) → (o .count ≡ 2 → ⊥) → bytesOf o ≡ o .first ∷ o .second ∷ o .third ∷ o .fourth ∷ []
+  four-bytes h g = rw (ne-eqb (o .count) 1 h, ne-eqb (o .count) 2 g)
 
   pub one-size : o .count ≡ 1 → 1 ≡ length (bytesOf o)
   one-size h = sym (ap length (one-byte h))
 
-  pub two-size : (o .count ≡ 1 → ⊥) → 2 ≡ length (bytesOf o)
+  pub two-size : o .count ≡ 2 → 2 ≡ length (bytesOf o)
   two-size h = sym (ap length (two-bytes h))
+
+  pub four-size : (o .count ≡ 1 → ⊥) → (o .count ≡ 2 → ⊥) → 4 ≡ length (bytesOf o)
+  four-size h g = sym (ap length (four-bytes h g))
+
+  -- at least one, and at least two where it is not one
+  pub more-size : (o .count ≡ 1 → ⊥) → 2 ≤ length (bytesOf o)
+  more-size h = split (eqb (o .count) 2)
+      (λ e. omega (arith, two-size (eqb-true (o .count) 2 e)))
+      (λ e. omega (arith, four-size h (eqb-false (o .count) 2 e)))
 
   pub some-size : 1 ≤ length (bytesOf o)
   some-size = split (eqb (o .count) 1)
       (λ e. omega (arith, one-size (eqb-true (o .count) 1 e)))
-      (λ e. omega (arith, two-size (eqb-false (o .count) 1 e)))
+      (λ e. omega (arith, more-size (eqb-false (o .count) 1 e)))
 
   module _ (room : List ℕ) (at : ℕ) where
     pub one-put : o .count ≡ 1 → (at + 1 ≡ at + length (bytesOf o)) × (set room at (o .first) ≡ sets room at (bytesOf o))
     one-put h = same-list room at (sym (one-byte h)) (put-one room at (o .first))
 
-    pub two-put : (o .count ≡ 1 → ⊥) →
+    pub two-put : o .count ≡ 2 →
         (at + 2 ≡ at + length (bytesOf o)) × (set (set room at (o .first)) (at + 1) (o .second) ≡ sets room at (bytesOf o))
     two-put h = same-list room at (sym (two-bytes h)) (put-two room at (o .first) (o .second))
 
-  -- what is written of a scalar, by the answer
-  module _ (e : ℕ) (table : List ℕ) (c : ℕ) (p : pairs e ≡ true) (t : told o ≡ pairEncode e table c) where
-    pub pair-bytes : (o .count ≡ 0 → ⊥) → oneOf e table 0 c ≡ wrote (bytesOf o) 0
-    pair-bytes h = told-bytes (encoderOf e table) c (sym (of-pairs e table c p) ∙ sym t ∙ rw (ne-eqb (o .count) 0 h))
+    pub four-put : (o .count ≡ 1 → ⊥) → (o .count ≡ 2 → ⊥) →
+        (at + 4 ≡ at + length (bytesOf o)) ×
+        (set (set (set (set room at (o .first)) (at + 1) (o .second)) (at + 2) (o .third)) (at + 3) (o .fourth) ≡ sets room at (bytesOf o))
+    four-put h g = same-list room at (sym (four-bytes h g)) (put-four room at (o .first) (o .second) (o .third) (o .fourth))
 
-    pub pair-named : o .count ≡ 0 → oneOf e table 0 c ≡ cannot (o .named) 0
-    pair-named h = told-error (encoderOf e table) c (sym (of-pairs e table c p) ∙ sym t ∙ rw (eq-eqb (o .count) 0 h))
+  -- what is written of a scalar, by the answer
+  module _ (e : ℕ) (table second : List ℕ) (c : ℕ) (t : told o ≡ pairEncode e table second c) where
+    pub pair-bytes : (o .count ≡ 0 → ⊥) → pairOf e table second 0 c ≡ wrote (bytesOf o) 0
+    pair-bytes h = told-bytes (pairEncode e table second) c (sym t ∙ rw (ne-eqb (o .count) 0 h))
+
+    pub pair-named : o .count ≡ 0 → pairOf e table second 0 c ≡ cannot (o .named) 0
+    pair-named h = told-error (pairEncode e table second) c (sym t ∙ rw (eq-eqb (o .count) 0 h))

@@ -7,7 +7,7 @@ use Prim.Native.Nat.{ℕ, zero, suc, _+_, _-_, _/_, _%_, _≤_, _<_}
 use native.Mathlib.Omega.{arith}
 use lib.Dec.{ltb, leb, eqb}
 use lib.ListN.{length}
-use borrow.Author.Tests.{ltb-true, ltb-false, lt-ltb, le-ltb, le-leb, lt-leb, eqb-true, eqb-false, eq-eqb, ne-eqb}
+use borrow.Author.Tests.{ltb-true, ltb-false, lt-ltb, le-ltb, le-leb, lt-leb, eqb-true, eqb-false, eq-eqb, ne-eqb, not-true}
 use Rattle.standard.specs.Base.{_then_else_, within, every, mapped}
 use Rattle.standard.specs.Indexes.{irregular, countFrom, windows1252}
 use Rattle.standard.specs.Machine.{Result, tokens, error-with}
@@ -16,8 +16,7 @@ use Rattle.standard.specs.Encoders.Utf8.{utf8-following, utf8-bytes, utf8Encode
 use Rattle.standard.specs.Encoders.SingleByte.{orErrorWith, singleByteEncode}
 use Rattle.standard.specs.Encoders.UserDefined.{userDefinedEncode}
 use Rattle.standard.proofs.Search.{search-rule}
-use Rattle.standard.proofs.Tests.{split, or-case, and-left, and-right, under, above}
-use Rattle.pair_writers.specs.Pairs.{pairEncode}
+use Rattle.standard.proofs.Tests.{split, and-left, and-right, within-low, within-high, under, above}
 use Rattle.encoder.specs.WriterCode.{given, utf8Of, pairs, encoderOf}
 
 -- the byte of an answer, or an error that names the scalar
@@ -206,11 +205,37 @@ module _ (c : ℕ) where
   user-high g = rw (le-ltb c 0x80 (omega arith), above 0xF780 c 0xF7FF g)
 
 -- the encodings that write pairs
-pub pairs-past : (e : ℕ) → pairs e ≡ true → 28 < e
-pairs-past e p = or-case (eqb e 32) (eqb e 34) p (λ h. omega (arith, eqb-true e 32 h)) (λ h. omega (arith, eqb-true e 34 h))
+module _ (e : ℕ) (p : pairs e ≡ true) where
+  not-33 : e ≡ 33 → ⊥
+  not-33 = eqb-false e 33 (not-true (eqb e 33) (and-left (not (eqb e 33)) (within 29 e 35) p))
+
+  pair-range : within 29 e 35 ≡ true
+  pair-range = and-right (not (eqb e 33)) (within 29 e 35) p
+
+  pub pairs-past : 28 < e
+  pairs-past = omega (arith, within-low 29 e 35 pair-range)
+
+  pub by-pairs : {A : Type 0} → (e ≡ 29 → A) → (e ≡ 30 → A) → (e ≡ 31 → A) → (e ≡ 32 → A) → (e ≡ 34 → A) → (e ≡ 35 → A) → A
+  by-pairs f g h i j k =
+      split (eqb e 29) (λ z. f (eqb-true e 29 z)) (λ a.
+      split (eqb e 30) (λ z. g (eqb-true e 30 z)) (λ b.
+      split (eqb e 31) (λ z. h (eqb-true e 31 z)) (λ c.
+      split (eqb e 32) (λ z. i (eqb-true e 32 z)) (λ d.
+      split (eqb e 34) (λ z. j (eqb-true e 34 z)) (λ q.
+      k (omega (
+        arith,
+        within-low 29 e 35 pair-range,
+        within-high 29 e 35 pair-range,
+        eqb-false e 29 a,
+        eqb-false e 30 b,
+        eqb-false e 31 c,
+        eqb-false e 32 d,
+        not-33,
+        eqb-false e 34 q,
+      )))))))
 
 pub no-pairs : (e : ℕ) → e ≤ 28 → pairs e ≡ false
-no-pairs e l = rw (ne-eqb e 32 (λ z. omega arith), ne-eqb e 34 (λ z. omega arith))
+no-pairs e l = rw (under 29 e 35 (omega arith), and-false (not (eqb e 33)))
 
 -- by the encoding's number
 module _ (e : ℕ) (table : List ℕ) (c : ℕ) where
@@ -226,13 +251,6 @@ module _ (e : ℕ) (table : List ℕ) (c : ℕ) where
   unfolding encoderOf
   of-single-byte h g k = rw (ne-eqb e 0 h, ne-eqb e 21 g, le-leb e 28 k)
 
-  module _ (h : 28 < e) where
-    past-28 : encoderOf e table c ≡ (pairs e then pairEncode e table else userDefinedEncode) c
-    unfolding encoderOf
-    past-28 = rw (ne-eqb e 0 (omega arith), ne-eqb e 21 (omega arith), lt-leb e 28 h)
-
-    pub of-user-defined : pairs e ≡ false → userDefinedEncode c ≡ encoderOf e table c
-    of-user-defined p = sym (past-28 ∙ rw p)
-
-  pub of-pairs : pairs e ≡ true → pairEncode e table c ≡ encoderOf e table c
-  of-pairs p = sym (past-28 (pairs-past e p) ∙ rw p)
+  pub of-user-defined : 28 < e → userDefinedEncode c ≡ encoderOf e table c
+  unfolding encoderOf
+  of-user-defined h = rw (ne-eqb e 0 (omega arith), ne-eqb e 21 (omega arith), lt-leb e 28 h)

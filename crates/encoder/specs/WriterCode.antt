@@ -1,12 +1,12 @@
 -- What the code's values stand for: the bytes of one scalar, the encoder of an encoding number, what a call wrote, and its refusal.
 -- Assumes nothing.
 use mathlib.Core.Path.{_≡_}
-use mathlib.Core.Bool.{Bool, true, false, not, _||_}
+use mathlib.Core.Bool.{Bool, true, false, not, _&&_, _||_}
 use mathlib.Core.List.{List, [], _∷_}
 use Prim.Native.Nat.{ℕ, _+_, _*_, _/_, _%_, _≤_}
 use lib.Dec.{ltb, leb, eqb}
 use lib.ListN.{length, getD, set}
-use Rattle.standard.specs.Base.{_then_else_, isScalar, scalars, mapped}
+use Rattle.standard.specs.Base.{_then_else_, within, isScalar, scalars, mapped}
 use Rattle.standard.specs.Encodings.{family, Tables, fits}
 use Rattle.standard.specs.Indexes.{windows1252}
 use Rattle.standard.specs.Machine.{Result, tokens, error-with}
@@ -15,7 +15,7 @@ use Rattle.standard.specs.Encoders.Utf8.{utf8-bytes, utf8Encode}
 use Rattle.standard.specs.Encoders.SingleByte.{singleByteEncode}
 use Rattle.standard.specs.Encoders.UserDefined.{userDefinedEncode}
 use Rattle.standard.specs.Writers.{stateless}
-use Rattle.pair_writers.specs.Pairs.{pairEncode}
+use Rattle.pair_writers.specs.Pairs.{pairEncode, cellsOf}
 use Rattle.encoder_spec.specs.Writing.{One, encodeOne, Writing, writing}
 use Rattle.encoder_spec.specs.Writer.{write}
 use Rattle.encoder_spec.specs.declared.Written.{Written}
@@ -38,31 +38,36 @@ utf8Of c =
 
 -- Does this encoding write pairs? Is there a writer for it?
 abbrev pub pairs : ℕ → Bool
-pairs e = eqb e 32 || eqb e 34
+pairs e = not (eqb e 33) && within 29 e 35
 
 abbrev pub writes : ℕ → Bool
 writes e = leb e 28 || (pairs e || eqb e 39)
 
--- The encoder of such an encoding, with its first table.
+-- The encoder of UTF-8 and of the encodings of one byte a scalar, with their table; and that of every encoding with a writer.
 unfoldable pub encoderOf : ℕ → List ℕ → ℕ → Result
 encoderOf e table =
     eqb e 0 then utf8Encode else
     eqb e 21 then singleByteEncode (searching windows1252) else
     leb e 28 then singleByteEncode (searching table) else
-    pairs e then pairEncode e table else
     userDefinedEncode
 
--- Its first table: of 11,280 cells where it writes pairs, else of 128 or none.
+unfoldable pub lentEncoder : ℕ → Tables → ℕ → Result
+lentEncoder e t = pairs e then pairEncode e (t .first) (t .second) else encoderOf e (t .first)
+
+-- Its first table: of so many cells where it writes pairs, else of 128 or none.
 pub record Tabled (e : ℕ) (table : List ℕ) : Type 0 where
-  pub of-pairs : pairs e ≡ true → length table ≡ 11280
+  pub of-pairs : pairs e ≡ true → length table ≡ cellsOf e
   pub of-bytes : pairs e ≡ false → length table ≤ 128
 
--- An encoder of one scalar, whatever the state; that of an encoding number.
+-- An encoder of one scalar, whatever the state; those of an encoding number.
 abbrev pub plain : (ℕ → Result) → ℕ → ℕ → One
 plain encode = encodeOne (stateless encode)
 
 abbrev pub oneOf : ℕ → List ℕ → ℕ → ℕ → One
 oneOf e table = plain (encoderOf e table)
+
+abbrev pub pairOf : ℕ → List ℕ → List ℕ → ℕ → ℕ → One
+pairOf e table second = plain (pairEncode e table second)
 
 -- Every slot holds a scalar, times 256, and its byte.
 pub record Slots (encode : ℕ → Result) (slots : List ℕ) : Type 0 where
@@ -70,7 +75,7 @@ pub record Slots (encode : ℕ → Result) (slots : List ℕ) : Type 0 where
 
 -- An encoding of one byte a scalar, with its table.
 abbrev pub OneByte : ℕ → List ℕ → Type 0
-OneByte e table = (1 ≤ e) × (pairs e ≡ false) × (length table ≤ 128)
+OneByte e table = (1 ≤ e) × (length table ≤ 128)
 
 -- What a loop of such an encoding is lent: its table, and slots.
 abbrev pub BySlots : ℕ → List ℕ → List ℕ → Type 0
@@ -80,13 +85,19 @@ BySlots e table slots = OneByte e table × Slots (encoderOf e table) slots
 abbrev pub entered : List ℕ → ℕ → ℕ → List ℕ
 entered slots c p = mapped c then set slots (c % 2048) (c * 256 + (p + 0x80)) else slots
 
--- What an encoding writes of some scalars.
+-- What an encoding writes of some scalars: one of one byte a scalar, one of pairs, and any.
 abbrev pub writingOf : ℕ → ℕ → List ℕ → List ℕ → Writing
 writingOf e m table cs = writing (oneOf e table) m 0 cs
 
+abbrev pub pairWriting : ℕ → ℕ → List ℕ → List ℕ → List ℕ → Writing
+pairWriting e m table second cs = writing (pairOf e table second) m 0 cs
+
+abbrev pub lentWriting : ℕ → ℕ → Tables → List ℕ → Writing
+lentWriting e m t cs = writing (plain (lentEncoder e t)) m 0 cs
+
 -- The most bytes that it writes of one scalar.
 abbrev pub mostOf : ℕ → ℕ → ℕ
-mostOf e m = eqb e 0 then 4 else eqb m 1 then (pairs e then 2 else 1) else 10
+mostOf e m = eqb e 0 then 4 else eqb m 1 then (eqb e 30 then 4 else pairs e then 2 else 1) else 10
 
 -- A room has space for a writing.
 abbrev pub Space : Writing → List ℕ → Type 0
@@ -98,11 +109,11 @@ pub record Wrote (w : Writing) (room : List ℕ) (answer : Written) (after : Lis
   pub leaves : after ≡ write w room .room
 
 -- The refusal that depends on the scalars, with so many bytes of room, or 0: 8, 10, 7.
-unfoldable pub textRefusal : ℕ → ℕ → List ℕ → List ℕ → ℕ → ℕ
-textRefusal e m table cs n =
+unfoldable pub textRefusal : ℕ → ℕ → Tables → List ℕ → ℕ → ℕ
+textRefusal e m t cs n =
     ltb 16384 (length cs) then 8 else
     not (scalars cs) then 10 else
-    ltb n (length (writingOf e m table cs .bytes)) then 7 else
+    ltb n (length (lentWriting e m t cs .bytes)) then 7 else
     0
 
 -- The refusal of a call: 2, 3, 9, 4, then those.
@@ -112,4 +123,4 @@ refusalOf e m t cs n =
     ltb 1 m then 3 else
     not (writes e) then 9 else
     not (fits (family e) t) then 4 else
-    textRefusal e m (t .first) cs n
+    textRefusal e m t cs n

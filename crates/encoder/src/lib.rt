@@ -36,5 +36,5 @@ pub fn encode(
             refusal: refused,
         };
     }
-    writers::write(encoding, mode, scalars, t1, room)
+    writers::write(encoding, mode, scalars, t1, t2, room)
 }

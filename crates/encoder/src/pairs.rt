@@ -4,17 +4,16 @@ use crate::references;
 use encoder_spec::Written;
 use pair_writers::One;
 ghost use mathlib.Core.Path.{_≡_};
-ghost use mathlib.Core.Bool.{true};
 ghost use Prim.Native.Nat.{_+_, _≤_};
 ghost use lib.ListN.{length};
 ghost use lib.Seq.{sets};
-ghost use Rattle.pair_writers.specs.Pairs.{bytesOf, told, pairEncode, Ready};
-ghost use Rattle.encoder.specs.WriterCode.{pairs, writingOf, Space, Wrote};
+ghost use Rattle.pair_writers.specs.Pairs.{bytesOf, told, pairEncode, cellsOf, Ready};
+ghost use Rattle.encoder.specs.WriterCode.{pairWriting, Space, Wrote};
 
 // The bytes of a scalar; ASCII without a call.
-fn one_of(encoding: u8, table: &[u32], slots: &[u16], c: u32) -> One
+fn one_of(encoding: u8, table: &[u32], second: &[u32], slots: &[u16], c: u32) -> One
     requires { ⌜ Ready encoding (now table) (now slots) ⌝ }
-    ensures { λ r. ⌜ told r ≡ pairEncode encoding (now (table .entry)) c ⌝ }
+    ensures { λ r. ⌜ told r ≡ pairEncode encoding (now (table .entry)) (now (second .entry)) c ⌝ }
 {
     if c < 0x80 {
         return One {
@@ -22,19 +21,24 @@ fn one_of(encoding: u8, table: &[u32], slots: &[u16], c: u32) -> One
             count: 1,
             first: c as u8,
             second: 0,
+            third: 0,
+            fourth: 0,
         };
     }
-    pair_writers::bytes_of(encoding, table, slots, c)
+    pair_writers::bytes_of(encoding, table, second, slots, c)
 }
 
 // How many bytes.
 fn size(one: One) -> usize
-    ensures { λ r. ⌜ (r ≡ length (bytesOf one)) × (r ≤ 2) ⌝ }
+    ensures { λ r. ⌜ (r ≡ length (bytesOf one)) × (r ≤ 4) ⌝ }
 {
     if one.count == 1 {
         return 1;
     }
-    2
+    if one.count == 2 {
+        return 2;
+    }
+    4
 }
 
 // The bytes, written from a place on; the place behind them.
@@ -47,18 +51,30 @@ fn put(room: &mut [u8], at: usize, one: One) -> usize
         return at + 1;
     }
     room[at + 1] = one.second;
-    at + 2
+    if one.count == 2 {
+        return at + 2;
+    }
+    room[at + 2] = one.third;
+    room[at + 3] = one.fourth;
+    at + 4
 }
 
 // How many bytes are written of the scalars, with slots.
-fn count_by(encoding: u8, mode: u8, scalars: &[u32], table: &[u32], slots: &[u16]) -> usize
-    requires { ⌜ (pairs encoding ≡ true) × (length (now scalars) ≤ 16384) × Ready encoding (now table) (now slots) ⌝ }
-    ensures { λ r. ⌜ r ≡ length (writingOf encoding mode (now (table .entry)) (now (scalars .entry)) .bytes) ⌝ }
+fn count_by(
+    encoding: u8,
+    mode: u8,
+    scalars: &[u32],
+    table: &[u32],
+    second: &[u32],
+    slots: &[u16],
+) -> usize
+    requires { ⌜ (length (now scalars) ≤ 16384) × Ready encoding (now table) (now slots) ⌝ }
+    ensures { λ r. ⌜ r ≡ length (pairWriting encoding mode (now (table .entry)) (now (second .entry)) (now (scalars .entry)) .bytes) ⌝ }
 {
     let mut n: usize = 0;
     let mut i: usize = 0;
     while i < scalars.len() {
-        let one = one_of(encoding, table, slots, scalars[i]);
+        let one = one_of(encoding, table, second, slots, scalars[i]);
         if one.count != 0 {
             n += size(one);
             i += 1;
@@ -98,17 +114,17 @@ fn others(scalars: &[u32]) -> u32
 }
 
 // The same, with slots where they save more time than they cost.
-pub(crate) fn count(encoding: u8, mode: u8, scalars: &[u32], table: &[u32]) -> usize
-    requires { ⌜ (pairs encoding ≡ true) × (length (now scalars) ≤ 16384) × (length (now table) ≡ 11280) ⌝ }
-    ensures { λ r. ⌜ r ≡ length (writingOf encoding mode (now (table .entry)) (now (scalars .entry)) .bytes) ⌝ }
+pub(crate) fn count(encoding: u8, mode: u8, scalars: &[u32], table: &[u32], second: &[u32]) -> usize
+    requires { ⌜ (length (now scalars) ≤ 16384) × (length (now table) ≡ cellsOf encoding) ⌝ }
+    ensures { λ r. ⌜ r ≡ length (pairWriting encoding mode (now (table .entry)) (now (second .entry)) (now (scalars .entry)) .bytes) ⌝ }
 {
     if others(scalars) < 256 {
         let none = [0u16; 1];
-        return count_by(encoding, mode, scalars, table, &none);
+        return count_by(encoding, mode, scalars, table, second, &none);
     }
     let mut filled = [0u16; 16384];
     pair_writers::fill(encoding, table, &mut filled);
-    count_by(encoding, mode, scalars, table, &filled)
+    count_by(encoding, mode, scalars, table, second, &filled)
 }
 
 // The scalars written into a room that has space for all their bytes, with slots.
@@ -117,16 +133,19 @@ fn write_by(
     mode: u8,
     scalars: &[u32],
     table: &[u32],
+    second: &[u32],
     slots: &[u16],
     room: &mut [u8],
 ) -> Written
-    requires { ⌜ (pairs encoding ≡ true) × Ready encoding (now table) (now slots) × Space (writingOf encoding mode (now table) (now scalars)) (now room) ⌝ }
-    ensures { λ r. ⌜ Wrote (writingOf encoding mode (now (table .entry)) (now (scalars .entry))) (now (room .entry)) r (now (room .exit)) ⌝ }
+    requires { ⌜ Ready encoding (now table) (now slots) ×
+        Space (pairWriting encoding mode (now table) (now second) (now scalars)) (now room) ⌝ }
+    ensures { λ r. ⌜ Wrote (pairWriting encoding mode (now (table .entry)) (now (second .entry)) (now (scalars .entry)))
+        (now (room .entry)) r (now (room .exit)) ⌝ }
 {
     let mut o: usize = 0;
     let mut i: usize = 0;
     while i < scalars.len() {
-        let one = one_of(encoding, table, slots, scalars[i]);
+        let one = one_of(encoding, table, second, slots, scalars[i]);
         if one.count != 0 {
             o = put(room, o, one);
             i += 1;
@@ -155,17 +174,19 @@ pub(crate) fn write(
     mode: u8,
     scalars: &[u32],
     table: &[u32],
+    second: &[u32],
     room: &mut [u8],
 ) -> Written
-    requires { ⌜ (pairs encoding ≡ true) × (length (now scalars) ≤ 16384) × (length (now table) ≡ 11280) ⌝ }
-    requires { ⌜ Space (writingOf encoding mode (now table) (now scalars)) (now room) ⌝ }
-    ensures { λ r. ⌜ Wrote (writingOf encoding mode (now (table .entry)) (now (scalars .entry))) (now (room .entry)) r (now (room .exit)) ⌝ }
+    requires { ⌜ (length (now scalars) ≤ 16384) × (length (now table) ≡ cellsOf encoding) ⌝ }
+    requires { ⌜ Space (pairWriting encoding mode (now table) (now second) (now scalars)) (now room) ⌝ }
+    ensures { λ r. ⌜ Wrote (pairWriting encoding mode (now (table .entry)) (now (second .entry)) (now (scalars .entry)))
+        (now (room .entry)) r (now (room .exit)) ⌝ }
 {
     if others(scalars) < 256 {
         let none = [0u16; 1];
-        return write_by(encoding, mode, scalars, table, &none, room);
+        return write_by(encoding, mode, scalars, table, second, &none, room);
     }
     let mut filled = [0u16; 16384];
     pair_writers::fill(encoding, table, &mut filled);
-    write_by(encoding, mode, scalars, table, &filled, room)
+    write_by(encoding, mode, scalars, table, second, &filled, room)
 }

@@ -11,7 +11,7 @@ ghost use lib.Dec.{ltb};
 ghost use lib.ListN.{length};
 ghost use Rattle.standard.specs.Base.{isScalar, scalars as areScalars};
 ghost use Rattle.standard.specs.Encodings.{lent};
-ghost use Rattle.encoder.specs.WriterCode.{noScalar, Tabled, writingOf, textRefusal, refusalOf};
+ghost use Rattle.encoder.specs.WriterCode.{noScalar, Tabled, lentWriting, textRefusal, refusalOf};
 
 fn is_scalar(c: u32) -> bool
     ensures { λ r. ⌜ r ≡ isScalar c ⌝ }
@@ -50,20 +50,21 @@ fn all_scalars(scalars: &[u32]) -> bool
 }
 
 // Is a room of so many bytes too small? The bytes are counted only where the most of them would not fit.
-fn lacks(encoding: u8, mode: u8, scalars: &[u32], table: &[u32], room: usize) -> bool
-    requires { ⌜ (areScalars (now scalars) ≡ true) × (length (now scalars) ≤ 16384) × Tabled encoding (now table) ⌝ }
-    ensures { λ r. ⌜ r ≡ ltb room (length (writingOf encoding mode (now (table .entry)) (now (scalars .entry)) .bytes)) ⌝ }
+fn lacks(encoding: u8, mode: u8, scalars: &[u32], t1: &[u32], t2: &[u32], room: usize) -> bool
+    requires { ⌜ (areScalars (now scalars) ≡ true) × (length (now scalars) ≤ 16384) × Tabled encoding (now t1) ⌝ }
+    ensures { λ r. ⌜ r ≡
+        ltb room (length (lentWriting encoding mode (lent (now (t1 .entry)) (now (t2 .entry))) (now (scalars .entry)) .bytes)) ⌝ }
 {
     if scalars.len() * most(encoding, mode) <= room {
         return false;
     }
-    room < count(encoding, mode, scalars, table)
+    room < count(encoding, mode, scalars, t1, t2)
 }
 
 // The refusal that depends on the scalars, or 0: 8, 10, 7.
-fn text_refusal(encoding: u8, mode: u8, scalars: &[u32], table: &[u32], room: usize) -> u8
-    requires { ⌜ Tabled encoding (now table) ⌝ }
-    ensures { λ r. ⌜ r ≡ textRefusal encoding mode (now (table .entry)) (now (scalars .entry)) room ⌝ }
+fn text_refusal(encoding: u8, mode: u8, scalars: &[u32], t1: &[u32], t2: &[u32], room: usize) -> u8
+    requires { ⌜ Tabled encoding (now t1) ⌝ }
+    ensures { λ r. ⌜ r ≡ textRefusal encoding mode (lent (now (t1 .entry)) (now (t2 .entry))) (now (scalars .entry)) room ⌝ }
 {
     if 16384 < scalars.len() {
         return 8;
@@ -71,7 +72,7 @@ fn text_refusal(encoding: u8, mode: u8, scalars: &[u32], table: &[u32], room: us
     if !all_scalars(scalars) {
         return 10;
     }
-    if lacks(encoding, mode, scalars, table, room) {
+    if lacks(encoding, mode, scalars, t1, t2, room) {
         return 7;
     }
     0
@@ -100,5 +101,5 @@ pub(crate) fn refusal(
     if !tables_fit(encoding, t1, t2) {
         return 4;
     }
-    text_refusal(encoding, mode, scalars, t1, room)
+    text_refusal(encoding, mode, scalars, t1, t2, room)
 }

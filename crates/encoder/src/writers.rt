@@ -6,16 +6,20 @@ ghost use mathlib.Core.Bool.{true};
 ghost use Prim.Native.Nat.{_≤_};
 ghost use lib.ListN.{length};
 ghost use Rattle.standard.specs.Base.{scalars as areScalars};
-ghost use Rattle.encoder.specs.WriterCode.{pairs, writes, Tabled, writingOf, mostOf, Space, Wrote};
+ghost use Rattle.standard.specs.Encodings.{lent};
+ghost use Rattle.encoder.specs.WriterCode.{pairs, writes, Tabled, lentWriting, mostOf, Space, Wrote};
 
 // Does this encoding write pairs?
 fn pairs(encoding: u8) -> bool
     ensures { λ r. ⌜ r ≡ pairs encoding ⌝ }
 {
-    if encoding == 32 {
-        return true;
+    if encoding == 33 {
+        return false;
     }
-    encoding == 34
+    if encoding < 29 {
+        return false;
+    }
+    encoding <= 35
 }
 
 // Is there a writer for this encoding?
@@ -41,6 +45,9 @@ pub(crate) fn most(encoding: u8, mode: u8) -> usize
     if mode != 1 {
         return 10;
     }
+    if encoding == 30 {
+        return 4;
+    }
     if pairs(encoding) {
         return 2;
     }
@@ -48,17 +55,17 @@ pub(crate) fn most(encoding: u8, mode: u8) -> usize
 }
 
 // How many bytes are written of the scalars.
-pub(crate) fn count(encoding: u8, mode: u8, scalars: &[u32], table: &[u32]) -> usize
-    requires { ⌜ (areScalars (now scalars) ≡ true) × (length (now scalars) ≤ 16384) × Tabled encoding (now table) ⌝ }
-    ensures { λ r. ⌜ r ≡ length (writingOf encoding mode (now (table .entry)) (now (scalars .entry)) .bytes) ⌝ }
+pub(crate) fn count(encoding: u8, mode: u8, scalars: &[u32], t1: &[u32], t2: &[u32]) -> usize
+    requires { ⌜ (areScalars (now scalars) ≡ true) × (length (now scalars) ≤ 16384) × Tabled encoding (now t1) ⌝ }
+    ensures { λ r. ⌜ r ≡ length (lentWriting encoding mode (lent (now (t1 .entry)) (now (t2 .entry))) (now (scalars .entry)) .bytes) ⌝ }
 {
     if encoding == 0 {
         return crate::utf8::count(scalars);
     }
     if pairs(encoding) {
-        return crate::pairs::count(encoding, mode, scalars, table);
+        return crate::pairs::count(encoding, mode, scalars, t1, t2);
     }
-    crate::one_byte::count(encoding, mode, scalars, table)
+    crate::one_byte::count(encoding, mode, scalars, t1)
 }
 
 // The scalars written into a room that has space for all their bytes.
@@ -66,12 +73,14 @@ pub(crate) fn write(
     encoding: u8,
     mode: u8,
     scalars: &[u32],
-    table: &[u32],
+    t1: &[u32],
+    t2: &[u32],
     room: &mut [u8],
 ) -> Written
-    requires { ⌜ (areScalars (now scalars) ≡ true) × (length (now scalars) ≤ 16384) × Tabled encoding (now table) ⌝ }
-    requires { ⌜ Space (writingOf encoding mode (now table) (now scalars)) (now room) ⌝ }
-    ensures { λ r. ⌜ Wrote (writingOf encoding mode (now (table .entry)) (now (scalars .entry))) (now (room .entry)) r (now (room .exit)) ⌝ }
+    requires { ⌜ (areScalars (now scalars) ≡ true) × (length (now scalars) ≤ 16384) × Tabled encoding (now t1) ⌝ }
+    requires { ⌜ Space (lentWriting encoding mode (lent (now t1) (now t2)) (now scalars)) (now room) ⌝ }
+    ensures { λ r. ⌜ Wrote (lentWriting encoding mode (lent (now (t1 .entry)) (now (t2 .entry))) (now (scalars .entry)))
+        (now (room .entry)) r (now (room .exit)) ⌝ }
 {
     if encoding == 0 {
         let written = crate::utf8::write(scalars, room);
@@ -82,7 +91,7 @@ pub(crate) fn write(
         };
     }
     if pairs(encoding) {
-        return crate::pairs::write(encoding, mode, scalars, table, room);
+        return crate::pairs::write(encoding, mode, scalars, t1, t2, room);
     }
-    crate::one_byte::write(encoding, mode, scalars, table, room)
+    crate::one_byte::write(encoding, mode, scalars, t1, room)
 }

@@ -2,17 +2,20 @@
 use mathlib.Core.Path.{refl}
 use Rattle.standard.specs.Base.{every}
 use Rattle.standard.specs.Encodings.{traits, fits}
-use Rattle.standard.specs.Indexes.{irregular, countFrom, windows1252}
+use Rattle.standard.specs.Indexes.{lastPair, rangesCodePoint, rangesPointer, irregular, countFrom, windows1252}
 use Rattle.standard.specs.Machine.{digits, reference}
 use Rattle.standard.specs.Search.{searchFrom}
 use Rattle.standard.specs.Encoders.Utf8.{utf8-following, utf8-bytes, utf8Encode}
 use Rattle.standard.specs.Encoders.SingleByte.{singleByteEncode}
+use Rattle.standard.specs.Encoders.Gb18030.{gb18030Encode}
+use Rattle.standard.specs.Encoders.Big5.{big5Encode}
 use Rattle.standard.specs.Encoders.EucJp.{eucJpEncode}
 use Rattle.standard.specs.Encoders.ShiftJis.{shiftJisEncode}
+use Rattle.standard.specs.Encoders.EucKr.{eucKrEncode}
 use Rattle.standard.specs.Writers.{writerOf}
 use Rattle.encoder_spec.specs.Writing.{writing}
 use Rattle.encoder_spec.specs.Writer.{writerCall}
-use Rattle.encoder_spec.specs.Samples.{Samples, JapaneseSamples}
+use Rattle.encoder_spec.specs.Samples.{Samples, JapaneseSamples, ChineseSamples}
 
 pub samples : Samples
 unfolding every traits fits irregular countFrom windows1252 digits reference searchFrom utf8-following utf8-bytes utf8Encode
@@ -48,4 +51,21 @@ japanese-samples = record {
   shift-jis-html = refl;
   euc-jp-html = refl;
   shift-jis-stops = refl;
+}
+
+pub chinese-samples : ChineseSamples
+unfolding every traits fits lastPair rangesCodePoint rangesPointer searchFrom gb18030Encode big5Encode eucKrEncode writerOf writing
+    writerCall
+chinese-samples = record {
+  gbk-writes = refl;
+  gb18030-writes = refl;
+  big5-writes = refl;
+  euc-kr-writes = refl;
+  replacement-9 = refl;
+  utf-16be-9 = refl;
+  utf-16le-9 = refl;
+  gbk-call = refl;
+  gb18030-call = refl;
+  big5-call = refl;
+  euc-kr-call = refl;
 }

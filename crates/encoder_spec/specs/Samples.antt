@@ -1,11 +1,11 @@
--- Samples of the writer's call: sample 15 of document 01, the order of the refusals, and what document 02 says of Shift_JIS and EUC-JP.
--- Assumes nothing.
+-- Samples of the writer's call: sample 15 of document 01, the order of the refusals, and what document 02 says of Shift_JIS and EUC-JP, and
+-- of the tables of the Chinese and Korean encodings. Assumes nothing.
 use mathlib.Core.Path.{_≡_}
 use mathlib.Core.List.{List, [], _∷_, _++_}
 use Prim.Native.Nat.{ℕ}
 use lib.ListN.{length, drop, replicate}
 use Rattle.standard.specs.Encodings.{lent, noTables}
-use Rattle.standard.specs.Encoders.Samples.{jis0208}
+use Rattle.standard.specs.Encoders.Samples.{table, jis0208}
 use Rattle.encoder_spec.specs.Writer.{Outcome, writerCall}
 
 -- a lent room of eight cells, and what a call leaves of it
@@ -41,8 +41,8 @@ pub record Samples : Type 0 where
   pub room-small : writerCall 0 1 noTables (0xE9 ∷ []) (1 ∷ []) ≡ leaves 0 0 7 (1 ∷ [])
   pub no-room-needed : writerCall 21 1 noTables (0x4E00 ∷ 0x41 ∷ []) [] ≡ leaves 0 0 11 []
   pub 2-before-3 : writerCall 40 2 noTables [] [] ≡ leaves 0 0 2 []
-  pub 3-before-9 : writerCall 29 2 noTables [] [] ≡ leaves 0 0 3 []
-  pub 9-before-4 : writerCall 29 0 noTables [] [] ≡ leaves 0 0 9 []
+  pub 3-before-9 : writerCall 36 2 noTables [] [] ≡ leaves 0 0 3 []
+  pub 9-before-4 : writerCall 36 0 (lent (0 ∷ []) []) [] [] ≡ leaves 0 0 9 []
   pub 4-before-8 : writerCall 1 0 noTables (replicate 16385 0x41) [] ≡ leaves 0 0 4 []
   pub 8-before-10 : writerCall 0 0 noTables (replicate 16385 0xD800) [] ≡ leaves 0 0 8 []
   pub 16384-pass-8 : writerCall 0 0 noTables (replicate 16384 0xD800) [] ≡ leaves 0 0 10 []
@@ -66,3 +66,21 @@ pub record JapaneseSamples : Type 0 where
   pub shift-jis-html : shiftJis 0 0 (0x2212 ∷ []) (0x2212 ∷ []) ≡ fills (0x26 ∷ 0x23 ∷ 0x36 ∷ 0x35 ∷ 0x32 ∷ 0x39 ∷ 0x33 ∷ 0x3B ∷ [])
   pub euc-jp-html : eucJp 0 0 (0x2212 ∷ []) (0x2212 ∷ []) ≡ fills (0x26 ∷ 0x23 ∷ 0x36 ∷ 0x35 ∷ 0x32 ∷ 0x39 ∷ 0x33 ∷ 0x3B ∷ [])
   pub shift-jis-stops : shiftJis 1 0 (0x2212 ∷ []) (0x41 ∷ 0x2212 ∷ 0x42 ∷ []) ≡ stops (0x41 ∷ []) 1
+
+-- Document 02, Ask 7.
+pub record ChineseSamples : Type 0 where
+  -- 9 is given for none of the four; for replacement and the UTF-16 pair it is
+  pub gbk-writes : writerCall 29 0 noTables [] [] ≡ leaves 0 0 4 []
+  pub gb18030-writes : writerCall 30 0 noTables [] [] ≡ leaves 0 0 4 []
+  pub big5-writes : writerCall 31 0 noTables [] [] ≡ leaves 0 0 4 []
+  pub euc-kr-writes : writerCall 35 0 noTables [] [] ≡ leaves 0 0 4 []
+  pub replacement-9 : writerCall 36 0 noTables [] [] ≡ leaves 0 0 9 []
+  pub utf-16be-9 : writerCall 37 0 noTables [] [] ≡ leaves 0 0 9 []
+  pub utf-16le-9 : writerCall 38 0 noTables [] [] ≡ leaves 0 0 9 []
+  -- ASCII, U+20AC in GBK, and the last cell of the table that is lent; GBK and gb18030 are lent ranges
+  pub gbk-call : writerCall 29 1 (lent (table 23940 23939 (0x4E00 ∷ [])) (0 ∷ 0x80 ∷ [])) (0x41 ∷ 0x20AC ∷ 0x4E00 ∷ 0x4E8C ∷ []) eight ≡
+      stops (0x41 ∷ 0x80 ∷ 0xFE ∷ 0xFE ∷ []) 3
+  pub gb18030-call : writerCall 30 1 (lent (table 23940 23939 (0x4E00 ∷ [])) (0 ∷ 0x80 ∷ [])) (0x41 ∷ 0x4E00 ∷ 0x80 ∷ []) eight ≡
+      fills (0x41 ∷ 0xFE ∷ 0xFE ∷ 0x81 ∷ 0x30 ∷ 0x81 ∷ 0x30 ∷ [])
+  pub big5-call : writerCall 31 1 (lent (table 19782 19781 (0x4E00 ∷ [])) []) (0x41 ∷ 0x4E00 ∷ []) eight ≡ fills (0x41 ∷ 0xFE ∷ 0xFE ∷ [])
+  pub euc-kr-call : writerCall 35 1 (lent (table 23940 23939 (0xAC00 ∷ [])) []) (0x41 ∷ 0xAC00 ∷ []) eight ≡ fills (0x41 ∷ 0xFE ∷ 0xFE ∷ [])

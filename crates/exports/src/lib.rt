@@ -19,12 +19,12 @@ use labels_spec::Found;
 use labels_spec::Named;
 use list_spec::Listed;
 
-// The version of the library, 0.6.0: 10,000 times major, 100 times minor, and patch.
+// The version of the library, 0.7.0: 10,000 times major, 100 times minor, and patch.
 #[no_mangle]
 pub extern "C" fn hamvukile_version() -> u32
-    ensures { λ r. ⌜ r ≡ 600 ⌝ }
+    ensures { λ r. ⌜ r ≡ 700 ⌝ }
 {
-    600
+    700
 }
 
 // The label call.

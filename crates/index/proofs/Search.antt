@@ -1,6 +1,6 @@
 -- A code point searched for in a stretch of a table, and an entry put into a table. Assumes nothing.
 use mathlib.Core.Path.{_≡_, refl, sym, ap, _∙_}
-use mathlib.Core.Bool.{Bool, true, false, _&&_, and-false}
+use mathlib.Core.Bool.{Bool, true, false, not, _&&_, and-false}
 use mathlib.Core.List.{List, [], _∷_}
 use mathlib.Core.Option.{Option, some, none}
 use Prim.Native.Nat.{ℕ, zero, suc, _+_, _-_, _≤_, _<_, min}
@@ -9,10 +9,12 @@ use native.Mathlib.Omega.{arith}
 use lib.Dec.{ltb, leb, eqb}
 use lib.ListN.{length, getD, take, drop, length-take, drop-of-length-le}
 use lib.Seq.{slice, slice-cons, take-all, take-length, take-nil, drop-nil}
-use borrow.Author.Tests.{ltb-true, ltb-false, lt-ltb, le-ltb, leb-true, leb-false, eqb-true, eqb-false, eq-eqb, ne-eqb}
-use Rattle.standard.specs.Base.{_then_else_, mapped}
-use Rattle.standard.specs.Search.{passOver, first, either, searchFrom, search, pointerFrom}
-use Rattle.standard.proofs.Tests.{split, under, above, in-range}
+use borrow.Author.Tests.{ltb-true, ltb-false, lt-ltb, le-ltb, leb-true, leb-false, eqb-true, eqb-false, eq-eqb, ne-eqb, not-true}
+use Rattle.standard.specs.Base.{_then_else_, within, mapped}
+use Rattle.standard.specs.Indexes.{indexCodePoint}
+use Rattle.standard.specs.Search.{passOver, first, last, either, searchFrom, search, pointerFrom, Counts}
+use Rattle.standard.proofs.Search.{search-rule}
+use Rattle.standard.proofs.Tests.{split, and-both, under, above, in-range}
 use Rattle.index_spec.specs.IndexCall.{Outcome}
 use Rattle.index.specs.IndexCode.{Absent}
 
@@ -126,3 +128,81 @@ whole table = take-length table
 -- What a call leaves, part by part.
 pub told : {o w : Outcome} → o ≡ w → (w .answer ≡ o .answer) × (w .table ≡ o .table)
 told e = (ap (λ (o : Outcome). o .answer) (sym e), ap (λ (o : Outcome). o .table) (sym e))
+
+-- a cell that is hit, by the tests of the code
+module _ (low high p x c : ℕ) where
+  pub hit-other : (x ≡ c → ⊥) → false ≡ (not (within low p high) && (mapped x && eqb x c))
+  hit-other n = rw (ne-eqb x c n, and-false (mapped x), and-false (not (within low p high)))
+
+  pub hit-unmapped : mapped x ≡ false → false ≡ (not (within low p high) && (mapped x && eqb x c))
+  hit-unmapped m = rw (m, and-false (not (within low p high)))
+
+  module _ (e : x ≡ c) (m : mapped x ≡ true) where
+    pub hit-below : p < low → true ≡ (not (within low p high) && (mapped x && eqb x c))
+    hit-below h = rw (eq-eqb x c e, m, under low p high h)
+
+    pub hit-behind : low ≤ p → ltb high p ≡ (not (within low p high) && (mapped x && eqb x c))
+    hit-behind h = rw (eq-eqb x c e, m) (split (ltb high p)
+        (λ t. rw (t, above low p high (ltb-true high p t)))
+        (λ t. rw (t, in-range low p high h (ltb-false high p t))))
+
+-- The last pointer, by the law of the search: what a cell that is hit says, and what is known once the pointers from p on are tried.
+module _ (low high c : ℕ) (table : List ℕ) where
+  abbrev hit : ℕ → Bool
+  hit p = not (within low p high) && (mapped (getD table p 0) && eqb (getD table p 0) c)
+
+  pub NoneFrom : ℕ → Type 0
+  NoneFrom p = (q : ℕ) → p ≤ q → Counts (passOver low high) table c q → ⊥
+
+  counts : (p : ℕ) → p < length table → hit p ≡ true → Counts (passOver low high) table c p
+  unfolding indexCodePoint
+  counts p l h =
+      let u = and-both (not (within low p high)) (mapped (getD table p 0) && eqb (getD table p 0) c) h in
+      let v = and-both (mapped (getD table p 0)) (eqb (getD table p 0) c) (u .1) in
+      record {
+        inside = l;
+        searched = not-true (within low p high) (u .0);
+        code = rw (v .0) (ap some (eqb-true (getD table p 0) c (v .1)));
+      }
+
+  counts-not : (p : ℕ) → hit p ≡ false → Counts (passOver low high) table c p → ⊥
+  unfolding indexCodePoint
+  counts-not p h k = go (mapped (getD table p 0)) (rw (k .searched) at h) (k .code)
+    where
+      go : (m : Bool) → m && eqb (getD table p 0) c ≡ false → _≡_ {A = Option ℕ} (m then some (getD table p 0) else none) (some c) → ⊥
+      go true f e = eqb-false (getD table p 0) c f cc
+      go false f e = let z : _≡_ {A = ℕ} 0 1 = cc in omega arith
+
+  pub last-start : NoneFrom (length table)
+  unfolding NoneFrom
+  last-start q l k = omega (arith, k .inside)
+
+  pub last-on : (p : ℕ) → 0 < p → NoneFrom p → hit (p - 1) ≡ false → NoneFrom (p - 1)
+  unfolding NoneFrom
+  last-on p h n f q l k = split (eqb q (p - 1))
+      (λ z. counts-not (p - 1) f (rw (eqb-true q (p - 1) z) at k))
+      (λ z. n q (omega (arith, eqb-false q (p - 1) z)) k)
+
+  pub last-found : (p : ℕ) → 0 < p → p ≤ length table → NoneFrom p → hit (p - 1) ≡ true →
+      some (p - 1) ≡ search last (passOver low high) table c
+  unfolding NoneFrom
+  last-found p h l n t = go (search last (passOver low high) table c) refl
+    where
+      k : Counts (passOver low high) table c (p - 1)
+      k = counts (p - 1) (omega arith) t
+
+      go : (o : Option ℕ) → search last (passOver low high) table c ≡ o → some (p - 1) ≡ o
+      go none e = absurd (search-rule last (passOver low high) table c .missing e (p - 1) k)
+      go (some q) e =
+          let rule = search-rule last (passOver low high) table c in
+          split (eqb q (p - 1))
+          (λ z. ap some (sym (eqb-true q (p - 1) z)))
+          (λ z. absurd (n q (omega (arith, eqb-false q (p - 1) z, rule .nearest q (p - 1) e k)) (rule .found q e)))
+
+  pub last-none : NoneFrom 0 → none ≡ search last (passOver low high) table c
+  unfolding NoneFrom
+  last-none n = go (search last (passOver low high) table c) refl
+    where
+      go : (o : Option ℕ) → search last (passOver low high) table c ≡ o → none ≡ o
+      go none e = refl
+      go (some q) e = absurd (n q (omega arith) (search-rule last (passOver low high) table c .found q e))

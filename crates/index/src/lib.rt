@@ -49,11 +49,11 @@ pub enum Found {
 }
 
 ghost use mathlib.Core.Path.{_≡_};
-ghost use mathlib.Core.Bool.{true};
-ghost use Rattle.standard.specs.Base.{_then_else_, mapped};
+ghost use mathlib.Core.Bool.{true, not, _&&_};
+ghost use Rattle.standard.specs.Base.{_then_else_, within, mapped};
 ghost use Rattle.standard.specs.Encodings.{family, fits, lent};
 ghost use Rattle.standard.specs.Sequence.{cell};
-ghost use Rattle.standard.specs.Search.{passOver, first, search, indexPointer, pointerFrom};
+ghost use Rattle.standard.specs.Search.{passOver, first, last, search, indexPointer, pointerFrom};
 ghost use Rattle.index_spec.specs.IndexRead.{entry};
 ghost use Rattle.index_spec.specs.IndexCall.{enter, indexLine};
 ghost use Rattle.index.specs.IndexCode.{pointerOf, Absent};
@@ -177,6 +177,36 @@ pub fn pointer_outside(table: &[u32], low: u32, high: u32, c: u32) -> Found
         Found::At(p) => Found::At(p),
         Found::Missing => pointer_between(table, high as usize + 1, table.len(), c),
     }
+}
+
+// Is a cell the code point, counting as mapped, and its pointer not from low to high?
+fn hits(low: usize, high: usize, p: usize, x: u32, c: u32) -> bool
+    ensures { λ r. ⌜ r ≡ (not (within low p high) && (mapped x && eqb x c)) ⌝ }
+{
+    if x != c {
+        return false;
+    }
+    if !mapped(x) {
+        return false;
+    }
+    if p < low {
+        return true;
+    }
+    high < p
+}
+
+// The last pointer of a code point in a table, with the pointers from low to high passed over.
+pub fn last_outside(table: &[u32], low: u32, high: u32, c: u32) -> Found
+    ensures { λ r. ⌜ pointerOf r ≡ search last (passOver low high) (now (table .entry)) c ⌝ }
+{
+    let mut p = table.len();
+    while 0 < p {
+        p -= 1;
+        if hits(low as usize, high as usize, p, table[p], c) {
+            return Found::At(p);
+        }
+    }
+    Found::Missing
 }
 
 // Are the lent tables' lengths as they must be for an encoding?

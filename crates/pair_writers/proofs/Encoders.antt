@@ -1,26 +1,31 @@
 -- The encoders by their tests, and the rows that their pointers stand in. Assumes nothing.
-use mathlib.Core.Path.{_≡_, refl, sym}
-use mathlib.Core.Bool.{true, false}
+use mathlib.Core.Path.{_≡_, refl, sym, ap, _∙_}
+use mathlib.Core.Bool.{Bool, true, false, _||_}
 use mathlib.Core.List.{List, [], _∷_}
-use mathlib.Core.Option.{Option, some, none}
-use Prim.Native.Nat.{ℕ, _+_, _-_, _≤_, _<_}
+use Prim.Native.Nat.{ℕ, suc, _+_, _-_, _≤_, _<_}
 use native.Mathlib.Omega.{arith}
-use lib.Dec.{ltb, eqb}
+use lib.Dec.{ltb, leb, eqb}
 use lib.ListN.{length}
-use borrow.Author.Tests.{ltb-true, ltb-false, lt-ltb, le-ltb, eqb-true, eqb-false, eq-eqb, ne-eqb}
-use Rattle.standard.specs.Base.{within}
+use borrow.Author.Tests.{ltb-true, ltb-false, lt-ltb, le-ltb, le-leb, lt-leb, eqb-true, eqb-false, ne-eqb}
+use Rattle.standard.specs.Base.{_then_else_, within}
 use Rattle.standard.specs.Machine.{Result, tokens, error-with}
-use Rattle.standard.specs.Layouts.{Layout, eucJpLayout, shiftJisLayout}
-use Rattle.standard.specs.Search.{passed, passOver, first, Lookup, search, searching}
+use Rattle.standard.specs.Layouts.{Layout}
+use Rattle.standard.specs.Search.{noneOver, passOver, Side, first, last, Lookup, searchFrom, search, searching}
 use Rattle.standard.specs.Encoders.Pairs.{pairOrErrorWith, minus}
+use Rattle.standard.specs.Encoders.Gb18030.{gb18030Encode}
+use Rattle.standard.specs.Encoders.Big5.{big5Over, big5Encode}
+use Rattle.standard.specs.Encoders.EucKr.{eucKrEncode}
 use Rattle.standard.specs.Encoders.EucJp.{jis0208Over, eucJpEncode}
 use Rattle.standard.specs.Encoders.ShiftJis.{shiftJisOver, shiftJisEncode}
 use Rattle.standard.proofs.Search.{search-rule}
-use Rattle.standard.proofs.Tests.{split, within-low, out-above}
+use Rattle.standard.proofs.Tests.{split, choose, under, above, out-above}
 use Rattle.layouts.specs.Rows.{cells, layoutOf, TheBytes}
 use Rattle.layouts.specs.declared.Pair.{Pair}
-use Rattle.layouts.proofs.Rows.{layout-euc-jp, layout-shift-jis}
-use Rattle.pair_writers.specs.Pairs.{pairEncode, InRows}
+use Rattle.layouts.proofs.Rows.{layout-gb18030, layout-big5, layout-euc-jp, layout-shift-jis}
+use Rattle.index.specs.IndexCode.{pointerOf}
+use Rattle.index.specs.declared.Found.{Found}
+use Rattle.index.specs.declared.Found.the-variants.{At, Missing}
+use Rattle.pair_writers.specs.Pairs.{pairEncode, cellsOf, InRows, Inside}
 
 -- past 0x80
 module _ (c : ℕ) where
@@ -80,25 +85,93 @@ euc-jp-rows table e p h s = rw (layout-euc-jp 32 refl) (split (ltb p 8836)
     (λ t. ltb-true p 8836 t)
     (λ t. absurd (omega (arith, out-above 8836 p 11279 s (ltb-false p 8836 t)))))
 
--- By the pointer of a code point.
-module _ (y : Layout) (low high : ℕ) (table : List ℕ) (c : ℕ) where
-  pub by-pointer : InRows low high table y → (p : ℕ) → some p ≡ search first (passOver low high) table c →
-      (r : Pair) → (p < cells y → TheBytes y p r) → {o : Result} → o ≡ tokens (r .lead ∷ r .trail ∷ []) →
-      o ≡ pairOrErrorWith y (search first (passOver low high) table c) c
-  by-pointer i p e r b q =
-      let k = search-rule first (passOver low high) table c .found p (sym e) in
-      let t = b (i p (k .inside) (k .searched)) in
-      rw (sym e) (rw (t .lead, t .trail) at q)
+-- Big5, and those that pass over nothing, stand in their rows.
+pub big5-rows : (table : List ℕ) → length table ≡ 19782 → InRows 0 5023 table (layoutOf 31)
+big5-rows table e p h s = rw (layout-big5 31 refl) (omega arith)
 
-  pub by-none : none ≡ search first (passOver low high) table c → error-with c ≡ pairOrErrorWith y (search first (passOver low high) table c) c
-  by-none e = rw (sym e)
+pub gb18030-rows : (table : List ℕ) → length table ≡ 23940 → InRows 1 0 table (layoutOf 30)
+gb18030-rows table e p h s = rw (layout-gb18030 30 (omega arith)) (omega arith)
+
+pub euc-kr-rows : (table : List ℕ) → length table ≡ 23940 → InRows 1 0 table (layoutOf 35)
+unfolding layoutOf
+euc-kr-rows table e p h s = omega arith
+
+-- A pointer that is found by a search stands in the rows.
+pub in-rows : (side : Side) (y : Layout) (low high : ℕ) (table : List ℕ) (c : ℕ) → InRows low high table y →
+    (f : Found) → pointerOf f ≡ search side (passOver low high) table c → Inside y f
+in-rows side y low high table c i f e p q =
+    let k = search-rule side (passOver low high) table c .found p (sym e ∙ q) in
+    i p (k .inside) (k .searched)
+
+-- By the pointer of a code point.
+module _ (y : Layout) (c : ℕ) where
+  pub by-pointer : (f : Found) (p : ℕ) → f ≡ At p → Inside y f → (r : Pair) → (p < cells y → TheBytes y p r) →
+      {o : Result} → o ≡ tokens (r .lead ∷ r .trail ∷ []) → o ≡ pairOrErrorWith y (pointerOf f) c
+  by-pointer f p e i r b q =
+      let t = b (i p (ap pointerOf e)) in
+      rw e (rw (t .lead, t .trail) at q)
+
+  pub by-none : (f : Found) → f ≡ Missing → error-with c ≡ pairOrErrorWith y (pointerOf f) c
+  by-none f e = rw e
+
+-- From 1 to 0 no pointer is passed over.
+pub none-passed : (side : Side) (p : ℕ) (table : List ℕ) (c : ℕ) →
+    searchFrom side (passOver 1 0) p table c ≡ searchFrom side noneOver p table c
+unfolding searchFrom
+none-passed side p [] c = refl
+none-passed side p (x ∷ table) c = rw (no-one, none-passed side (suc p) table c)
+  where
+    no-one : within 1 p 0 ≡ false
+    no-one = split (ltb p 1) (λ t. under 1 p 0 (ltb-true p 1 t)) (λ t. above 1 p 0 (omega (arith, ltb-false p 1 t)))
+
+-- the encoders of Ask 7
+module _ (c : ℕ) where
+  pub euc-kr-self : (look : Lookup) → c < 0x80 → tokens (c ∷ []) ≡ eucKrEncode look c
+  unfolding eucKrEncode
+  euc-kr-self look h = rw (lt-ltb c 0x80 h)
+
+  pub euc-kr-pair : (table : List ℕ) → 0x80 ≤ c →
+      pairOrErrorWith (layoutOf 35) (search first (passOver 1 0) table c) c ≡ eucKrEncode (searching table) c
+  unfolding eucKrEncode layoutOf
+  euc-kr-pair table h = rw (le-ltb c 0x80 h, none-passed first 0 table c)
+
+  pub big5-self : (look : Lookup) → c < 0x80 → tokens (c ∷ []) ≡ big5Encode look c
+  unfolding big5Encode
+  big5-self look h = rw (lt-ltb c 0x80 h)
+
+  -- the side is `last` or `first` by the test
+  pub big5-pair : (table : List ℕ) → 0x80 ≤ c → (t : Bool) →
+      t ≡ (eqb c 0x2550 || eqb c 0x255E || eqb c 0x2561 || eqb c 0x256A || eqb c 0x5341 || eqb c 0x5345) →
+      pairOrErrorWith (layoutOf 31) (search (t then last else first) big5Over table c) c ≡ big5Encode (searching table) c
+  unfolding big5Encode
+  big5-pair table h t e = rw (layout-big5 31 refl, le-ltb c 0x80 h, ← e)
 
 -- by the encoding's number
-module _ (e : ℕ) (table : List ℕ) (c : ℕ) where
-  pub of-euc-jp : e ≡ 32 → eucJpEncode (searching table) c ≡ pairEncode e table c
+module _ (e : ℕ) (table second : List ℕ) (c : ℕ) where
+  pub of-gb18030 : e ≤ 30 → gb18030Encode (eqb e 29) (searching table) second c ≡ pairEncode e table second c
+  unfolding pairEncode
+  of-gb18030 h = rw (le-leb e 30 h)
+
+  pub of-big5 : e ≡ 31 → big5Encode (searching table) c ≡ pairEncode e table second c
+  unfolding pairEncode
+  of-big5 h = rw h
+
+  pub of-euc-jp : e ≡ 32 → eucJpEncode (searching table) c ≡ pairEncode e table second c
   unfolding pairEncode
   of-euc-jp h = rw h
 
-  pub of-shift-jis : (e ≡ 32 → ⊥) → shiftJisEncode (searching table) c ≡ pairEncode e table c
+  pub of-shift-jis : e ≡ 34 → shiftJisEncode (searching table) c ≡ pairEncode e table second c
   unfolding pairEncode
-  of-shift-jis h = rw (ne-eqb e 32 h)
+  of-shift-jis h = rw h
+
+  pub of-euc-kr : 30 < e → (e ≡ 31 → ⊥) → (e ≡ 32 → ⊥) → (e ≡ 34 → ⊥) → eucKrEncode (searching table) c ≡ pairEncode e table second c
+  unfolding pairEncode
+  of-euc-kr h f g i = rw (lt-leb e 30 h, ne-eqb e 31 f, ne-eqb e 32 g, ne-eqb e 34 i)
+
+-- its table is not long
+pub cells-few : (e : ℕ) → cellsOf e ≤ 23940
+cells-few e =
+    choose (λ n. n ≤ 23940) (leb e 30) (λ _. omega arith) (λ _.
+    choose (λ n. n ≤ 23940) (eqb e 31) (λ _. omega arith) (λ _.
+    choose (λ n. n ≤ 23940) (eqb e 32) (λ _. omega arith) (λ _.
+    choose (λ n. n ≤ 23940) (eqb e 34) (λ _. omega arith) (λ _. omega arith))))

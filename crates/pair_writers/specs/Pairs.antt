@@ -3,31 +3,52 @@
 use mathlib.Core.Path.{_≡_}
 use mathlib.Core.Bool.{true, false}
 use mathlib.Core.List.{List, [], _∷_}
+use mathlib.Core.Option.{some}
 use Prim.Native.Nat.{ℕ, suc, _+_, _%_, _≤_, _<_}
-use lib.Dec.{eqb}
+use lib.Dec.{leb, eqb}
 use lib.ListN.{length, getD, set, replicate}
 use Rattle.standard.specs.Base.{_then_else_, mapped}
 use Rattle.standard.specs.Machine.{Result, tokens, error-with}
 use Rattle.standard.specs.Layouts.{Layout}
 use Rattle.standard.specs.Search.{PassedOver, passed, passOver, searching}
-use Rattle.standard.specs.Encoders.EucJp.{jis0208Over, eucJpEncode}
-use Rattle.standard.specs.Encoders.ShiftJis.{shiftJisOver, shiftJisEncode}
+use Rattle.standard.specs.Encoders.Gb18030.{gb18030Encode}
+use Rattle.standard.specs.Encoders.Big5.{big5Encode}
+use Rattle.standard.specs.Encoders.EucJp.{eucJpEncode}
+use Rattle.standard.specs.Encoders.ShiftJis.{shiftJisEncode}
+use Rattle.standard.specs.Encoders.EucKr.{eucKrEncode}
+use Rattle.index.specs.IndexCode.{pointerOf}
+use Rattle.index.specs.declared.Found.{Found}
 use Rattle.layouts.specs.Rows.{cells}
 use Rattle.pair_writers.specs.declared.One.{One}
 
 -- The bytes of the code's answer, and the encoder's word for it.
 abbrev pub bytesOf : One → List ℕ
-bytesOf o = eqb (o .count) 1 then o .first ∷ [] else o .first ∷ o .second ∷ []
+bytesOf o =
+    eqb (o .count) 1 then o .first ∷ [] else
+    eqb (o .count) 2 then o .first ∷ o .second ∷ [] else
+    o .first ∷ o .second ∷ o .third ∷ o .fourth ∷ []
 
 abbrev pub told : One → Result
 told o = eqb (o .count) 0 then error-with (o .named) else tokens (bytesOf o)
 
--- The encoder of an encoding number, of those that write pairs, with its table, and the pointers that it passes over.
-unfoldable pub pairEncode : ℕ → List ℕ → ℕ → Result
-pairEncode e table = eqb e 32 then eucJpEncode (searching table) else shiftJisEncode (searching table)
+-- The encoder of an encoding number, of those that write pairs, with its tables.
+unfoldable pub pairEncode : ℕ → List ℕ → List ℕ → ℕ → Result
+pairEncode e table second =
+    leb e 30 then gb18030Encode (eqb e 29) (searching table) second else
+    eqb e 31 then big5Encode (searching table) else
+    eqb e 32 then eucJpEncode (searching table) else
+    eqb e 34 then shiftJisEncode (searching table) else
+    eucKrEncode (searching table)
 
-abbrev pub overOf : ℕ → PassedOver
-overOf e = eqb e 32 then jis0208Over else shiftJisOver
+-- The pointers that it passes over, from low to high; from 1 to 0 there is none. And the cells of its first table.
+abbrev pub lowOf : ℕ → ℕ
+lowOf e = leb e 30 then 1 else eqb e 31 then 0 else eqb e 32 then 8836 else eqb e 34 then 8272 else 1
+
+abbrev pub highOf : ℕ → ℕ
+highOf e = leb e 30 then 0 else eqb e 31 then 5023 else eqb e 32 then 11279 else eqb e 34 then 10715 else 0
+
+abbrev pub cellsOf : ℕ → ℕ
+cellsOf e = leb e 30 then 23940 else eqb e 31 then 19782 else eqb e 32 then 11280 else eqb e 34 then 11280 else 23940
 
 -- A pointer that is searched, whose cell counts as mapped and has this remainder.
 pub record Has (over : PassedOver) (table : List ℕ) (k q : ℕ) : Type 0 where
@@ -53,17 +74,21 @@ entered over slots c p = passed over p then slots else mapped c then set slots (
 abbrev pub Aids : PassedOver → List ℕ → List ℕ → Type 0
 Aids over table slots = length slots ≡ 16384 → Filled over table 0 slots
 
--- What a search is lent: index jis0208, and slots; by the encoding number.
-abbrev pub Helped : PassedOver → List ℕ → List ℕ → Type 0
-Helped over table slots = (length table ≡ 11280) × Aids over table slots
+-- What a search is lent: a table of n cells, and slots; by the encoding number.
+abbrev pub Helped : ℕ → PassedOver → List ℕ → List ℕ → Type 0
+Helped n over table slots = (length table ≡ n) × Aids over table slots
 
 abbrev pub Ready : ℕ → List ℕ → List ℕ → Type 0
-Ready e table slots = Helped (overOf e) table slots
+Ready e table slots = Helped (cellsOf e) (passOver (lowOf e) (highOf e)) table slots
 
--- index jis0208, and empty slots
-abbrev pub Fillable : List ℕ → List ℕ → Type 0
-Fillable table slots = (length table ≡ 11280) × (slots ≡ replicate 16384 0)
+-- its first table, and empty slots
+abbrev pub Fillable : ℕ → List ℕ → List ℕ → Type 0
+Fillable e table slots = (length table ≡ cellsOf e) × (slots ≡ replicate 16384 0)
 
 -- The pointers that are searched stand in the rows of a layout.
 abbrev pub InRows : ℕ → ℕ → List ℕ → Layout → Type 0
 InRows low high table y = (p : ℕ) → p < length table → passed (passOver low high) p ≡ false → p < cells y
+
+-- A pointer that is found stands in them.
+abbrev pub Inside : Layout → Found → Type 0
+Inside y found = (p : ℕ) → pointerOf found ≡ some p → p < cells y

@@ -9,8 +9,9 @@ ghost use Rattle.standard.specs.Base.{within};
 ghost use Rattle.standard.specs.Machine.{tokens, error-with};
 ghost use Rattle.standard.specs.Search.{passOver, first, search};
 ghost use Rattle.standard.specs.Encoders.Pairs.{pairOrErrorWith, minus};
+ghost use Rattle.index.specs.IndexCode.{pointerOf};
 ghost use Rattle.layouts.specs.Rows.{layoutOf};
-ghost use Rattle.pair_writers.specs.Pairs.{told, Aids, InRows};
+ghost use Rattle.pair_writers.specs.Pairs.{told, Aids, InRows, Inside};
 
 pub(crate) fn one_byte(b: u8) -> One
     ensures { λ r. ⌜ told r ≡ tokens (b ∷ []) ⌝ }
@@ -20,6 +21,8 @@ pub(crate) fn one_byte(b: u8) -> One
         count: 1,
         first: b,
         second: 0,
+        third: 0,
+        fourth: 0,
     }
 }
 
@@ -31,6 +34,8 @@ pub(crate) fn two_bytes(u: u8, v: u8) -> One
         count: 2,
         first: u,
         second: v,
+        third: 0,
+        fourth: 0,
     }
 }
 
@@ -42,6 +47,8 @@ pub(crate) fn unwritable(c: u32) -> One
         count: 0,
         first: 0,
         second: 0,
+        third: 0,
+        fourth: 0,
     }
 }
 
@@ -65,16 +72,24 @@ pub(crate) fn minus(c: u32) -> u32
     c
 }
 
-// The two bytes of a code point's pointer, with the pointers from low to high passed over; or an error that names the code point.
-pub(crate) fn pair(encoding: u8, table: &[u32], slots: &[u16], low: u32, high: u32, c: u32) -> One
-    ensures { λ r. ⌜ (InRows low high (now (table .entry)) (layoutOf encoding) → Aids (passOver low high) (now (table .entry)) (now (slots .entry)) →
-        told r ≡ pairOrErrorWith (layoutOf encoding) (search first (passOver low high) (now (table .entry)) c) c) ⌝ }
+// The two bytes of a pointer that is found; or an error that names the code point.
+pub(crate) fn at(encoding: u8, found: Found, c: u32) -> One
+    ensures { λ r. ⌜ (Inside (layoutOf encoding) found → told r ≡ pairOrErrorWith (layoutOf encoding) (pointerOf found) c) ⌝ }
 {
-    match slots::pointer(table, slots, low, high, c) {
+    match found {
         Found::At(p) => {
             let pair = layouts::two_bytes(encoding, p);
             two_bytes(pair.lead, pair.trail)
         }
         Found::Missing => unwritable(c),
     }
+}
+
+// The same of a code point's first pointer, with the pointers from low to high passed over.
+pub(crate) fn pair(encoding: u8, table: &[u32], slots: &[u16], low: u32, high: u32, c: u32) -> One
+    ensures { λ r. ⌜ (InRows low high (now (table .entry)) (layoutOf encoding) →
+        Aids (passOver low high) (now (table .entry)) (now (slots .entry)) →
+        told r ≡ pairOrErrorWith (layoutOf encoding) (search first (passOver low high) (now (table .entry)) c) c) ⌝ }
+{
+    at(encoding, slots::pointer(table, slots, low, high, c), c)
 }

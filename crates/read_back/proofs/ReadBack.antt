@@ -1,6 +1,6 @@
 -- Reading back: what the writer's call wrote in refusing mode goes through the decoder's calls. Assumes nothing.
 use mathlib.Core.Path.{_≡_, refl, ap, _∙_}
-use mathlib.Core.Bool.{Bool, true, false, not, _||_, and-false}
+use mathlib.Core.Bool.{true, not, and-false}
 use mathlib.Core.List.{List, [], _∷_, _++_, append-nil, map}
 use mathlib.Core.Option.{Option, some, none}
 use Prim.Native.Nat.{ℕ, suc, _≤_}
@@ -14,12 +14,13 @@ use Rattle.standard.specs.Encodings.{family, Tables, fits}
 use Rattle.standard.specs.Search.{searching}
 use Rattle.standard.specs.Sequence.{plain}
 use Rattle.standard.specs.Next.{next}
-use Rattle.standard.specs.Decode.{Item, Read, decode, oneError, ending, shown, everything}
-use Rattle.standard.specs.Writers.{Writer, utf-8, single-byte, windows-1252, euc-jp, shift-jis, x-user-defined, writerOf, reader}
-use Rattle.standard.specs.Images.{jpImage, image, jpLeavesOut, leavesOut}
+use Rattle.standard.specs.Decode.{Item, Read, decode, ending, shown, everything}
+use Rattle.standard.specs.Writers.{Writer, writerOf, reader}
+use Rattle.standard.specs.Images.{image, leavesOut}
 use Rattle.standard.proofs.Tests.{choose, and-both}
 use Rattle.standard.proofs.Search.{plain-sound}
-use Rattle.standard.proofs.Writers.{reader-of}
+use Rattle.standard.proofs.Reading.{no-bytes}
+use Rattle.standard.proofs.Writers.{reader-of, own-image}
 use Rattle.standard.specs.Choice.{spot, Parsed, lift, readFrom, everythingFrom}
 use Rattle.standard.specs.Choice.{reader as readerAt}
 use Rattle.standard.proofs.Stages.{read-on}
@@ -40,16 +41,6 @@ use Rattle.read_back.proofs.Decoding.{Reads, written-reads, reads-whole
 record Good (e : ℕ) (t : Tables) (cs bs : List ℕ) : Type 0 where
   number : e ≤ 39
   read : Reads (next t (family e)) plain bs plain cs
-
--- nothing is left at the end
-ends : (t : Tables) (w : Writer) → ending t (reader w) plain [] ≡ []
-unfolding ending oneError
-ends t utf-8 = refl
-ends t single-byte = refl
-ends t windows-1252 = refl
-ends t euc-jp = refl
-ends t shift-jis = refl
-ends t x-user-defined = refl
 
 -- What an outcome without a refusal wrote is good: it reads as the images.
 record Fine (w : Writer) (e : ℕ) (t : Tables) (cs : List ℕ) (o : Outcome) : Type 0 where
@@ -90,7 +81,7 @@ unfolding openRefusal
 opens e m p q = rw (le-ltb 39 e p, le-ltb 1 m q)
 
 -- Such bytes through the decoder's calls.
-module _ (w : Writer) (e m : ℕ) (t : Tables) (cs bs : List ℕ) (m-number : m ≤ 1) (number : writerOf e ≡ some w) (g : Good e t cs bs) where
+module _ (e m : ℕ) (t : Tables) (cs bs : List ℕ) (m-number : m ≤ 1) (g : Good e t cs bs) where
   abbrev items : List Item
   items = g .read .items
 
@@ -111,7 +102,7 @@ module _ (w : Writer) (e m : ℕ) (t : Tables) (cs bs : List ℕ) (m-number : m 
   unfolding everything readerAt
   all = rw (kept-new e) (all-read t e (spot 0 plain) bs refl ∙
       ap (λ (r : Read). r .items ++ ending t (family e) (r .shift) (r .rest)) (reads-whole t (family e) (g .read)) ∙
-      rw (reader-of e w number, ends t w, append-nil))
+      rw (no-bytes t (family e) plain, append-nil))
 
   whole : wholeAccount t e m 1 bs ≡ record { handed = cs; reports = []; decoder = closed e m 0 (lineFeeds cs) }
   unfolding wholeAccount dealt
@@ -124,34 +115,16 @@ module _ (w : Writer) (e m : ℕ) (t : Tables) (cs bs : List ℕ) (m-number : m 
   back : ReadBack e m t cs bs
   back = record { fed = fed; finished = finished }
 
--- A scalar that is not left out is its own image.
-or-none : (a b : Bool) → a || b ≡ false → (a ≡ false) × (b ≡ false)
-or-none true b h = let z : _≡_ {A = ℕ} 0 1 = cc in absurd (omega arith)
-or-none false b h = (refl, h)
-
-jp-self : (c : ℕ) → jpLeavesOut c ≡ false → jpImage c ≡ c
-jp-self c h =
-    let p = or-none (eqb c 0xA5 || eqb c 0x203E) (eqb c 0x2212) h in
-    let q = or-none (eqb c 0xA5) (eqb c 0x203E) (p .0) in
-    rw (q .0, q .1, p .1)
-
-self : (w : Writer) (second : List ℕ) (c : ℕ) → leavesOut w c ≡ false → image w second c ≡ c
-self utf-8 second c h = refl
-self single-byte second c h = refl
-self windows-1252 second c h = refl
-self euc-jp second c h = jp-self c h
-self shift-jis second c h = jp-self c h
-self x-user-defined second c h = refl
-
+-- Scalars none of which is left out are their own images.
 selves : (w : Writer) (second cs : List ℕ) → every (λ c. not (leavesOut w c)) cs ≡ true → map (image w second) cs ≡ cs
 unfolding every
 selves w second [] h = refl
 selves w second (c ∷ cs) h =
     let l = and-both (not (leavesOut w c)) (every (λ c. not (leavesOut w c)) cs) h in
-    let e : image w second c ≡ c = self w second c (not-true (leavesOut w c) (l .0)) in
+    let e : image w second c ≡ c = own-image w second c (not-true (leavesOut w c) (l .0)) in
     rw e (ap (_∷_ c) (selves w second cs (l .1)))
 
 pub reads-back : ReadsBack
 reads-back w e m t cs room h q z =
-    let images = back w e m t (map (image w (t .second)) cs) (written (writerCall e 1 t cs room)) h q (call-good w e t cs room q .good z) in
+    let images = back e m t (map (image w (t .second)) cs) (written (writerCall e 1 t cs room)) h (call-good w e t cs room q .good z) in
     record { as-images = images; as-themselves = λ n. rw (selves w (t .second) cs n) at images }

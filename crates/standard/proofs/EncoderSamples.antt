@@ -1,9 +1,13 @@
 -- The samples of the encoders, by computation. Assumes nothing.
 use mathlib.Core.Path.{refl}
+use Rattle.standard.specs.Indexes.{lastPair, rangesCodePoint, rangesPointer}
 use Rattle.standard.specs.Search.{searchFrom}
+use Rattle.standard.specs.Encoders.Gb18030.{gb18030Encode}
+use Rattle.standard.specs.Encoders.Big5.{big5Encode}
 use Rattle.standard.specs.Encoders.EucJp.{eucJpEncode}
 use Rattle.standard.specs.Encoders.ShiftJis.{shiftJisEncode}
-use Rattle.standard.specs.Encoders.Samples.{EncoderSamples}
+use Rattle.standard.specs.Encoders.EucKr.{eucKrEncode}
+use Rattle.standard.specs.Encoders.Samples.{EncoderSamples, ChineseSamples}
 
 pub encoder-samples : EncoderSamples
 unfolding searchFrom eucJpEncode shiftJisEncode
@@ -30,4 +34,61 @@ encoder-samples = record {
   euc-jp-2212 = refl;
   shift-jis-no-FF0D = refl;
   euc-jp-no-FF0D = refl;
+}
+
+pub chinese-samples : ChineseSamples
+unfolding lastPair rangesCodePoint rangesPointer searchFrom gb18030Encode big5Encode eucKrEncode
+chinese-samples = record {
+  gbk-E5E5 = refl;
+  gb18030-E5E5 = refl;
+  gb18030-E5E5-pair = refl;
+  gb18030-E5E6-pair = refl;
+  gbk-20AC = refl;
+  gb18030-20AC = refl;
+  gb18030-20AC-pair = refl;
+  gb18030-20AC-none = refl;
+  gb18030-E7C7 = refl;
+  gb18030-E7C7-none = refl;
+  gb18030-E7C7-pair = refl;
+  gbk-E7C7 = refl;
+  gbk-pair = refl;
+  pointer-39419 = refl;
+  pointer-39420 = refl;
+  pointer-188999 = refl;
+  pointer-189000 = refl;
+  pointer-1237575 = refl;
+  pointer-1237576 = refl;
+  first-pair = refl;
+  last-pair = refl;
+  list-order = refl;
+  not-above = refl;
+  surrogate-pair = refl;
+  no-pair = refl;
+  no-other-pair = refl;
+  pointer-7457 = refl;
+  reads-otherwise = refl;
+  published-4DFF = refl;
+  published-4E00 = refl;
+  published-9FA6 = refl;
+  no-wrap = refl;
+  big5-5023 = refl;
+  big5-5024 = refl;
+  big5-5023-last = refl;
+  big5-2550 = refl;
+  big5-255E = refl;
+  big5-2561 = refl;
+  big5-256A = refl;
+  big5-5341 = refl;
+  big5-5345 = refl;
+  big5-2551 = refl;
+  big5-5344 = refl;
+  gbk-first = refl;
+  gbk-62 = refl;
+  gbk-63 = refl;
+  big5-5086 = refl;
+  big5-5087 = refl;
+  euc-kr-first = refl;
+  euc-kr-62 = refl;
+  euc-kr-63 = refl;
+  euc-kr-none = refl;
 }

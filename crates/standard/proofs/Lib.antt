@@ -7,6 +7,7 @@ pub mod FamilyLaws
 pub mod ReadsBack
 pub mod ReadsBackBytes
 pub mod ReadsBackPairs
+pub mod ReadsBackChinese
 pub mod Walk
 pub mod AnyTables
 pub mod Items

@@ -14,7 +14,7 @@ use Rattle.standard.specs.Machine.{Result, tokens, error-with}
 use Rattle.standard.specs.Sequence.{Next, scalar, cell, pair}
 use Rattle.standard.specs.Search.{PassedOver, passed, Side, Lookup, Sound}
 use Rattle.standard.specs.Layouts.{Layout, leads, trails, pointerOf, leadOf, trailOf, twoBytes}
-use Rattle.standard.specs.Encoders.Pairs.{pairOrErrorWith}
+use Rattle.standard.specs.Encoders.Pairs.{pairOr}
 use Rattle.standard.proofs.Laws.{mapped-real}
 use Rattle.standard.proofs.Layouts.{Regular, two-bytes}
 
@@ -46,13 +46,15 @@ pub record ReadsPairs (n : List ℕ → Next) (y : Layout) (over : PassedOver) (
   pub pairs : (b c p : ℕ) (ys : List ℕ) → leads y b ≡ true → trails y c ≡ true → pointerOf y b c ≡ p → passed over p ≡ false →
       n (b ∷ c ∷ ys) ≡ pair c (cell index p)
 
--- Every pointer that a sound look-up gives is written as two bytes that read back, by the law of the layout.
+-- Every pointer that a sound look-up gives is written as two bytes that read back, by the law of the layout. Without one the answer is
+-- `other`.
 pub by-lookup : {n : List ℕ → Next} {y : Layout} {over : PassedOver} {index : List ℕ} → ReadsPairs n y over index →
-    {look : Lookup} → Sound look index → (side : Side) (c : ℕ) → ReadsBack n c (pairOrErrorWith y (look side over c) c)
-by-lookup {n} {y} {over} {index} R {look} S side c = go (look side over c) refl
+    {look : Lookup} → Sound look index → (side : Side) (c : ℕ) {other : Result} → ReadsBack n c other →
+    ReadsBack n c (pairOr y (look side over c) other)
+by-lookup {n} {y} {over} {index} R {look} S side c {other} B = go (look side over c) refl
   where
-    go : (o : Option ℕ) → look side over c ≡ o → ReadsBack n c (pairOrErrorWith y o c)
-    go none e = no-bytes c
+    go : (o : Option ℕ) → look side over c ≡ o → ReadsBack n c (pairOr y o other)
+    go none e = B
     go (some p) e =
         let f = S .sound side over c p e in
         let x = cell-of index p c (f .code) in

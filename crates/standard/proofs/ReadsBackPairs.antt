@@ -23,7 +23,7 @@ use Rattle.standard.specs.Images.{jpImage}
 use Rattle.standard.proofs.Tests.{split, choose, or-case, within-low, within-high, under, above, in-range, not-zero}
 use Rattle.standard.proofs.Layouts.{euc-jp-regular, shift-jis-regular, shift-jis-low, shift-jis-no-kana}
 use Rattle.standard.proofs.UserRows.{shift-jis-indexed}
-use Rattle.standard.proofs.ReadsBack.{ReadsBack, by-bytes, ReadsPairs, by-lookup}
+use Rattle.standard.proofs.ReadsBack.{ReadsBack, by-bytes, no-bytes, ReadsPairs, by-lookup}
 
 -- outside a range
 outside : {A : Type 0} (l p h : ℕ) → within l p h ≡ false → (p < l → A) → (h < p → A) → A
@@ -85,7 +85,7 @@ module _ (t : Tables) (n : length (t .first) ≤ 11280) {look : Lookup} (S : Sou
       (λ b ys h. rw h)
       (λ h. (omega (arith, ltb-true c 0x80 h), λ ys. rw h))
       (λ h ys. rw (kana-byte c h, kana-back c h, not-zero 0xFF61 c 0xFF9F (lit≤ tt) h))
-      (by-lookup euc-jp-pairs S first (minus c))
+      (by-lookup euc-jp-pairs S first (minus c) (no-bytes (minus c)))
 
   -- the passed-over stretch covers the user rows
   shift-jis-pairs : ReadsPairs (shiftJis t) shiftJisLayout shiftJisOver (t .first)
@@ -107,4 +107,4 @@ module _ (t : Tables) (n : length (t .first) ≤ 11280) {look : Lookup} (S : Sou
       or-case (ascii c) (eqb c 0x80) h (λ e. omega (arith, ltb-true c 0x80 e)) (λ e. omega (arith, eqb-true c 0x80 e)) in
       (small, λ ys. rw (le-leb c 0x80 small)))
       (λ h ys. rw (lt-leb (c - 0xFF61 + 0xA1) 0x80 (omega arith), kana-byte c h, kana-back c h))
-      (by-lookup shift-jis-pairs S first (minus c))
+      (by-lookup shift-jis-pairs S first (minus c) (no-bytes (minus c)))

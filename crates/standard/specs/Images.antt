@@ -12,8 +12,8 @@ use Rattle.standard.specs.Search.{Lookup, Sound}
 use Rattle.standard.specs.Encoders.Pairs.{minus}
 use Rattle.standard.specs.Sequence.{plain, scalar}
 use Rattle.standard.specs.Next.{next}
-use Rattle.standard.specs.Writers.{Writer, utf-8, single-byte, windows-1252, euc-jp, shift-jis, x-user-defined}
-use Rattle.standard.specs.Writers.{stateless, coding, reader}
+use Rattle.standard.specs.Writers.{Writer, utf-8, single-byte, windows-1252, gbk, gb18030, big5, euc-jp, shift-jis, euc-kr}
+use Rattle.standard.specs.Writers.{x-user-defined, stateless, coding, reader}
 
 -- Shift_JIS and EUC-JP: itself, but U+00A5 as 5C, U+203E as 7E, U+2212 as U+FF0D
 abbrev pub jpImage : ℕ → ℕ
@@ -24,8 +24,12 @@ abbrev pub image : Writer → List ℕ → ℕ → ℕ
 image utf-8 second c = c
 image single-byte second c = c
 image windows-1252 second c = c
+image gbk second c = c
+image gb18030 second c = c
+image big5 second c = c
 image euc-jp second c = jpImage c
 image shift-jis second c = jpImage c
+image euc-kr second c = c
 image x-user-defined second c = c
 
 -- 02: the scalars that the read-back clause leaves out
@@ -36,8 +40,12 @@ abbrev pub leavesOut : Writer → ℕ → Bool
 leavesOut utf-8 c = false
 leavesOut single-byte c = false
 leavesOut windows-1252 c = false
+leavesOut gbk c = false
+leavesOut gb18030 c = false
+leavesOut big5 c = false
 leavesOut euc-jp c = jpLeavesOut c
 leavesOut shift-jis c = jpLeavesOut c
+leavesOut euc-kr c = false
 leavesOut x-user-defined c = false
 
 -- The law of one scalar; `proofs/Writers.antt` proves it. With tables that fit and any sound look-up, the bytes of a scalar, whatever

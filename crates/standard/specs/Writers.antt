@@ -1,5 +1,6 @@
 -- The writers by encoding number: 000's encoders, run by the same machine as the decoders, and the decoder that reads each.
 -- Assumes nothing.
+use mathlib.Core.Bool.{true, false}
 use mathlib.Core.List.{List, []}
 use mathlib.Core.Option.{Option, some, none}
 use Prim.Native.Nat.{ℕ, _+_, _*_}
@@ -13,11 +14,14 @@ use Rattle.standard.specs.Search.{Lookup, searching}
 use Rattle.standard.specs.Encoders.Utf8.{utf8Encode}
 use Rattle.standard.specs.Encoders.SingleByte.{singleByteEncode}
 use Rattle.standard.specs.Encoders.UserDefined.{userDefinedEncode}
+use Rattle.standard.specs.Encoders.Gb18030.{gb18030Encode}
+use Rattle.standard.specs.Encoders.Big5.{big5Encode}
 use Rattle.standard.specs.Encoders.EucJp.{eucJpEncode}
 use Rattle.standard.specs.Encoders.ShiftJis.{shiftJisEncode}
+use Rattle.standard.specs.Encoders.EucKr.{eucKrEncode}
 
 pub data Writer : Type 0 where
-  utf-8 single-byte windows-1252 euc-jp shift-jis x-user-defined : Writer
+  utf-8 single-byte windows-1252 gbk gb18030 big5 euc-jp shift-jis euc-kr x-user-defined : Writer
 
 -- The numbers that have a writer; the others have none (refusal 9).
 unfoldable pub writerOf : ℕ → Option Writer
@@ -25,8 +29,12 @@ writerOf e =
     eqb e 0 then some utf-8 else
     eqb e 21 then some windows-1252 else
     leb e 28 then some single-byte else
+    eqb e 29 then some gbk else
+    eqb e 30 then some gb18030 else
+    eqb e 31 then some big5 else
     eqb e 32 then some euc-jp else
     eqb e 34 then some shift-jis else
+    eqb e 35 then some euc-kr else
     eqb e 39 then some x-user-defined else
     none
 
@@ -39,8 +47,12 @@ abbrev pub coding : Writer → Lookup → List ℕ → Coding
 coding utf-8 look second = stateless utf8Encode
 coding single-byte look second = stateless (singleByteEncode look)
 coding windows-1252 look second = stateless (singleByteEncode (searching windows1252))
+coding gbk look second = stateless (gb18030Encode true look second)
+coding gb18030 look second = stateless (gb18030Encode false look second)
+coding big5 look second = stateless (big5Encode look)
 coding euc-jp look second = stateless (eucJpEncode look)
 coding shift-jis look second = stateless (shiftJisEncode look)
+coding euc-kr look second = stateless (eucKrEncode look)
 coding x-user-defined look second = stateless userDefinedEncode
 
 -- step 1 of each encoder without variables, and the others
@@ -66,6 +78,10 @@ abbrev pub reader : Writer → Family
 reader utf-8 = Family.UTF-8
 reader single-byte = Family.single-byte
 reader windows-1252 = Family.windows-1252
+reader gbk = Family.GB18030
+reader gb18030 = Family.GB18030
+reader big5 = Family.Big5
 reader euc-jp = Family.EUC-JP
 reader shift-jis = Family.Shift-JIS
+reader euc-kr = Family.EUC-KR
 reader x-user-defined = Family.x-user-defined

@@ -636,7 +636,8 @@ pub fn scalars(published: &Published) -> Result<String, String> {
 fn edged(published: &[u32]) -> Vec<Vec<u32>> {
     let mut strewn = published.to_vec();
     let odd = [
-        0xA5, 0x203E, 0x2212, 0xFF0D, 0xFF61, 0xFF9F, 0x80, 0x41, 0xD800, 0x110000,
+        0xA5, 0x203E, 0x2212, 0xFF0D, 0xFF61, 0xFF9F, 0x80, 0x41, 0xD800, 0x110000, 0x20AC, 0xE5E5,
+        0xE7C7, 0x2550, 0x5341,
     ];
     for (place, cell) in strewn.iter_mut().enumerate() {
         match place % 7 {
@@ -646,7 +647,7 @@ fn edged(published: &[u32]) -> Vec<Vec<u32>> {
         }
     }
     let mut sides = vec![0; published.len()];
-    for (place, cell) in [8271, 8272, 8835, 8836, 10715, 10716, 11279]
+    for (place, cell) in [5023, 5024, 8271, 8272, 8835, 8836, 10715, 10716, 11279]
         .into_iter()
         .zip(0x4E00..)
     {
@@ -655,15 +656,24 @@ fn edged(published: &[u32]) -> Vec<Vec<u32>> {
     vec![published.to_vec(), strewn, sides]
 }
 
-/// Every scalar of the first plane, and some beyond it, through the writers of pairs; what refusing mode writes is read
-/// back.
+/// Every scalar of the first plane, and some beyond it, through the writers of Shift_JIS and EUC-JP, and every fourth, and
+/// those with rules of their own, through the other writers of pairs, whose tables are longer; what refusing mode writes
+/// is read back.
 pub fn pair_writers(published: &Published) -> Result<String, String> {
-    let all: Vec<u32> = (0..=0xFFFF)
+    let plane: Vec<u32> = (0..=0xFFFF)
         .chain([0x10000, 0x1F4A9, 0x2000B, 0x10FFFF])
         .filter(|&scalar| is_scalar(scalar))
         .collect();
+    let ruled = [
+        0x20AC, 0x2550, 0x255E, 0x2561, 0x256A, 0x5341, 0x5345, 0xE5E5, 0xE7C7, 0x4E00, 0x4E01,
+    ];
+    let fourth: Vec<u32> = plane.iter().copied().step_by(4).chain(ruled).collect();
     let (mut written, mut refused) = (0, 0);
-    for encoding in [32u8, 34] {
+    for encoding in [29u8, 30, 31, 32, 34, 35] {
+        let all = match encoding {
+            32 | 34 => &plane,
+            _ => &fourth,
+        };
         let tables = published.tables(encoding);
         for first in edged(tables.first) {
             let tables = Tables {

@@ -253,7 +253,7 @@ fn encodes(published: &Published, calls: &mut Calls) {
                 let (first, second) = zeros(published, encoding, &causes, which);
                 let mut scalars = vec![0x41];
                 if causes.contains(&11) {
-                    scalars.push(0x4E00);
+                    scalars.push(0xE5E5);
                 }
                 if causes.contains(&8) {
                     scalars.resize(16385, 0x41);

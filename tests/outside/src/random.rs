@@ -392,10 +392,10 @@ impl Lists {
             },
             2 | 3 => {
                 let encoding = match random.below(12) {
-                    0 => random.pick(&[29, 31, 33, 38, 40, 255]),
+                    0 => random.pick(&[33, 36, 37, 38, 40, 255]),
                     1 => 0,
                     2 => 39,
-                    3..=5 => random.pick(&[32, 34]),
+                    3..=6 => random.pick(&[29, 30, 30, 31, 32, 34, 35]),
                     _ => 1 + random.below(28) as u8,
                 };
                 let length = match random.below(400) {

@@ -1207,7 +1207,7 @@ pub struct Encoded {
 
 /// Whether an encoding has a writer.
 pub fn has_writer(encoding: u8) -> bool {
-    matches!(encoding, 0..=28 | 32 | 34 | 39)
+    matches!(encoding, 0..=32 | 34 | 35 | 39)
 }
 
 /// Writes one scalar as Shift_JIS (000's steps 2 to 13) or EUC-JP (steps 2 to 11), with what document 02 changes: the
@@ -1252,6 +1252,75 @@ fn encode_japanese(
     Ok(())
 }
 
+/// The index gb18030 ranges pointer for a code point, as document 02 has it, where document 01's four-byte reading of it
+/// gives the code point back.
+fn ranges_pointer(ranges: &[u32], code_point: u32) -> Option<u32> {
+    let pair = ranges
+        .chunks_exact(2)
+        .filter(|pair| pair[1] <= code_point)
+        .last();
+    let pointer = match (code_point, pair) {
+        (0xE7C7, _) => 7457,
+        (_, Some(pair)) => u64::from(pair[0]) + u64::from(code_point - pair[1]),
+        (_, None) => return None,
+    };
+    let pointer = u32::try_from(pointer).ok()?;
+    (ranges_code_point(ranges, pointer) == Some(code_point)).then_some(pointer)
+}
+
+/// Writes one scalar as GBK, gb18030, Big5 or EUC-KR, by 000's steps.
+fn encode_chinese(
+    encoding: u8,
+    scalar: u32,
+    tables: Tables,
+    output: &mut Vec<u8>,
+) -> Result<(), u32> {
+    let pointers = || (0..tables.first.len()).filter(|&pointer| tables.first[pointer] == scalar);
+    let pair = |pointer: usize, columns: usize, gap: usize, low: usize, high: usize| {
+        let (lead, trail) = (pointer / columns, pointer % columns);
+        let offset = if trail < gap { low } else { high };
+        [(lead + 0x81) as u8, (trail + offset) as u8]
+    };
+    match encoding {
+        29 | 30 => {
+            if scalar == 0xE5E5 {
+                return Err(scalar);
+            }
+            if encoding == 29 && scalar == 0x20AC {
+                output.push(0x80);
+                return Ok(());
+            }
+            if let Some(pointer) = pointers().next() {
+                output.extend(pair(pointer, 190, 0x3F, 0x40, 0x41));
+                return Ok(());
+            }
+            if encoding == 29 {
+                return Err(scalar);
+            }
+            let pointer = ranges_pointer(tables.second, scalar).ok_or(scalar)?;
+            output.extend([
+                (pointer / 12600 + 0x81) as u8,
+                (pointer / 1260 % 10 + 0x30) as u8,
+                (pointer / 10 % 126 + 0x81) as u8,
+                (pointer % 10 + 0x30) as u8,
+            ]);
+        }
+        31 => {
+            let mut found = pointers().filter(|&pointer| pointer >= 5024);
+            let pointer = match scalar {
+                0x2550 | 0x255E | 0x2561 | 0x256A | 0x5341 | 0x5345 => found.last(),
+                _ => found.next(),
+            };
+            output.extend(pair(pointer.ok_or(scalar)?, 157, 0x3F, 0x40, 0x62));
+        }
+        _ => {
+            let pointer = pointers().next().ok_or(scalar)?;
+            output.extend(pair(pointer, 190, 0, 0x41, 0x41));
+        }
+    }
+    Ok(())
+}
+
 /// Writes the bytes of one scalar, where the encoding has any. `Err` has the code point that the error names.
 fn encode_scalar(
     encoding: u8,
@@ -1265,6 +1334,7 @@ fn encode_scalar(
     }
     match encoding {
         32 | 34 => encode_japanese(encoding, scalar, tables.first, output)?,
+        29..=31 | 35 => encode_chinese(encoding, scalar, tables, output)?,
         0 => {
             let (mut count, offset) = match scalar {
                 0x80..=0x7FF => (1, 0xC0),

@@ -1,7 +1,7 @@
 -- `bytes_of`, by the encoding number. Assumes nothing.
 use mathlib.Core.Path.{_∙_}
-use borrow.Author.Tests.{eq-eqb, ne-eqb}
-use Rattle.pair_writers.proofs.Encoders.{of-euc-jp, of-shift-jis}
+use borrow.Author.Tests.{le-leb, lt-leb, ne-eqb}
+use Rattle.pair_writers.proofs.Encoders.{of-gb18030, of-big5, of-euc-jp, of-shift-jis, of-euc-kr}
 use borrow.Author.Needs.{needs}
 use Rattle.pair_writers.proofs.bytes_of.Statement.{statement}
 use Rattle.pair_writers.proofs.bytes_of.Tie as tie
@@ -10,13 +10,49 @@ bytes-of-requires : tie.Need-bytes-of-requires
 bytes-of-requires c κs = search needs
 
 returns : tie.Need-returns
-returns c = λ h. c .bytes-of .ensures (rw (eq-eqb _ _ (c .before .if1 .taken)) at h) ∙ of-euc-jp _ _ _ (c .before .if1 .taken)
+returns c = λ h. c .bytes-of .ensures (rw (le-leb _ _ (c .before .if1 .taken)) at h) ∙ of-gb18030 _ _ _ _ (c .before .if1 .taken)
 
 bytes-of-requires-2 : tie.Need-bytes-of-requires-2
 bytes-of-requires-2 c κs = search needs
 
 returns-2 : tie.Need-returns-2
-returns-2 c = λ h. c .bytes-of2 .ensures (rw (ne-eqb _ _ (c .before .if1 .left)) at h) ∙ of-shift-jis _ _ _ (c .before .if1 .left)
+returns-2 c = λ h. c .bytes-of2 .ensures (rw (c .before .if2 .taken) at h) ∙ of-big5 _ _ _ _ (c .before .if2 .taken)
+
+bytes-of-requires-3 : tie.Need-bytes-of-requires-3
+bytes-of-requires-3 c κs = search needs
+
+returns-3 : tie.Need-returns-3
+returns-3 c = λ h. c .bytes-of3 .ensures (rw (c .before .if3 .taken) at h) ∙ of-euc-jp _ _ _ _ (c .before .if3 .taken)
+
+bytes-of-requires-4 : tie.Need-bytes-of-requires-4
+bytes-of-requires-4 c κs = search needs
+
+returns-4 : tie.Need-returns-4
+returns-4 c = λ h. c .bytes-of4 .ensures (rw (c .before .if4 .taken) at h) ∙ of-shift-jis _ _ _ _ (c .before .if4 .taken)
+
+bytes-of-requires-5 : tie.Need-bytes-of-requires-5
+bytes-of-requires-5 c κs = search needs
+
+returns-5 : tie.Need-returns-5
+returns-5 c =
+    let e = c .before in
+    let d = e .before in
+    let b = d .before in
+    λ h. c .bytes-of5 .ensures
+    (rw (lt-leb _ _ (b .before .if1 .left), ne-eqb _ _ (b .if2 .left), ne-eqb _ _ (d .if3 .left), ne-eqb _ _ (e .if4 .left)) at h) ∙
+    of-euc-kr _ _ _ _ (b .before .if1 .left) (b .if2 .left) (d .if3 .left) (e .if4 .left)
 
 pub bytes-of-spec : {M : Type 1} → statement M
-bytes-of-spec = tie.close (tie.spec bytes-of-requires returns bytes-of-requires-2 returns-2)
+bytes-of-spec =
+    tie.close
+    (tie.spec
+    bytes-of-requires
+    returns
+    bytes-of-requires-2
+    returns-2
+    bytes-of-requires-3
+    returns-3
+    bytes-of-requires-4
+    returns-4
+    bytes-of-requires-5
+    returns-5)

@@ -6,10 +6,14 @@ use Rattle.standard.specs.Base.{_then_else_}
 use Rattle.standard.specs.Machine.{Result, tokens, error-with}
 use Rattle.standard.specs.Layouts.{Layout, twoBytes}
 
--- "If pointer is null, return error with code point", else two bytes by the layout
+-- two bytes by the layout, or where pointer is null something else
+abbrev pub pairOr : Layout → Option ℕ → Result → Result
+pairOr y none other = other
+pairOr y (some p) other = tokens (twoBytes y p)
+
+-- "If pointer is null, return error with code point."
 abbrev pub pairOrErrorWith : Layout → Option ℕ → ℕ → Result
-pairOrErrorWith y none c = error-with c
-pairOrErrorWith y (some p) c = tokens (twoBytes y p)
+pairOrErrorWith y pointer c = pairOr y pointer (error-with c)
 
 -- Shift_JIS and EUC-JP: "If code point is U+2212, set it to U+FF0D." It is looked up and named in an error so.
 abbrev pub minus : ℕ → ℕ

@@ -35,9 +35,8 @@ returns-3 : tie.Need-returns-3
 returns-3 c =
     let at-byte-of2 = c .byte-of2 in
     let args = c .before .before .before .before .args in
-    let at-pre = c .before .before .before .before .pre in
     let at-if2 = c .before .if2 in
-    at-byte-of2 .ensures ∙ of-user-defined (args .encoding) (args .table .now) (args .c) (at-if2 .left) (at-pre .1)
+    at-byte-of2 .ensures ∙ of-user-defined (args .encoding) (args .table .now) (args .c) (at-if2 .left)
 
 pub byte-of-spec : {M : Type 1} → statement M
 byte-of-spec =

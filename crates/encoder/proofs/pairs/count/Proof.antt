@@ -6,15 +6,15 @@ use Rattle.encoder.proofs.pairs.count.Statement.{statement}
 use Rattle.encoder.proofs.pairs.count.Tie as tie
 
 others-requires : tie.Need-others-requires
-others-requires c κs = c .before .before .pre .1
+others-requires c κs = c .before .before .before .pre .0
 
 slice-aggregate-count-by : tie.Need-slice-aggregate-count-by
 slice-aggregate-count-by c = search needs
 
 count-by-requires : tie.Need-count-by-requires
 count-by-requires c κs =
-    let s = c .before .before .before .before .before in
-    (s .pre .0, s .pre .1, (s .pre .2, λ l. absurd (omega (arith, l))))
+    let s = c .before .before .before .before .before .before in
+    (s .pre .0, (s .pre .1, λ l. absurd (omega (arith, l))))
 
 returns : tie.Need-returns
 returns c = c .count-by .ensures
@@ -31,8 +31,8 @@ slice-aggregate-count-by-2 c = search needs
 count-by-requires-2 : tie.Need-count-by-requires-2
 count-by-requires-2 c κs =
     let at-fill = c .before .before in
-    let s = at-fill .before .before .before .before .before .before in
-    (s .pre .0, s .pre .1, at-fill .fill .ensures (s .pre .2, refl))
+    let s = at-fill .before .before .before .before .before .before .before in
+    (s .pre .0, at-fill .fill .ensures (s .pre .1, refl))
 
 returns-2 : tie.Need-returns-2
 returns-2 c = c .count-by2 .ensures

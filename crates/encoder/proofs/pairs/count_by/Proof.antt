@@ -4,7 +4,7 @@ use Prim.Native.Nat.{_-_}
 use lib.ListN.{length}
 use Rattle.pair_writers.specs.Pairs.{bytesOf}
 use Rattle.standard.specs.Machine.{reference}
-use Rattle.encoder.specs.WriterCode.{oneOf}
+use Rattle.encoder.specs.WriterCode.{pairOf}
 use Rattle.encoder.proofs.Counting.{Counted, counted-start, counted-stop, counted-end, counted-on, here-bytes, here-reference, here-stop}
 use Rattle.encoder.proofs.Ones.{pair-bytes, pair-named}
 use borrow.Author.Needs.{needs}
@@ -13,17 +13,17 @@ use Rattle.encoder.proofs.pairs.count_by.Statement.{statement}
 use Rattle.encoder.proofs.pairs.count_by.Tie as tie
 
 abbrev Inv-loop : tie.InvT-loop
-Inv-loop encoding mode scalars table slots n₀ i₀ n i = Counted (oneOf encoding table) mode 0 scalars n i 0
+Inv-loop encoding mode scalars table second slots n₀ i₀ n i = Counted (pairOf encoding table second) mode 0 scalars n i 0
 
 abbrev μ-loop : tie.MeasureT-loop
-μ-loop encoding mode scalars table slots n₀ i₀ n i = length scalars - i
+μ-loop encoding mode scalars table second slots n₀ i₀ n i = length scalars - i
 
 -- the turn that a scalar's bytes are asked in, and the function's start
 abbrev turn : tie.After-one-of Inv-loop μ-loop → tie.In-loop Inv-loop μ-loop
 turn c = c .before .before
 
 abbrev start : tie.In-loop Inv-loop μ-loop → tie.Start Inv-loop μ-loop
-start c = c .before .before .before .before .before
+start c = c .before .before .before .before .before .before
 
 loop-holds : tie.Need-loop-holds Inv-loop μ-loop
 loop-holds c = counted-start _ _ _ _
@@ -35,7 +35,7 @@ shared-slice-read-one-of : tie.Need-shared-slice-read-one-of Inv-loop μ-loop
 shared-slice-read-one-of c = search needs
 
 one-of-requires : tie.Need-one-of-requires Inv-loop μ-loop
-one-of-requires c κs = start (c .before) .pre .2
+one-of-requires c κs = start (c .before) .pre .1
 
 size-requires : tie.Need-size-requires Inv-loop μ-loop
 size-requires c κs = search needs
@@ -43,7 +43,7 @@ size-requires c κs = search needs
 add-n : tie.Need-add-n Inv-loop μ-loop
 add-n c =
     let t = turn (c .before .before .before) in
-    record { fits = omega (arith, t .before .loop .inv .bound, c .size .ensures .1, start t .pre .1, t .loop-test .taken) }
+    record { fits = omega (arith, t .before .loop .inv .bound, c .size .ensures .1, start t .pre .0, t .loop-test .taken) }
 
 add-i : tie.Need-add-i Inv-loop μ-loop
 add-i c = search needs
@@ -55,14 +55,16 @@ loop-again : tie.Need-loop-again Inv-loop μ-loop
 loop-again c =
     let o = c .before .before .before in
     let t = turn o in
-    let here = here-bytes _ _ _ _ _ (t .loop-test .taken) (pair-bytes (o .one-of .result) _ _ _ (start t .pre .0) (o .one-of .ensures) (c .before .if1 .taken)) in
-    counted-on _ _ _ _ _ _ _ (t .before .loop .inv) 0 (bytesOf (o .one-of .result)) here _ (c .size .ensures .0) (omega (arith, c .size .ensures .1))
+    let wrote = pair-bytes (o .one-of .result) _ _ _ _ (o .one-of .ensures) (c .before .if1 .taken) in
+    let here = here-bytes _ _ _ _ _ (t .loop-test .taken) wrote in
+    counted-on _ _ _ _ _ _ _ (t .before .loop .inv) 0 (bytesOf (o .one-of .result)) here _
+    (c .size .ensures .0) (omega (arith, c .size .ensures .1))
 
 returns : tie.Need-returns Inv-loop μ-loop
 returns c =
     let o = c .before .before .before in
     let t = turn o in
-    let named = pair-named (o .one-of .result) _ _ _ (start t .pre .0) (o .one-of .ensures) (c .before .if1 .left) in
+    let named = pair-named (o .one-of .result) _ _ _ _ (o .one-of .ensures) (c .before .if1 .left) in
     counted-stop _ _ _ _ _ _ _ (t .before .loop .inv) (here-stop _ _ _ _ _ (t .loop-test .taken) named (c .if2 .taken))
 
 size-requires-2 : tie.Need-size-requires-2 Inv-loop μ-loop
@@ -71,7 +73,7 @@ size-requires-2 c κs = search needs
 add-n-2 : tie.Need-add-n-2 Inv-loop μ-loop
 add-n-2 c =
     let t = turn (c .before .before .before .before) in
-    record { fits = omega (arith, t .before .loop .inv .bound, c .size2 .ensures .1, start t .pre .1, t .loop-test .taken) }
+    record { fits = omega (arith, t .before .loop .inv .bound, c .size2 .ensures .1, start t .pre .0, t .loop-test .taken) }
 
 add-i-2 : tie.Need-add-i-2 Inv-loop μ-loop
 add-i-2 c = search needs
@@ -84,7 +86,7 @@ loop-again-2 c =
     let e = c .before in
     let o = e .before .before .before in
     let t = turn o in
-    let named = pair-named (o .one-of .result) _ _ _ (start t .pre .0) (o .one-of .ensures) (e .before .if1 .left) in
+    let named = pair-named (o .one-of .result) _ _ _ _ (o .one-of .ensures) (e .before .if1 .left) in
     counted-on _ _ _ _ _ _ _ (t .before .loop .inv) 0 (reference (o .one-of .result .named))
     (here-reference _ _ _ _ _ (t .loop-test .taken) named (e .if2 .left)) _ (c .size2 .ensures .0) (omega (arith, c .size2 .ensures .1))
 

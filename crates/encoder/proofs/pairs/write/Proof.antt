@@ -6,15 +6,15 @@ use Rattle.encoder.proofs.pairs.write.Statement.{statement}
 use Rattle.encoder.proofs.pairs.write.Tie as tie
 
 others-requires : tie.Need-others-requires
-others-requires c κs = c .before .before .before .pre .0 .1
+others-requires c κs = c .before .before .before .before .pre .0 .0
 
 slice-aggregate-write-by : tie.Need-slice-aggregate-write-by
 slice-aggregate-write-by c = search needs
 
 write-by-requires : tie.Need-write-by-requires
 write-by-requires c κs =
-    let s = c .before .before .before .before .before .before .before in
-    (s .pre .0 .0, (s .pre .0 .2, λ l. absurd (omega (arith, l))), s .pre .1)
+    let s = c .before .before .before .before .before .before .before .before in
+    ((s .pre .0 .1, λ l. absurd (omega (arith, l))), s .pre .1)
 
 same-length : tie.Need-same-length
 same-length c = search needs
@@ -34,8 +34,8 @@ slice-aggregate-write-by-2 c = search needs
 write-by-requires-2 : tie.Need-write-by-requires-2
 write-by-requires-2 c κs =
     let at-fill = c .before .before .before in
-    let s = at-fill .before .before .before .before .before .before .before in
-    (s .pre .0 .0, at-fill .fill .ensures (s .pre .0 .2, refl), s .pre .1)
+    let s = at-fill .before .before .before .before .before .before .before .before in
+    (at-fill .fill .ensures (s .pre .0 .1, refl), s .pre .1)
 
 same-length-2 : tie.Need-same-length-2
 same-length-2 c = search needs

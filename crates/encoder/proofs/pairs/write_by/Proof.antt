@@ -5,7 +5,7 @@ use Prim.Native.Nat.{ℕ, _-_}
 use lib.ListN.{length}
 use Rattle.pair_writers.specs.Pairs.{bytesOf}
 use Rattle.standard.specs.Machine.{reference}
-use Rattle.encoder.specs.WriterCode.{oneOf}
+use Rattle.encoder.specs.WriterCode.{pairOf}
 use Rattle.encoder.proofs.Counting.{Here, Running, running-start, running-end, running-stop, running-room, running-on, here-bytes, here-reference, here-stop}
 use Rattle.encoder.proofs.Ones.{pair-bytes, pair-named}
 use borrow.Author.Needs.{needs}
@@ -13,17 +13,18 @@ use Rattle.encoder.proofs.pairs.write_by.Statement.{statement}
 use Rattle.encoder.proofs.pairs.write_by.Tie as tie
 
 abbrev Inv-loop : tie.InvT-loop
-Inv-loop encoding mode scalars table slots room₀ o₀ i₀ room o i = Running (oneOf encoding table) mode 0 scalars room₀ room i o 0
+Inv-loop encoding mode scalars table second slots room₀ o₀ i₀ room o i =
+    Running (pairOf encoding table second) mode 0 scalars room₀ room i o 0
 
 abbrev μ-loop : tie.MeasureT-loop
-μ-loop encoding mode scalars table slots room₀ o₀ i₀ room o i = length scalars - i
+μ-loop encoding mode scalars table second slots room₀ o₀ i₀ room o i = length scalars - i
 
 -- the turn that a scalar's bytes are asked in, and the function's start
 abbrev turn : tie.After-one-of Inv-loop μ-loop → tie.In-loop Inv-loop μ-loop
 turn c = c .before .before
 
 abbrev start : tie.In-loop Inv-loop μ-loop → tie.Start Inv-loop μ-loop
-start c = c .before .before .before .before .before .before
+start c = c .before .before .before .before .before .before .before
 
 -- what is written of the scalar: its bytes, or a reference
 abbrev bytes : tie.Then1 Inv-loop μ-loop → List ℕ
@@ -33,19 +34,21 @@ abbrev refers : tie.Else2 Inv-loop μ-loop → List ℕ
 refers c = reference (c .before .before .before .one-of .result .named)
 
 abbrev Writes : tie.In-loop Inv-loop μ-loop → List ℕ → Type 0
-Writes t us = Here (oneOf (start t .args .encoding) (start t .args .table .now)) (start t .args .mode) (start t .args .scalars .now) 0 (t .before .loop .i) 0 us
+Writes t us =
+    let a = start t .args in
+    Here (pairOf (a .encoding) (a .table .now) (a .second .now)) (a .mode) (a .scalars .now) 0 (t .before .loop .i) 0 us
 
 bytes-here : (c : tie.Then1 Inv-loop μ-loop) → Writes (turn (c .before .before)) (bytes c)
 bytes-here c =
     let o = c .before .before in
     let t = turn o in
-    here-bytes _ _ _ _ _ (t .loop-test .taken) (pair-bytes (o .one-of .result) _ _ _ (start t .pre .0) (o .one-of .ensures) (c .if1 .taken))
+    here-bytes _ _ _ _ _ (t .loop-test .taken) (pair-bytes (o .one-of .result) _ _ _ _ (o .one-of .ensures) (c .if1 .taken))
 
 reference-here : (c : tie.Else2 Inv-loop μ-loop) → Writes (turn (c .before .before .before)) (refers c)
 reference-here c =
     let o = c .before .before .before in
     let t = turn o in
-    let named = pair-named (o .one-of .result) _ _ _ (start t .pre .0) (o .one-of .ensures) (c .before .if1 .left) in
+    let named = pair-named (o .one-of .result) _ _ _ _ (o .one-of .ensures) (c .before .if1 .left) in
     here-reference _ _ _ _ _ (t .loop-test .taken) named (c .if2 .left)
 
 loop-holds : tie.Need-loop-holds Inv-loop μ-loop
@@ -58,12 +61,12 @@ shared-slice-read-one-of : tie.Need-shared-slice-read-one-of Inv-loop μ-loop
 shared-slice-read-one-of c = search needs
 
 one-of-requires : tie.Need-one-of-requires Inv-loop μ-loop
-one-of-requires c κs = start (c .before) .pre .1
+one-of-requires c κs = start (c .before) .pre .0
 
 put-requires : tie.Need-put-requires Inv-loop μ-loop
 put-requires c κs =
     let t = turn (c .before .before .before) in
-    running-room _ _ _ _ _ _ _ _ _ (t .before .loop .inv) 0 (bytes (c .before)) (bytes-here (c .before)) (start t .pre .2)
+    running-room _ _ _ _ _ _ _ _ _ (t .before .loop .inv) 0 (bytes (c .before)) (bytes-here (c .before)) (start t .pre .1)
 
 add-i : tie.Need-add-i Inv-loop μ-loop
 add-i c = search needs
@@ -76,7 +79,8 @@ loop-again c =
     let at-put = c .before .before in
     let w = at-put .before .before in
     let t = turn (w .before .before) in
-    running-on _ _ _ _ _ _ _ _ _ (t .before .loop .inv) 0 (bytes w) (bytes-here w) (start t .pre .2) _ _ (at-put .put .ensures .0) (at-put .put .ensures .1)
+    running-on _ _ _ _ _ _ _ _ _ (t .before .loop .inv) 0 (bytes w) (bytes-here w) (start t .pre .1) _ _
+    (at-put .put .ensures .0) (at-put .put .ensures .1)
 
 same-length : tie.Need-same-length Inv-loop μ-loop
 same-length c = search needs
@@ -85,13 +89,13 @@ returns : tie.Need-returns Inv-loop μ-loop
 returns c =
     let o = c .before .before .before in
     let t = turn o in
-    let named = pair-named (o .one-of .result) _ _ _ (start t .pre .0) (o .one-of .ensures) (c .before .if1 .left) in
+    let named = pair-named (o .one-of .result) _ _ _ _ (o .one-of .ensures) (c .before .if1 .left) in
     running-stop _ _ _ _ _ _ _ _ _ (t .before .loop .inv) (here-stop _ _ _ _ _ (t .loop-test .taken) named (c .if2 .taken))
 
 put-requires-2 : tie.Need-put-requires-2 Inv-loop μ-loop
 put-requires-2 c κs =
     let t = turn (c .before .before .before .before) in
-    running-room _ _ _ _ _ _ _ _ _ (t .before .loop .inv) 0 (refers (c .before)) (reference-here (c .before)) (start t .pre .2)
+    running-room _ _ _ _ _ _ _ _ _ (t .before .loop .inv) 0 (refers (c .before)) (reference-here (c .before)) (start t .pre .1)
 
 add-i-2 : tie.Need-add-i-2 Inv-loop μ-loop
 add-i-2 c = search needs
@@ -104,7 +108,8 @@ loop-again-2 c =
     let at-put = c .before .before in
     let e = at-put .before .before in
     let t = turn (e .before .before .before) in
-    running-on _ _ _ _ _ _ _ _ _ (t .before .loop .inv) 0 (refers e) (reference-here e) (start t .pre .2) _ _ (at-put .put2 .ensures .0) (at-put .put2 .ensures .1)
+    running-on _ _ _ _ _ _ _ _ _ (t .before .loop .inv) 0 (refers e) (reference-here e) (start t .pre .1) _ _
+    (at-put .put2 .ensures .0) (at-put .put2 .ensures .1)
 
 same-length-2 : tie.Need-same-length-2 Inv-loop μ-loop
 same-length-2 c = search needs

@@ -4,6 +4,7 @@ use mathlib.Core.Bool.{true}
 use borrow.Author.Needs.{needs}
 use borrow.Author.Tests.{not-true, not-false}
 use Rattle.standard.specs.Base.{_then_else_, scalars}
+use Rattle.standard.specs.Encodings.{lent}
 use Prim.Native.Nat.{ℕ}
 use Rattle.encoder.specs.WriterCode.{textRefusal}
 use Rattle.encoder.proofs.Calls.{refused-8, refused-10, refused-7}
@@ -20,17 +21,18 @@ returns-2 : tie.Need-returns-2
 returns-2 c = refused-10 _ _ _ _ _ (c .before .before .if1 .left) (sym (c .before .all-scalars .ensures) ∙ not-true _ (c .if2 .taken))
 
 -- they are scalars
-are-scalars : (c : tie.Else2) → scalars (c .before .before .before .before .before .args .scalars .now) ≡ true
+are-scalars : (c : tie.Else2) → scalars (c .before .before .before .before .before .before .args .scalars .now) ≡ true
 are-scalars c = sym (c .before .all-scalars .ensures) ∙ not-false _ (c .if2 .left)
 
 lacks-requires : tie.Need-lacks-requires
 lacks-requires c κs =
     let few = c .before .before in
-    (are-scalars c, few .if1 .left, few .before .before .before .pre)
+    (are-scalars c, few .if1 .left, few .before .before .before .before .pre)
 
 -- 7 or 0, by the test of the room
-by-room : (c : tie.After-lacks) → let s = c .before .before .before .before .before .before in
-    (c .lacks .result then 7 else 0) ≡ textRefusal (s .args .encoding) (s .args .mode) (s .args .table .now) (s .args .scalars .now) (s .args .room)
+by-room : (c : tie.After-lacks) → let s = c .before .before .before .before .before .before .before in
+    (c .lacks .result then 7 else 0) ≡
+    textRefusal (s .args .encoding) (s .args .mode) (lent (s .args .t1 .now) (s .args .t2 .now)) (s .args .scalars .now) (s .args .room)
 by-room c = refused-7 _ _ _ _ _ (c .before .before .before .if1 .left) (are-scalars (c .before)) (c .lacks .result) (c .lacks .ensures)
 
 returns-3 : tie.Need-returns-3

@@ -48,7 +48,7 @@ returns-2 c =
 fill-table-requires-2 : tie.Need-fill-table-requires-2
 fill-table-requires-2 c κs =
     let s = start (c .before .before) in
-    (s .pre .0 .2, s .pre .1)
+    (s .pre .0 .1, s .pre .1)
 
 same-length-2 : tie.Need-same-length-2
 same-length-2 c = search needs
