@@ -38,7 +38,7 @@ const SHORT: [&str; 8] = [
 const CHECKED: [usize; 4] = [512, 4096, 16384, 65536];
 
 /// The inputs that are written again.
-const WRITTEN: [&str; 12] = [
+const WRITTEN: [&str; 20] = [
     "utf-8-ascii",
     "utf-8-french",
     "utf-8-russian",
@@ -51,6 +51,14 @@ const WRITTEN: [&str; 12] = [
     "euc-jp-dense",
     "shift_jis-list",
     "shift_jis-dense",
+    "gbk-list",
+    "gbk-dense",
+    "gb18030-list",
+    "gb18030-dense",
+    "big5-list",
+    "big5-dense",
+    "euc-kr-list",
+    "euc-kr-dense",
 ];
 
 fn about(arguments: &Arguments) {

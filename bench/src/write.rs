@@ -27,7 +27,7 @@ fn ours(encoding: Encoding, tables: Tables, scalars: &[u32], room: &mut [u8]) ->
     answer.written
 }
 
-/// A timed run. Behind the clock the number of bytes and those of the last chunk are compared with what was read.
+/// A timed run. Behind the clock the number of bytes and those of the last chunk are compared with what the writer wrote before.
 fn writing<'a>(
     scalars: &'a [u32],
     expected: &'a [u8],
@@ -79,19 +79,21 @@ pub fn measure(
         written
     };
     let mut notes = Vec::new();
-    if all(&scalars, |part, room| ours(encoding, tables, part, room)) != bytes {
+    let by_ours = all(&scalars, |part, room| ours(encoding, tables, part, room));
+    if by_ours != bytes {
         notes.push("ours differs from the input".to_string());
     }
-    if all(&scalars, &mut iconv) != bytes {
+    let by_iconv = all(&scalars, &mut iconv);
+    if by_iconv != by_ours {
         notes.push("iconv differs".to_string());
     }
     let differ = !notes.is_empty();
     let measured = {
         let mut runs = [
-            writing(&scalars, bytes, |part, room| {
+            writing(&scalars, &by_ours, |part, room| {
                 ours(encoding, tables, part, room)
             }),
-            writing(&scalars, bytes, &mut iconv),
+            writing(&scalars, &by_iconv, &mut iconv),
         ];
         rounds(number, &mut runs)
     };
