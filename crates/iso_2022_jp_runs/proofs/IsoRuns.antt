@@ -1,6 +1,6 @@
 -- ISO-2022-JP in a run: a byte in the state of ASCII, and a pair. Assumes nothing.
 use mathlib.Core.Path.{_≡_, refl, sym, subst, _∙_}
-use mathlib.Core.Bool.{Bool, true, false}
+use mathlib.Core.Bool.{Bool, true, false, _||_}
 use mathlib.Core.List.{List, [], _∷_}
 use Prim.Native.Nat.{ℕ, _+_, _-_, _*_, _/_, _≤_, _<_}
 use native.Mathlib.Omega.{arith}
@@ -10,13 +10,13 @@ use borrow.Author.Tests.{le-leb, lt-leb, ne-eqb, eqb-true, eqb-false}
 use Rattle.standard.specs.Layouts.{pairCode, iso2022JpLayout}
 use Rattle.standard.specs.Encodings.{ISO-2022-JP, Tables, lent}
 use Rattle.standard.specs.Sequence.{text, error, item, shift}
-use Rattle.standard.specs.Sequences.Iso2022Jp.{iso2022Jp, byteOut}
+use Rattle.standard.specs.Sequences.Iso2022Jp.{escaped, iso2022Jp, byteOut}
 use Rattle.standard.specs.Next.{next}
 use Rattle.standard.specs.Decode.{given}
 use Rattle.standard.proofs.Layouts.{pair-found}
 use Rattle.standard.proofs.Tests.{within-low}
 use Rattle.runs.specs.Run.{Gives}
-use Rattle.runs.proofs.Fronts.{byte-at, two-at}
+use Rattle.runs.proofs.Fronts.{byte-at, two-at, three-at}
 
 -- what a byte gives in the state of ASCII
 module _ (b : ℕ) where
@@ -79,3 +79,21 @@ module _ (m : ℕ) (chunk : List ℕ) (i : ℕ) (f : Bool) where
       ((xs : List ℕ) → next t ISO-2022-JP (shift 3 f) (getD chunk i 0 ∷ getD chunk (i + 1) 0 ∷ xs) ≡ item 2 (shift 3 false) (text (r ∷ []))) →
       Gives m (next t ISO-2022-JP (shift 3 f) (drop i chunk)) 2 (shift 3 false) r
   pair-there t h r e = record { out = text (r ∷ []); is = rw (two-at chunk i h) (e (drop (i + 2) chunk)); gives = refl; allowed = λ a q. let z : _≡_ {A = ℕ} 0 1 = cc in absurd (omega arith) }
+
+-- an escape at a place of the chunk, where something came since the one before
+pub escape-there : (chunk : List ℕ) (i flag r : ℕ) → (flag ≡ 1 → ⊥) → i + 3 ≤ length chunk → getD chunk i 0 ≡ 0x1B →
+    eqb (getD chunk (i + 1) 0) 0x24 || eqb (getD chunk (i + 1) 0) 0x28 ≡ true → r < 5 → (r ≡ 0 → ⊥) →
+    escaped (getD chunk (i + 1) 0) (getD chunk (i + 2) 0) ≡ r - 1 →
+    (t : Tables) (state : ℕ) → next t ISO-2022-JP (shift state (eqb flag 1)) (drop i chunk) ≡ item 3 (shift (r - 1) true) (text [])
+unfolding next iso2022Jp
+escape-there chunk i flag r n h b c l z e t state =
+    rw (three-at chunk i (omega arith), b, c, e, lt-leb 4 (r - 1) (omega arith), ne-eqb flag 1 n)
+
+-- the two escapes that a run reads
+pub escape-to-pairs : (c d : ℕ) → d ≡ 0x42 → c ≡ 0x24 → (eqb c 0x24 || eqb c 0x28 ≡ true) × (4 < 5) × (escaped c d ≡ 4 - 1)
+unfolding escaped
+escape-to-pairs c d e f = rw (e, f) (refl, omega arith, refl)
+
+pub escape-to-ascii : (c d : ℕ) → d ≡ 0x42 → c ≡ 0x28 → (eqb c 0x24 || eqb c 0x28 ≡ true) × (1 < 5) × (escaped c d ≡ 1 - 1)
+unfolding escaped
+escape-to-ascii c d e f = rw (e, f) (refl, omega arith, refl)

@@ -9,13 +9,14 @@ use runs::scalar_of;
 use runs::wide;
 use sequences::Sequence;
 ghost use mathlib.Core.Path.{_≡_};
-ghost use mathlib.Core.Bool.{Bool, true, false};
+ghost use mathlib.Core.Bool.{Bool, true, false, _||_};
 ghost use mathlib.Core.List.{List, _∷_, []};
-ghost use Prim.Native.Nat.{ℕ, _<_};
+ghost use Prim.Native.Nat.{ℕ, _+_, _-_, _≤_, _<_};
 ghost use lib.Dec.{eqb};
-ghost use Rattle.standard.specs.Encodings.{ISO-2022-JP, lent};
+ghost use lib.ListN.{length, drop};
+ghost use Rattle.standard.specs.Encodings.{Tables, ISO-2022-JP, lent};
 ghost use Rattle.standard.specs.Sequence.{text, item, shift};
-ghost use Rattle.standard.specs.Sequences.Iso2022Jp.{byteOut};
+ghost use Rattle.standard.specs.Sequences.Iso2022Jp.{escaped, byteOut};
 ghost use Rattle.standard.specs.Decode.{given};
 ghost use Rattle.standard.specs.Next.{next};
 ghost use Rattle.sequences.specs.Code.{nextOf};
@@ -49,6 +50,14 @@ fn sequences(mode: u8, chunk: &[u8], t1: &[u32], t2: &[u32], room: &mut [u32], p
     let mut f = p.flag;
     loop {
         let r = stretch(mode, chunk, t1, t2, i, room, o, s, f);
+        let e = escape_at(chunk, r.at, r.flag);
+        if e != 0 {
+            i = r.at + 3;
+            o = r.written;
+            s = e - 1;
+            f = 1;
+            continue;
+        }
         let q = next_at(t1, t2, 33, r.state, r.flag, chunk, r.at);
         if silent(q) {
             i = r.at + (q.width as usize);
@@ -68,6 +77,42 @@ fn sequences(mode: u8, chunk: &[u8], t1: &[u32], t2: &[u32], room: &mut [u32], p
         s = q.state;
         f = q.flag;
     }
+}
+
+// One plus the state that an escape at a place leads to; 0 where there is none, and where it is an error or stays for `next`.
+fn escape_at(chunk: &[u8], i: usize, flag: u8) -> u8
+    ensures { λ r. ⌜ ((r ≡ 0 → ⊥) → (i + 3 ≤ length (now (chunk .entry))) × ((t : Tables) (state : ℕ) →
+        next t ISO-2022-JP (shift state (eqb flag 1)) (drop i (now (chunk .entry))) ≡ item 3 (shift (r - 1) true) (text []))) ⌝ }
+{
+    if flag == 1 {
+        return 0;
+    }
+    if chunk.len() < i {
+        return 0;
+    }
+    if chunk.len() - i < 3 {
+        return 0;
+    }
+    if chunk[i] != 0x1B {
+        return 0;
+    }
+    escape_of(chunk[i + 1], chunk[i + 2])
+}
+
+// The same by the second and third byte of an escape: to ASCII and to the state of lead bytes; the rare ones stay for `next`.
+fn escape_of(c: u8, d: u8) -> u8
+    ensures { λ r. ⌜ ((r ≡ 0 → ⊥) → (eqb c 0x24 || eqb c 0x28 ≡ true) × (r < 5) × (escaped c d ≡ r - 1)) ⌝ }
+{
+    if d != 0x42 {
+        return 0;
+    }
+    if c == 0x24 {
+        return 4;
+    }
+    if c == 0x28 {
+        return 1;
+    }
+    0
 }
 
 // Characters of one state, as far as they go without an escape or an error that stops.

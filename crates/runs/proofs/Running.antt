@@ -1,5 +1,5 @@
 -- A run, sequence by sequence. Assumes nothing.
-use mathlib.Core.Path.{_≡_, refl, sym, ap, _∙_}
+use mathlib.Core.Path.{_≡_, refl, sym, ap, _∙_, subst}
 use mathlib.Core.Bool.{false}
 use mathlib.Core.List.{List, [], _∷_, _++_, append-nil}
 use Prim.Native.Nat.{ℕ, _+_, _-_, _≤_}
@@ -118,6 +118,13 @@ module _ {t : Tables} {f : Family} {m : ℕ} {chunk : List ℕ} {from i : ℕ} {
       let law = at-item (keeps f) (next t f) (next-laws t f) s′ (drop i chunk) (g .is) [] in
       let left : 1 ≤ length chunk - i = omega (arith, law .1, law .2, length-drop i chunk) in
       rw (patch-sets room o (c ∷ []) (omega (arith, G .here, left))) (rw (g .gives) at (going-item (g .out) (g .is) (g .allowed)))
+
+  -- a sequence that gives nothing
+  pub going-silent : {k : ℕ} {s″ : Shift} → next t f s′ (drop i chunk) ≡ item k s″ (text []) → Going t f m chunk from (i + k) s s″ w o room₀ room
+  going-silent {k} {s″} h =
+      let g = going-item (text []) h (λ a b. let z : _≡_ {A = ℕ} 0 1 = cc in absurd (omega arith)) in
+      subst (λ (x : ℕ). Going t f m chunk from (i + k) s s″ w x room₀ room) (add-zero o)
+      (subst (λ (r : List ℕ). Going t f m chunk from (i + k) s s″ w (o + 0) room₀ r) (sym (patch-none room o)) g)
 
 -- a sequence that gives a scalar by its text
 pub gives-scalar : (m : ℕ) {a : Next} {k c : ℕ} → a ≡ scalar k c → Gives m a k plain c

@@ -1,9 +1,8 @@
 -- A run on its way: the sequence that the code found. Assumes nothing.
-use mathlib.Core.Path.{_≡_, sym, _∙_, subst}
+use mathlib.Core.Path.{_≡_, sym, _∙_}
 use mathlib.Core.List.{List, []}
 use Prim.Native.Nat.{ℕ, _+_, _≤_}
 use native.Mathlib.Omega.{arith}
-use native.Mathlib.Nat.{add-zero}
 use lib.ListN.{length, drop, set, length-drop}
 use Rattle.standard.specs.Encodings.{Family, Tables}
 use Rattle.standard.specs.Sequence.{Shift, Out, text, error, more, item}
@@ -13,8 +12,7 @@ use Rattle.standard.proofs.Walk.{at-item}
 use Rattle.sequences.specs.Code.{nextOf}
 use Rattle.sequences.specs.declared.Sequence.{Sequence}
 use Rattle.runs.specs.Run.{Gives}
-use Rattle.runs.proofs.Patches.{patch-none}
-use Rattle.runs.proofs.Running.{Going, going-item, going-one}
+use Rattle.runs.proofs.Running.{Going, going-one, going-silent}
 
 -- a sequence that is one has a width
 item-width : (q : Sequence) {k : ℕ} {s : Shift} {out : Out} → nextOf q ≡ item k s out → q .width ≡ 0 → ⊥
@@ -31,10 +29,7 @@ module _ {t : Tables} {f : Family} {m : ℕ} {chunk : List ℕ} {from i : ℕ} {
 
   -- it gives nothing
   pub found-silent : {s″ : Shift} → nextOf q ≡ item (q .width) s″ (text []) → Going t f m chunk from (i + q .width) s s″ w o room₀ room
-  found-silent {s″} h =
-      let g = going-item G (text []) (found h) (λ a b. let z : _≡_ {A = ℕ} 0 1 = cc in absurd (omega arith)) in
-      subst (λ (x : ℕ). Going t f m chunk from (i + q .width) s s″ w x room₀ room) (add-zero o)
-      (subst (λ (r : List ℕ). Going t f m chunk from (i + q .width) s s″ w (o + 0) room₀ r) (sym (patch-none room o)) g)
+  found-silent h = going-silent G (found h)
 
   -- it has bytes, and they are in the chunk
   pub found-width : {s″ : Shift} {out : Out} → nextOf q ≡ item (q .width) s″ out → (1 ≤ q .width) × (i + q .width ≤ length chunk)

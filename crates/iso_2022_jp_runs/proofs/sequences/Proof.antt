@@ -1,17 +1,19 @@
 use mathlib.Core.Path.{_≡_, _∙_}
 use native.Mathlib.Omega.{arith}
-use Prim.Native.Nat.{_-_}
+use mathlib.Core.Bool.{true}
+use mathlib.Core.List.{[]}
+use Prim.Native.Nat.{_+_, _-_, _≤_}
 use lib.Dec.{eqb}
 use lib.ListN.{length, drop}
 use borrow.Author.Needs.{needs}
 use Rattle.standard.specs.Encodings.{lent, ISO-2022-JP}
-use Rattle.standard.specs.Sequence.{shift}
+use Rattle.standard.specs.Sequence.{text, item, shift}
 use Rattle.standard.specs.Next.{next}
 use Rattle.sequences.specs.Code.{nextOf}
 use Rattle.sequences.specs.declared.Sequence.{Sequence}
 use Rattle.runs.specs.Run.{shiftAt}
 use Rattle.runs.specs.declared.Place.{Place}
-use Rattle.runs.proofs.Running.{Going, going-start, going-runs}
+use Rattle.runs.proofs.Running.{Going, going-start, going-runs, going-silent}
 use Rattle.runs.proofs.Steps.{found-gives, found-silent, found-width}
 use Rattle.standard.proofs.Families.{by-33}
 use Rattle.iso_2022_jp_runs.proofs.sequences.Statement.{statement}
@@ -34,7 +36,7 @@ start c = head c .before .before .before .before .before
 
 -- the stretch before a sequence, where it ended, and the sequence
 abbrev stretched : tie.After-silent Inv-loop μ-loop → tie.After-stretch Inv-loop μ-loop
-stretched c = c .before .before .before .before
+stretched c = c .before .before .before .before .before .before
 
 abbrev r : tie.After-silent Inv-loop μ-loop → Place
 r c = stretched c .stretch .result
@@ -54,6 +56,39 @@ loop-holds c = going-start (c .before .before .before .before .pre)
 stretch-requires : tie.Need-stretch-requires Inv-loop μ-loop
 stretch-requires c κs = c .before .loop .inv .here
 
+escape-at-requires : tie.Need-escape-at-requires Inv-loop μ-loop
+escape-at-requires c κs = search needs
+
+-- an escape behind the stretch, where the next turn begins
+escape : (c : tie.Then1 Inv-loop μ-loop) →
+    let stretch = c .before .before .before .before in
+    let r = stretch .stretch .result in
+    let args = start stretch .args in
+    (r .at + 3 ≤ length (args .chunk .now)) ×
+    (next (lent (args .t1 .now) (args .t2 .now)) ISO-2022-JP (shiftAt r) (drop (r .at) (args .chunk .now)) ≡
+    item 3 (shift (c .before .escape-at .result - 1) true) (text []))
+escape c =
+    let stretch = c .before .before .before .before in
+    let args = start stretch .args in
+    let found = c .before .escape-at .ensures (c .if1 .taken) in
+    (found .0, found .1 (lent (args .t1 .now) (args .t2 .now)) (stretch .stretch .result .state))
+
+add-i : tie.Need-add-i Inv-loop μ-loop
+add-i c = omega (arith, escape (c .before) .0)
+
+sub-s : tie.Need-sub-s Inv-loop μ-loop
+sub-s c = search needs
+
+loop-less : tie.Need-loop-less Inv-loop μ-loop
+loop-less c =
+    let stretch = c .before .before .before .before .before in
+    omega (arith, stretch .stretch .ensures .ahead, escape (c .before) .0)
+
+loop-again : tie.Need-loop-again Inv-loop μ-loop
+loop-again c =
+    let stretch = c .before .before .before .before .before in
+    going-silent (going-runs (head stretch .loop .inv) (stretch .stretch .ensures)) (escape (c .before) .1)
+
 next-at-requires : tie.Need-next-at-requires Inv-loop μ-loop
 next-at-requires c κs = search needs
 
@@ -63,23 +98,23 @@ silent-requires c κs = search needs
 cast-i : tie.Need-cast-i Inv-loop μ-loop
 cast-i c = search needs
 
-add-i : tie.Need-add-i Inv-loop μ-loop
-add-i c =
+add-i-2 : tie.Need-add-i-2 Inv-loop μ-loop
+add-i-2 c =
     let here = c .before .before .before in
     let G = going-runs (head (stretched here) .loop .inv) (stretched here .stretch .ensures) in
-    omega (arith, G .here, found-width G (q here) (found here) (here .silent .ensures (c .before .before .if1 .taken)))
+    omega (arith, G .here, found-width G (q here) (found here) (here .silent .ensures (c .before .before .if2 .taken)))
 
-loop-less : tie.Need-loop-less Inv-loop μ-loop
-loop-less c =
+loop-less-2 : tie.Need-loop-less-2 Inv-loop μ-loop
+loop-less-2 c =
     let here = c .before .before .before in
     let G = going-runs (head (stretched here) .loop .inv) (stretched here .stretch .ensures) in
-    omega (arith, stretched here .stretch .ensures .ahead, G .here, found-width G (q here) (found here) (here .silent .ensures (c .before .before .if1 .taken)))
+    omega (arith, stretched here .stretch .ensures .ahead, G .here, found-width G (q here) (found here) (here .silent .ensures (c .before .before .if2 .taken)))
 
-loop-again : tie.Need-loop-again Inv-loop μ-loop
-loop-again c =
+loop-again-2 : tie.Need-loop-again-2 Inv-loop μ-loop
+loop-again-2 c =
     let here = c .before .before .before in
     let G = going-runs (head (stretched here) .loop .inv) (stretched here .stretch .ensures) in
-    found-silent G (q here) (found here) (here .silent .ensures (c .before .before .if1 .taken))
+    found-silent G (q here) (found here) (here .silent .ensures (c .before .before .if2 .taken))
 
 scalar-of-requires : tie.Need-scalar-of-requires Inv-loop μ-loop
 scalar-of-requires c κs = search needs
@@ -104,18 +139,18 @@ slice-write-room : tie.Need-slice-write-room Inv-loop μ-loop
 slice-write-room c =
     let here = c .before .before .before in
     let G = going-runs (head (stretched here) .loop .inv) (stretched here .stretch .ensures) in
-    let g = c .before .scalar-of .ensures (c .if2 .left) in
+    let g = c .before .scalar-of .ensures (c .if3 .left) in
     omega (arith, G .here, found-width G (q here) (found here) (g .is))
 
 cast-i-2 : tie.Need-cast-i-2 Inv-loop μ-loop
 cast-i-2 c = search needs
 
-add-i-2 : tie.Need-add-i-2 Inv-loop μ-loop
-add-i-2 c =
+add-i-3 : tie.Need-add-i-3 Inv-loop μ-loop
+add-i-3 c =
     let else = c .before .before in
     let here = else .before .before .before in
     let G = going-runs (head (stretched here) .loop .inv) (stretched here .stretch .ensures) in
-    let g = else .before .scalar-of .ensures (else .if2 .left) in
+    let g = else .before .scalar-of .ensures (else .if3 .left) in
     omega (arith, G .here, found-width G (q here) (found here) (g .is))
 
 add-o : tie.Need-add-o Inv-loop μ-loop
@@ -125,20 +160,20 @@ add-o c =
     let G = going-runs (head (stretched here) .loop .inv) (stretched here .stretch .ensures) in
     omega (arith, G .here, G .runs .size, start (stretched here) .good)
 
-loop-less-2 : tie.Need-loop-less-2 Inv-loop μ-loop
-loop-less-2 c =
+loop-less-3 : tie.Need-loop-less-3 Inv-loop μ-loop
+loop-less-3 c =
     let else = c .before .before in
     let here = else .before .before .before in
     let G = going-runs (head (stretched here) .loop .inv) (stretched here .stretch .ensures) in
-    let g = else .before .scalar-of .ensures (else .if2 .left) in
+    let g = else .before .scalar-of .ensures (else .if3 .left) in
     omega (arith, stretched here .stretch .ensures .ahead, G .here, found-width G (q here) (found here) (g .is))
 
-loop-again-2 : tie.Need-loop-again-2 Inv-loop μ-loop
-loop-again-2 c =
+loop-again-3 : tie.Need-loop-again-3 Inv-loop μ-loop
+loop-again-3 c =
     let else = c .before .before in
     let here = else .before .before .before in
     let G = going-runs (head (stretched here) .loop .inv) (stretched here .stretch .ensures) in
-    found-gives G (q here) (found here) (else .before .scalar-of .ensures (else .if2 .left))
+    found-gives G (q here) (found here) (else .before .scalar-of .ensures (else .if3 .left))
 
 pub sequences-spec : {M : Type 1} → statement M
 sequences-spec =
@@ -148,19 +183,24 @@ sequences-spec =
     μ-loop
     loop-holds
     stretch-requires
+    escape-at-requires
+    add-i
+    sub-s
+    loop-less
+    loop-again
     next-at-requires
     silent-requires
     cast-i
-    add-i
-    loop-less
-    loop-again
+    add-i-2
+    loop-less-2
+    loop-again-2
     scalar-of-requires
     same-length
     returns
     mul-room
     slice-write-room
     cast-i-2
-    add-i-2
+    add-i-3
     add-o
-    loop-less-2
-    loop-again-2)
+    loop-less-3
+    loop-again-3)
