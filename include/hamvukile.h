@@ -7,7 +7,7 @@
  * call; with a count of 0 the pointer may be anything, also NULL. A part that is lent to be written (no `const`) may
  * not overlap any other part lent to the same call.
  *
- * A refused call leaves everything as it was: it writes nothing, and hands the decoder back as it came.
+ * A refused call leaves everything as it was: it writes nothing, and hands a decoder or a writer's state back as it came.
  * There is one exception, HAMVUKILE_MALFORMED: see there.
  *
  * An example: the bytes 80 09 41 as Latin-1. The program prints U+20AC, U+0009, U+0041.
@@ -44,14 +44,14 @@ extern "C" {
 
 /* ---- Version --------------------------------------------------------------------------------------------------- */
 
-#define HAMVUKILE_VERSION "0.7.0"
+#define HAMVUKILE_VERSION "0.8.0"
 #define HAMVUKILE_VERSION_MAJOR 0
-#define HAMVUKILE_VERSION_MINOR 7
+#define HAMVUKILE_VERSION_MINOR 8
 #define HAMVUKILE_VERSION_PATCH 0
 
 /* The version as one number: 10,000 times major, 100 times minor, and patch. Records and calls of another version may
  * differ, so a program that finds another number than this in the library has been linked with the wrong one. */
-#define HAMVUKILE_VERSION_NUMBER 700
+#define HAMVUKILE_VERSION_NUMBER 800
 
 /* The version of the library. */
 uint32_t hamvukile_version(void);
@@ -65,7 +65,7 @@ enum {
     HAMVUKILE_UNKNOWN_ENCODING = 2,   /* the encoding number is above 39 */
     HAMVUKILE_UNKNOWN_MODE = 3,       /* the mode is above 1, or the rule for the byte order mark above 2 */
     HAMVUKILE_WRONG_TABLE = 4,        /* a lent table has not the length that the encoding asks for */
-    HAMVUKILE_FORGED_DECODER = 5,     /* no opening and no feed leave a decoder with these fields */
+    HAMVUKILE_FORGED_DECODER = 5,     /* no opening and no feed leave a decoder with these fields, no writing this state */
     HAMVUKILE_ENDED_DECODER = 6,      /* the decoder has ended: by a finish, by HAMVUKILE_MALFORMED, or since its opening was refused */
     HAMVUKILE_SMALL_ROOM = 7,         /* the lent room is smaller than the call asks for */
     HAMVUKILE_TOO_LONG = 8,           /* a chunk above 65,536 bytes, above 16,384 scalars, an index line above 1,024 bytes */
@@ -192,12 +192,15 @@ hamvukile_named hamvukile_name(uint8_t encoding, uint8_t *room, size_t room_leng
  *     35 (EUC-KR)                HAMVUKILE_EUC_KR_CELLS          0
  *     all others, and 21         0                               0
  *
+ * For encoding in ISO-2022-JP (33) the second table is the index of its katakana, HAMVUKILE_KATAKANA_CELLS cells.
+ *
  * In Shift_JIS (34) the pairs F0 40 to F9 FC are 0xE000 to 0xE757, for private use, and the cells at their pointers,
  * 8836 to 10715, are not looked at.
  */
 enum {
     HAMVUKILE_SINGLE_BYTE_CELLS = 128,
     HAMVUKILE_GB18030_CELLS = 23940,
+    HAMVUKILE_KATAKANA_CELLS = 63,
     HAMVUKILE_MAX_RANGES_CELLS = 414,
     HAMVUKILE_BIG5_CELLS = 19782,
     HAMVUKILE_JIS0208_CELLS = 11280,
@@ -307,23 +310,47 @@ hamvukile_checked hamvukile_check(uint8_t encoding, const uint8_t *text, size_t 
 
 /* ---- Encoding -------------------------------------------------------------------------------------------------- */
 
-/* What `hamvukile_encode` answers. */
+/* The states of a writing: ISO-2022-JP changes between them, and the other encodings hand back the state that they are
+ * handed. A text begins in HAMVUKILE_ASCII_STATE. */
+enum {
+    HAMVUKILE_ASCII_STATE = 0,
+    HAMVUKILE_ROMAN_STATE = 1,
+    HAMVUKILE_TWO_BYTE_STATE = 2
+};
+
+/* What `hamvukile_encode` and `hamvukile_encode_finish` answer. */
 typedef struct {
     size_t written;  /* bytes at the front of the room */
     size_t index;    /* with HAMVUKILE_MALFORMED the index of the scalar that cannot be written; else 0 */
     uint8_t refusal; /* 0 or a refusal */
+    uint8_t state;   /* the state for the next call; where a call is refused the one that it was handed */
 } hamvukile_written;
 
-/* Encodes scalars in any encoding but ISO-2022-JP (33), replacement (36) and UTF-16 (37, 38): writes the bytes to the
- * front of the room, and changes nothing behind them. The tables are those of decoding. The room needs the bytes that are
- * written, and no more: at most 10 for each scalar. EUC-JP and Shift_JIS write U+00A5 as 5C, U+203E as 7E and U+2212 as
- * U+FF0D, so these three are read back as another character; every other scalar that is written is read back as itself.
- * Characters of jis0212, of Shift_JIS's user rows and of Big5's first 32 rows are read, and not written. Refusals: HAMVUKILE_UNKNOWN_ENCODING, HAMVUKILE_UNKNOWN_MODE, HAMVUKILE_NO_ENCODER,
- * HAMVUKILE_WRONG_TABLE, HAMVUKILE_TOO_LONG, HAMVUKILE_NOT_SCALAR, HAMVUKILE_SMALL_ROOM, in this order; then, in
- * refusing mode, HAMVUKILE_MALFORMED. */
-hamvukile_written hamvukile_encode(uint8_t encoding, uint8_t mode, const uint32_t *scalars, size_t scalars_length,
-                                   const uint32_t *first, size_t first_length, const uint32_t *second,
-                                   size_t second_length, uint8_t *room, size_t room_length);
+/* Encodes scalars in any encoding but replacement (36) and UTF-16 (37, 38): writes the bytes to the front of the room, and
+ * changes nothing behind them. The tables are those of decoding, but for ISO-2022-JP's second. The room needs the bytes
+ * that are written, and no more: at most 10 for each scalar, in ISO-2022-JP 13. A text may be cut anywhere: the state that
+ * a call answers goes into the next one, and a finish ends the text.
+ *
+ * EUC-JP and Shift_JIS write U+00A5 as 5C, U+203E as 7E and U+2212 as U+FF0D; ISO-2022-JP writes U+2212 as U+FF0D, and the
+ * katakana of half width (U+FF61 to U+FF9F) as the characters of its second table. These are read back as another
+ * character; every other scalar that is written is read back as itself. In ISO-2022-JP, U+000E, U+000F and U+001B cannot
+ * be written, and html refers to them as &#65533;. There a scalar that cannot be written is written, or reported, in
+ * ASCII or Roman: the three bytes of a return to ASCII before it are among those written, and the state is the one then
+ * reached. Characters of jis0212, of Shift_JIS's user rows and of Big5's first 32 rows are read, and not written.
+ *
+ * Refusals: HAMVUKILE_UNKNOWN_ENCODING, HAMVUKILE_UNKNOWN_MODE, HAMVUKILE_FORGED_DECODER (a state above 2, in any
+ * encoding), HAMVUKILE_NO_ENCODER, HAMVUKILE_WRONG_TABLE, HAMVUKILE_TOO_LONG, HAMVUKILE_NOT_SCALAR,
+ * HAMVUKILE_SMALL_ROOM, in this order; then, in refusing mode, HAMVUKILE_MALFORMED. What is written after that need not
+ * read back: a text ends with its first one. */
+hamvukile_written hamvukile_encode(uint8_t encoding, uint8_t mode, uint8_t state, const uint32_t *scalars,
+                                   size_t scalars_length, const uint32_t *first, size_t first_length,
+                                   const uint32_t *second, size_t second_length, uint8_t *room, size_t room_length);
+
+/* Ends a text: writes the three bytes of a return to ASCII where the state is not HAMVUKILE_ASCII_STATE, else nothing, and
+ * answers that state. The room needs what is written, and no more. A finish sees the state and not the encoding: a host
+ * that hands an encoding other than ISO-2022-JP the state 1 or 2 gets it back, and a finish then writes three bytes that
+ * do not belong to that encoding. Refusals: HAMVUKILE_FORGED_DECODER, HAMVUKILE_SMALL_ROOM, in this order. */
+hamvukile_written hamvukile_encode_finish(uint8_t state, uint8_t *room, size_t room_length);
 
 /* ---- Lists ----------------------------------------------------------------------------------------------------- */
 

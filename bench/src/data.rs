@@ -1,6 +1,6 @@
 //! The encodings that are measured, and the published indexes as lent tables.
 
-use support::data::{ranges, single_byte, BIG5, EUC_KR, GB18030, JIS0208, JIS0212};
+use support::data::{ranges, single_byte, BIG5, EUC_KR, GB18030, JIS0208, JIS0212, KATAKANA};
 use support::{Tables, NO_TABLES};
 
 #[derive(Clone, Copy, Debug, PartialEq, Eq)]
@@ -103,6 +103,7 @@ pub struct Indexes {
     pub big5: Vec<u32>,
     pub jis0208: Vec<u32>,
     jis0212: Vec<u32>,
+    katakana: Vec<u32>,
     pub euc_kr: Vec<u32>,
 }
 
@@ -116,6 +117,7 @@ impl Indexes {
             big5: BIG5.table()?,
             jis0208: JIS0208.table()?,
             jis0212: JIS0212.table()?,
+            katakana: KATAKANA.table()?,
             euc_kr: EUC_KR.table()?,
         })
     }
@@ -132,5 +134,17 @@ impl Indexes {
             EucKr => (&self.euc_kr, &[]),
         };
         Tables { first, second }
+    }
+
+    /// The same for writing: in ISO-2022-JP with the katakana.
+    pub fn writer_tables(&self, encoding: Encoding) -> Tables<'_> {
+        let tables = self.tables(encoding);
+        match encoding {
+            Iso2022Jp => Tables {
+                second: &self.katakana,
+                ..tables
+            },
+            _ => tables,
+        }
     }
 }

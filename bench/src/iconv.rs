@@ -70,10 +70,9 @@ impl Iconv {
         (read / 4, written, error)
     }
 
-    /// What the converter has kept back: the scalars written.
-    pub fn flush(&mut self, room: &mut [u32]) -> usize {
-        let mut place = room.as_mut_ptr().cast();
-        let mut free = size_of_val(room);
+    /// What the converter has kept back, and its return to the first state: the bytes written.
+    fn end(&mut self, mut place: *mut u8, room: usize) -> usize {
+        let mut free = room;
         unsafe {
             iconv(
                 self.0,
@@ -83,7 +82,17 @@ impl Iconv {
                 &mut free,
             )
         };
-        (size_of_val(room) - free) / 4
+        room - free
+    }
+
+    /// The scalars that were kept back.
+    pub fn flush(&mut self, room: &mut [u32]) -> usize {
+        self.end(room.as_mut_ptr().cast(), size_of_val(room)) / 4
+    }
+
+    /// The end of written bytes.
+    pub fn finish(&mut self, room: &mut [u8]) -> usize {
+        self.end(room.as_mut_ptr(), room.len())
     }
 }
 

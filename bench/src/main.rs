@@ -38,7 +38,7 @@ const SHORT: [&str; 8] = [
 const CHECKED: [usize; 4] = [512, 4096, 16384, 65536];
 
 /// The inputs that are written again.
-const WRITTEN: [&str; 20] = [
+const WRITTEN: [&str; 22] = [
     "utf-8-ascii",
     "utf-8-french",
     "utf-8-russian",
@@ -49,6 +49,8 @@ const WRITTEN: [&str; 20] = [
     "windows-1252-dense",
     "euc-jp-list",
     "euc-jp-dense",
+    "iso-2022-jp-list",
+    "iso-2022-jp-dense",
     "shift_jis-list",
     "shift_jis-dense",
     "gbk-list",

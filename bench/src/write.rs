@@ -11,20 +11,32 @@ use support::{calls, Tables};
 /// The most scalars that a call takes.
 pub const SCALARS: usize = 16384;
 
-/// The most bytes of a scalar: `&#1114111;`.
-const BYTES: usize = 10;
+/// The most bytes of a scalar: an escape sequence and `&#1114111;`.
+const BYTES: usize = 13;
 
-fn ours(encoding: Encoding, tables: Tables, scalars: &[u32], room: &mut [u8]) -> usize {
-    let answer = calls::encode(
-        encoding.number(),
-        0,
-        scalars,
-        tables.first,
-        tables.second,
-        room,
-    );
-    assert_eq!(answer.refusal, 0);
-    answer.written
+/// The most bytes of a finish.
+const FINISH: usize = 3;
+
+/// The library's writer, with the state that goes from call to call. No scalars end the text.
+fn ours<'a>(encoding: Encoding, tables: Tables<'a>) -> impl FnMut(&[u32], &mut [u8]) -> usize + 'a {
+    let mut state = 0;
+    move |scalars: &[u32], room: &mut [u8]| {
+        let answer = match scalars {
+            [] => calls::encode_finish(state, room),
+            _ => calls::encode(
+                encoding.number(),
+                0,
+                state,
+                scalars,
+                tables.first,
+                tables.second,
+                room,
+            ),
+        };
+        assert_eq!(answer.refusal, 0);
+        state = answer.state;
+        answer.written
+    }
 }
 
 /// A timed run. Behind the clock the number of bytes and those of the last chunk are compared with what the writer wrote before.
@@ -33,7 +45,7 @@ fn writing<'a>(
     expected: &'a [u8],
     mut write: impl FnMut(&[u32], &mut [u8]) -> usize + 'a,
 ) -> Run<'a> {
-    let mut room = vec![0; SCALARS * BYTES];
+    let mut room = vec![0; SCALARS * BYTES + FINISH];
     Box::new(move || {
         let mut written = 0;
         let mut last = 0;
@@ -43,8 +55,9 @@ fn writing<'a>(
             last = write(part, &mut room);
             written += last;
         }
+        let end = write(&[], &mut room[last..]);
         let seconds = start.elapsed().as_secs_f64();
-        let same = written == expected.len() && expected.ends_with(&room[..last]);
+        let same = written + end == expected.len() && expected.ends_with(&room[..last + end]);
         assert!(same, "two runs of one writer differ");
         seconds
     })
@@ -54,7 +67,7 @@ fn writing<'a>(
 fn all(scalars: &[u32], mut write: impl FnMut(&[u32], &mut [u8]) -> usize) -> Vec<u8> {
     let mut room = vec![0; SCALARS * BYTES];
     let mut bytes = Vec::new();
-    for part in scalars.chunks(SCALARS) {
+    for part in scalars.chunks(SCALARS).chain([&[][..]]) {
         let written = write(part, &mut room);
         bytes.extend_from_slice(&room[..written]);
     }
@@ -70,16 +83,19 @@ pub fn measure(
     number: usize,
     counts: &mut Counts,
 ) -> Result<(), String> {
-    let tables = indexes.tables(encoding);
-    let scalars = whole(Ours::open(encoding, tables), bytes, 65536);
+    let tables = indexes.writer_tables(encoding);
+    let scalars = whole(Ours::open(encoding, indexes.tables(encoding)), bytes, 65536);
     let mut converter = Iconv::open("UTF-32LE", encoding.iconv())?;
     let mut iconv = |scalars: &[u32], room: &mut [u8]| {
+        if scalars.is_empty() {
+            return converter.finish(room);
+        }
         let (read, written, _) = converter.encode(scalars, room);
         assert_eq!(read, scalars.len());
         written
     };
     let mut notes = Vec::new();
-    let by_ours = all(&scalars, |part, room| ours(encoding, tables, part, room));
+    let by_ours = all(&scalars, ours(encoding, tables));
     if by_ours != bytes {
         notes.push("ours differs from the input".to_string());
     }
@@ -90,9 +106,7 @@ pub fn measure(
     let differ = !notes.is_empty();
     let measured = {
         let mut runs = [
-            writing(&scalars, &by_ours, |part, room| {
-                ours(encoding, tables, part, room)
-            }),
+            writing(&scalars, &by_ours, ours(encoding, tables)),
             writing(&scalars, &by_iconv, &mut iconv),
         ];
         rounds(number, &mut runs)

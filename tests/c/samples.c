@@ -53,7 +53,7 @@ static hamvukile_answer finish(hamvukile_decoder d, tables t, uint32_t *room, si
 }
 
 static hamvukile_written encode(uint8_t encoding, uint8_t mode, const uint32_t *scalars, size_t n, tables t, uint8_t *room, size_t room_length) {
-    return hamvukile_encode(encoding, mode, scalars, n, t.first, t.first_length, t.second, t.second_length, room, room_length);
+    return hamvukile_encode(encoding, mode, HAMVUKILE_ASCII_STATE, scalars, n, t.first, t.first_length, t.second, t.second_length, room, room_length);
 }
 
 /* Reads a text that is cut behind byte i where bit i of `cuts` is set; the number of scalars, or -1 if a call was refused or wrote behind them. */
@@ -345,22 +345,28 @@ static void writing(void) {
     uint8_t room[16];
     hamvukile_written w;
     memset(room, 0x55, sizeof room);
-    w = hamvukile_encode(21, HAMVUKILE_HTML, han, 1, NULL, 0, NULL, 0, room, 8);
+    w = hamvukile_encode(21, HAMVUKILE_HTML, 0, han, 1, NULL, 0, NULL, 0, room, 8);
     check("15: U+4E00 as windows-1252, html", w.refusal == 0 && w.written == 8 && w.index == 0 && memcmp(room, "&#19968;\x55", 9) == 0);
-    w = hamvukile_encode(21, HAMVUKILE_REFUSING, han, 1, NULL, 0, NULL, 0, room, 0);
+    w = hamvukile_encode(21, HAMVUKILE_REFUSING, 0, han, 1, NULL, 0, NULL, 0, room, 0);
     check("15: U+4E00 as windows-1252, refusing", w.refusal == HAMVUKILE_MALFORMED && w.written == 0 && w.index == 0);
     memset(room, 0x55, sizeof room);
-    w = hamvukile_encode(21, HAMVUKILE_REFUSING, text, 2, NULL, 0, NULL, 0, room, 1);
+    w = hamvukile_encode(21, HAMVUKILE_REFUSING, 0, text, 2, NULL, 0, NULL, 0, room, 1);
     check("an unwritable scalar at index 1", w.refusal == HAMVUKILE_MALFORMED && w.written == 1 && w.index == 1 && room[0] == 0x41 && room[1] == 0x55);
-    w = hamvukile_encode(0, HAMVUKILE_HTML, han, 1, NULL, 0, NULL, 0, room, 3);
+    w = hamvukile_encode(0, HAMVUKILE_HTML, 0, han, 1, NULL, 0, NULL, 0, room, 3);
     check("U+4E00 as UTF-8", w.refusal == 0 && w.written == 3 && memcmp(room, "\xE4\xB8\x80", 3) == 0);
-    check("writing: 7", hamvukile_encode(0, HAMVUKILE_HTML, han, 1, NULL, 0, NULL, 0, room, 2).refusal == HAMVUKILE_SMALL_ROOM);
-    check("writing: 2 before 3", hamvukile_encode(40, 2, han, 1, NULL, 0, NULL, 0, room, 16).refusal == HAMVUKILE_UNKNOWN_ENCODING);
-    check("writing: 3 before 9", hamvukile_encode(36, 2, han, 1, NULL, 0, NULL, 0, room, 16).refusal == HAMVUKILE_UNKNOWN_MODE);
-    check("writing: 9 before 4", hamvukile_encode(36, 0, han, 1, NULL, 0, NULL, 0, room, 16).refusal == HAMVUKILE_NO_ENCODER);
-    check("writing: 4", hamvukile_encode(1, 0, han, 1, NULL, 0, NULL, 0, room, 16).refusal == HAMVUKILE_WRONG_TABLE);
-    check("writing: 8", hamvukile_encode(0, 0, unmapped, 16385, NULL, 0, NULL, 0, room, 16).refusal == HAMVUKILE_TOO_LONG);
-    check("writing: 10 before 7", hamvukile_encode(21, 1, surrogate, 2, NULL, 0, NULL, 0, room, 0).refusal == HAMVUKILE_NOT_SCALAR);
+    check("writing: 7", hamvukile_encode(0, HAMVUKILE_HTML, 0, han, 1, NULL, 0, NULL, 0, room, 2).refusal == HAMVUKILE_SMALL_ROOM);
+    check("writing: 2 before 3", hamvukile_encode(40, 2, 0, han, 1, NULL, 0, NULL, 0, room, 16).refusal == HAMVUKILE_UNKNOWN_ENCODING);
+    check("writing: 3 before 9", hamvukile_encode(36, 2, 0, han, 1, NULL, 0, NULL, 0, room, 16).refusal == HAMVUKILE_UNKNOWN_MODE);
+    check("writing: 3 before 5", hamvukile_encode(36, 2, 3, han, 1, NULL, 0, NULL, 0, room, 16).refusal == HAMVUKILE_UNKNOWN_MODE);
+    w = hamvukile_encode(36, 0, 3, han, 1, NULL, 0, NULL, 0, room, 16);
+    check("writing: 5 before 9", w.refusal == HAMVUKILE_FORGED_DECODER && w.state == 3);
+    check("writing: 5 in UTF-8", hamvukile_encode(0, 0, 255, han, 1, NULL, 0, NULL, 0, room, 16).refusal == HAMVUKILE_FORGED_DECODER);
+    w = hamvukile_encode(0, 0, HAMVUKILE_TWO_BYTE_STATE, han, 1, NULL, 0, NULL, 0, room, 16);
+    check("UTF-8 hands the state back", w.refusal == 0 && w.written == 3 && w.state == HAMVUKILE_TWO_BYTE_STATE);
+    check("writing: 9 before 4", hamvukile_encode(36, 0, 0, han, 1, NULL, 0, NULL, 0, room, 16).refusal == HAMVUKILE_NO_ENCODER);
+    check("writing: 4", hamvukile_encode(1, 0, 0, han, 1, NULL, 0, NULL, 0, room, 16).refusal == HAMVUKILE_WRONG_TABLE);
+    check("writing: 8", hamvukile_encode(0, 0, 0, unmapped, 16385, NULL, 0, NULL, 0, room, 16).refusal == HAMVUKILE_TOO_LONG);
+    check("writing: 10 before 7", hamvukile_encode(21, 1, 0, surrogate, 2, NULL, 0, NULL, 0, room, 0).refusal == HAMVUKILE_NOT_SCALAR);
 }
 
 /* Sample 16, the other refusals of a decoder, and that they change nothing. */
@@ -497,6 +503,49 @@ static void chinese(void) {
     check("Big5: the last pointer of U+2550, the first of others", w.refusal == 0 && w.written == 4 && memcmp(room, "\xA1\x41\xA1\x42", 4) == 0);
     cells[5024] = cells[5025] = 0;
     check("Big5: not below 5,024", encode(31, 1, lines, 1, big5, room, 4).refusal == HAMVUKILE_MALFORMED);
+}
+
+/* Writing ISO-2022-JP: the state from call to call, errors, the room of a return, and the finish. */
+static void iso_2022_jp(void) {
+    static const uint32_t text[] = { 0x41, 0x4E00, 0xFF61, 0xA5, 0x42, 0x0A, 0x5C, 0x203E, 0x2212, 0x1B, 0x4E00, 0x4E01 };
+    static const char whole[] = "A\x1B$B!!!\"\x1B(J\\B\n\x1B(B\\\x1B(J~\x1B$B!#\x1B(B&#65533;\x1B$B!!\x1B(B&#19969;";
+    static uint32_t first[HAMVUKILE_JIS0208_CELLS], katakana[HAMVUKILE_KATAKANA_CELLS];
+    tables t = { first, HAMVUKILE_JIS0208_CELLS, katakana, HAMVUKILE_KATAKANA_CELLS };
+    const size_t n = sizeof text / sizeof *text, length = sizeof whole - 1;
+    uint8_t room[128];
+    hamvukile_written w;
+    size_t cut, at;
+    first[0] = 0x4E00;
+    first[1] = 0x30A2;
+    first[2] = 0xFF0D;
+    first[8836] = 0x4E01;
+    katakana[0] = 0x30A2;
+    for (cut = 0; cut <= n; cut++) {
+        memset(room, 0x55, sizeof room);
+        w = hamvukile_encode(33, HAMVUKILE_HTML, 0, text, cut, t.first, t.first_length, t.second, t.second_length, room, length);
+        at = w.written;
+        check("ISO-2022-JP: the first part", w.refusal == 0);
+        w = hamvukile_encode(33, HAMVUKILE_HTML, w.state, text + cut, n - cut, t.first, t.first_length, t.second, t.second_length, room + at, length - at);
+        check("ISO-2022-JP in every cut", w.refusal == 0 && w.state == HAMVUKILE_ASCII_STATE && at + w.written == length && memcmp(room, whole, length) == 0 && room[length] == 0x55);
+    }
+    w = hamvukile_encode(33, HAMVUKILE_REFUSING, HAMVUKILE_TWO_BYTE_STATE, text + 10, 2, t.first, t.first_length, t.second, t.second_length, room, 5);
+    check("11: a return before it is written", w.refusal == HAMVUKILE_MALFORMED && w.written == 5 && w.index == 1 && w.state == HAMVUKILE_ASCII_STATE && memcmp(room, "!!\x1B(B", 5) == 0);
+    w = hamvukile_encode(33, HAMVUKILE_REFUSING, HAMVUKILE_TWO_BYTE_STATE, text + 10, 2, t.first, t.first_length, t.second, t.second_length, room, 4);
+    check("7: and needs room", w.refusal == HAMVUKILE_SMALL_ROOM && w.written == 0 && w.state == HAMVUKILE_TWO_BYTE_STATE);
+    w = hamvukile_encode(33, HAMVUKILE_REFUSING, HAMVUKILE_ROMAN_STATE, text + 9, 1, t.first, t.first_length, t.second, t.second_length, room, 0);
+    check("11 in Roman stays there", w.refusal == HAMVUKILE_MALFORMED && w.written == 0 && w.state == HAMVUKILE_ROMAN_STATE);
+    t.second_length = 0;
+    check("4: the katakana", encode(33, 1, text, 1, t, room, 1).refusal == HAMVUKILE_WRONG_TABLE);
+    w = hamvukile_encode_finish(HAMVUKILE_ASCII_STATE, NULL, 0);
+    check("a finish in ASCII", w.refusal == 0 && w.written == 0 && w.index == 0 && w.state == HAMVUKILE_ASCII_STATE);
+    memset(room, 0x55, sizeof room);
+    w = hamvukile_encode_finish(HAMVUKILE_ROMAN_STATE, room, 3);
+    check("a finish in Roman", w.refusal == 0 && w.written == 3 && w.state == HAMVUKILE_ASCII_STATE && memcmp(room, "\x1B(B\x55", 4) == 0);
+    memset(room, 0x55, sizeof room);
+    w = hamvukile_encode_finish(HAMVUKILE_TWO_BYTE_STATE, room, 2);
+    check("a finish: 7", w.refusal == HAMVUKILE_SMALL_ROOM && w.written == 0 && w.state == HAMVUKILE_TWO_BYTE_STATE && room[0] == 0x55);
+    w = hamvukile_encode_finish(3, NULL, 0);
+    check("a finish: 5 before 7", w.refusal == HAMVUKILE_FORGED_DECODER && w.state == 3);
 }
 
 /* A mark that chooses, in every cut; the tables of the opening's encoding at a feed, and at a finish before the choice. */
@@ -720,6 +769,7 @@ int main(void) {
     part("writing, with sample 15", writing);
     part("writing Shift_JIS and EUC-JP", japanese);
     part("writing GBK, gb18030, Big5 and EUC-KR", chinese);
+    part("writing ISO-2022-JP in every cut", iso_2022_jp);
     part("marks that choose in every cut", choices);
     part("a decoder that is lent", in_place);
     part("refusals, with sample 16", refusals);

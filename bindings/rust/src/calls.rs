@@ -137,6 +137,7 @@ pub fn check(encoding: u8, text: &[u8], first: &[u32], second: &[u32]) -> Checke
 pub fn encode(
     encoding: u8,
     mode: u8,
+    state: u8,
     scalars: &[u32],
     first: &[u32],
     second: &[u32],
@@ -147,6 +148,7 @@ pub fn encode(
         ffi::hamvukile_encode(
             encoding,
             mode,
+            state,
             scalars.as_ptr(),
             scalars.len(),
             first.as_ptr(),
@@ -157,6 +159,12 @@ pub fn encode(
             room.len(),
         )
     }
+}
+
+#[inline]
+pub fn encode_finish(state: u8, room: &mut [u8]) -> Written {
+    // SAFETY: the slice is valid for its length.
+    unsafe { ffi::hamvukile_encode_finish(state, room.as_mut_ptr(), room.len()) }
 }
 
 #[inline]

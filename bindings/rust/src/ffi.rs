@@ -68,6 +68,7 @@ pub struct Written {
     pub written: usize,
     pub index: usize,
     pub refusal: u8,
+    pub state: u8,
 }
 
 #[repr(C)]
@@ -140,6 +141,7 @@ extern "C" {
     pub fn hamvukile_encode(
         encoding: u8,
         mode: u8,
+        state: u8,
         scalars: *const u32,
         scalars_length: usize,
         first: *const u32,
@@ -149,6 +151,7 @@ extern "C" {
         room: *mut u8,
         room_length: usize,
     ) -> Written;
+    pub fn hamvukile_encode_finish(state: u8, room: *mut u8, room_length: usize) -> Written;
     pub fn hamvukile_read_list(
         text: *const u32,
         length: usize,

@@ -30,7 +30,7 @@ use std::ops::Deref;
 
 /// The longest chunk that [`Decoder::feed`] takes, and the longest text that [`check`] takes, in bytes.
 pub const MAX_CHUNK: usize = 65_536;
-/// The most scalars that [`encode`] takes.
+/// The most scalars that [`encode`] and [`Encoder::encode`] take.
 pub const MAX_SCALARS: usize = 16_384;
 /// The longest line that [`index_line`] takes, in bytes.
 pub const MAX_LINE: usize = 1_024;
@@ -38,8 +38,10 @@ pub const MAX_LINE: usize = 1_024;
 pub const MAX_HELD: usize = 3;
 /// The most bytes that a decoder takes in all.
 pub const MAX_TAKEN: u32 = u32::MAX;
-/// The most bytes that [`encode`] writes for a scalar.
-pub const MAX_BYTES_OF_A_SCALAR: usize = 10;
+/// The most bytes that [`Encoder::encode`] writes for a scalar: in ISO-2022-JP an escape sequence and a reference.
+pub const MAX_BYTES_OF_A_SCALAR: usize = 13;
+/// The most bytes that [`Encoder::finish`] writes.
+pub const MAX_FINISH: usize = 3;
 /// The cells of an option that [`read_list`] writes.
 pub const OPTION_CELLS: usize = 5;
 const MAX_NAME: usize = 14;
@@ -47,7 +49,7 @@ const MAX_NAME: usize = 14;
 /// The version of the library that is linked: 10,000 times major, 100 times minor, and patch.
 ///
 /// ```
-/// assert_eq!(hamvukile::version(), 700); // 0.7.0
+/// assert_eq!(hamvukile::version(), 800); // 0.8.0
 /// ```
 pub fn version() -> u32 {
     calls::version()
@@ -156,7 +158,7 @@ pub struct Error {
     pub refusal: Refusal,
     /// With [`Refusal::Malformed`] how much is written at the front of the room; else 0, and nothing is written.
     pub written: usize,
-    /// With [`Refusal::Malformed`] of [`encode`] the index of the scalar that cannot be written; else 0.
+    /// With [`Refusal::Malformed`] of an encoder the index of the scalar that cannot be written; else 0.
     pub index: usize,
     /// With [`Refusal::Malformed`] of a decoder the bytes taken since it was made before the first byte of the sequence at
     /// fault; else 0.
@@ -388,12 +390,23 @@ impl<'a> Tables<'a> {
         }
     }
 
-    /// For ISO-2022-JP and Shift_JIS. In Shift_JIS the pairs F0 40 to F9 FC are U+E000 to U+E757, for private use, and
+    /// For Shift_JIS, and for decoding ISO-2022-JP. In Shift_JIS the pairs F0 40 to F9 FC are U+E000 to U+E757, for private use, and
     /// the cells at their pointers, 8,836 to 10,715, are not looked at.
     pub const fn jis0208(jis0208: &'a [u32; 11_280]) -> Tables<'a> {
         Tables {
             first: jis0208,
             second: &[],
+        }
+    }
+
+    /// For encoding in ISO-2022-JP: decoding takes [`Tables::jis0208`].
+    pub const fn iso_2022_jp_encoder(
+        jis0208: &'a [u32; 11_280],
+        katakana: &'a [u32; 63],
+    ) -> Tables<'a> {
+        Tables {
+            first: jis0208,
+            second: katakana,
         }
     }
 
@@ -667,10 +680,101 @@ pub enum OnUnwritable {
     Refuse = 1,
 }
 
-/// Encodes scalars, at most [`MAX_SCALARS`], in any encoding but ISO-2022-JP, replacement and UTF-16: writes the bytes
-/// to the front of the room and returns how many; the bytes behind them do not change. The room needs
-/// the bytes written and no more, at most [`MAX_BYTES_OF_A_SCALAR`] for each scalar. EUC-JP and Shift_JIS write U+00A5
-/// as 5C, U+203E as 7E and U+2212 as U+FF0D; every other scalar that is written is read back as itself.
+/// An encoder: any encoding but replacement and UTF-16. It takes a text in pieces, cut anywhere, and owns the state that goes
+/// from piece to piece, which only ISO-2022-JP changes. [`Encoder::finish`] ends the text and consumes the encoder.
+///
+/// EUC-JP and Shift_JIS write U+00A5 as 5C, U+203E as 7E and U+2212 as U+FF0D; ISO-2022-JP writes U+2212 as U+FF0D, and
+/// U+FF61 to U+FF9F as the characters of its katakana table. Every other scalar that is written is read back as itself.
+///
+/// ```
+/// use hamvukile::{Encoder, Encoding, OnUnwritable, Tables, MAX_FINISH};
+///
+/// // indexes with one cell each: U+3042 at pointer 283, and U+3042 for U+FF61
+/// let mut jis0208 = vec![0; 11_280];
+/// jis0208[283] = 0x3042;
+/// let mut katakana = [0; 63];
+/// katakana[0] = 0x3042;
+/// let tables = Tables::iso_2022_jp_encoder(jis0208.as_slice().try_into().unwrap(), &katakana);
+///
+/// let mut encoder = Encoder::new(Encoding::ISO_2022_JP, OnUnwritable::Html);
+/// let mut room = [0; 16];
+/// let n = encoder.encode(&[0x3042], &tables, &mut room).unwrap();
+/// assert_eq!(&room[..n], b"\x1B$B$\"");
+/// let n = encoder.encode(&[0xFF61, 0x5C, 0xA5], &tables, &mut room).unwrap();
+/// assert_eq!(&room[..n], b"$\"\x1B(B\\\x1B(J\\");
+/// let mut last = [0; MAX_FINISH];
+/// let n = encoder.finish(&mut last);
+/// assert_eq!(&last[..n], b"\x1B(B");
+/// ```
+///
+/// ```compile_fail
+/// # use hamvukile::{Encoder, Encoding, OnUnwritable, Tables, MAX_FINISH};
+/// let mut encoder = Encoder::new(Encoding::ISO_2022_JP, OnUnwritable::Html);
+/// encoder.finish(&mut [0; MAX_FINISH]);
+/// encoder.encode(&[0x41], &Tables::none(), &mut []);
+/// ```
+#[derive(Clone, Debug, PartialEq, Eq)]
+#[must_use]
+pub struct Encoder {
+    encoding: Encoding,
+    on_unwritable: OnUnwritable,
+    state: u8,
+}
+
+impl Encoder {
+    /// An encoder at the start of a text.
+    pub fn new(encoding: Encoding, on_unwritable: OnUnwritable) -> Encoder {
+        Encoder {
+            encoding,
+            on_unwritable,
+            state: 0,
+        }
+    }
+
+    /// Encodes scalars, at most [`MAX_SCALARS`]: writes the bytes to the front of the room and returns how many; the bytes
+    /// behind them do not change. The room needs the bytes written and no more, at most [`MAX_BYTES_OF_A_SCALAR`] for each
+    /// scalar. With [`Refusal::Malformed`] the bytes before the scalar that cannot be written are written, a return to ASCII
+    /// among them; what an encoder writes after that need not read back.
+    pub fn encode(
+        &mut self,
+        scalars: &[u32],
+        tables: &Tables<'_>,
+        room: &mut [u8],
+    ) -> Result<usize, Error> {
+        let answer = calls::encode(
+            self.encoding.0,
+            self.on_unwritable as u8,
+            self.state,
+            scalars,
+            tables.first,
+            tables.second,
+            room,
+        );
+        self.state = answer.state;
+        match answer.refusal {
+            0 => Ok(answer.written),
+            n => Err(Error {
+                written: answer.written,
+                index: answer.index,
+                ..refused(n)
+            }),
+        }
+    }
+
+    /// Is the text in ASCII, so that a finish would write nothing? In all encodings but ISO-2022-JP it always is.
+    pub fn is_ascii(&self) -> bool {
+        self.state == 0
+    }
+
+    /// Ends the text: writes a return to ASCII where the encoder is not in it, and returns how many bytes that are.
+    pub fn finish(self, room: &mut [u8; MAX_FINISH]) -> usize {
+        calls::encode_finish(self.state, room).written
+    }
+}
+
+/// Encodes a whole text of at most [`MAX_SCALARS`] scalars, and finishes it: [`Encoder`] in one call. The room needs the bytes
+/// written and no more, at most [`MAX_BYTES_OF_A_SCALAR`] for each scalar and [`MAX_FINISH`]. A refusal leaves the room as it
+/// was, but where it has space for the text and not for the finish. [`Refusal::Malformed`] comes before a finish.
 ///
 /// ```
 /// use hamvukile::{encode, Encoding, OnUnwritable, Refusal, Tables};
@@ -696,22 +800,15 @@ pub fn encode(
     tables: &Tables<'_>,
     room: &mut [u8],
 ) -> Result<usize, Error> {
-    let answer = calls::encode(
-        encoding.0,
-        on_unwritable as u8,
-        scalars,
-        tables.first,
-        tables.second,
-        room,
-    );
-    match answer.refusal {
-        0 => Ok(answer.written),
-        n => Err(Error {
-            written: answer.written,
-            index: answer.index,
-            ..refused(n)
-        }),
+    let mut encoder = Encoder::new(encoding, on_unwritable);
+    let written = encoder.encode(scalars, tables, room)?;
+    let mut last = [0; MAX_FINISH];
+    let n = encoder.finish(&mut last);
+    match room.get_mut(written..written + n) {
+        Some(end) => end.copy_from_slice(&last[..n]),
+        None => return Err(refused(Refusal::SmallRoom.number())),
     }
+    Ok(written + n)
 }
 
 /// Enters a line of a published index file, without its line feed, into a table that starts as zeros. Returns the
@@ -981,6 +1078,79 @@ mod tests {
             );
             assert_eq!(decoder.lines(), 2);
         }
+    }
+
+    #[test]
+    fn a_writing_cut_anywhere_is_the_same() {
+        let mut jis0208 = vec![0; 11_280];
+        jis0208[0] = 0x3042;
+        let katakana = [0x3042; 63];
+        let tables = Tables::iso_2022_jp_encoder(jis0208.as_slice().try_into().unwrap(), &katakana);
+        let text = [0x41, 0x3042, 0xFF71, 0xA5, 0x42, 0x7E, 0x4E00, 0x3042];
+        let whole = b"A\x1B$B!!!!\x1B(J\\B\x1B(B~&#19968;\x1B$B!!\x1B(B";
+        let mut room = [0; 64];
+        let n = encode(
+            Encoding::ISO_2022_JP,
+            OnUnwritable::Html,
+            &text,
+            &tables,
+            &mut room,
+        );
+        assert_eq!(&room[..n.unwrap()], whole);
+        for cut in 0..=text.len() {
+            let mut encoder = Encoder::new(Encoding::ISO_2022_JP, OnUnwritable::Html);
+            let a = encoder.encode(&text[..cut], &tables, &mut room).unwrap();
+            let b = encoder
+                .encode(&text[cut..], &tables, &mut room[a..])
+                .unwrap();
+            let mut last = [0; MAX_FINISH];
+            let c = encoder.finish(&mut last);
+            assert_eq!([&room[..a + b], &last[..c]].concat(), whole);
+        }
+    }
+
+    #[test]
+    fn a_refused_writing_keeps_its_state() {
+        let jis0208 = vec![0; 11_280];
+        let katakana = [0; 63];
+        let tables = Tables::iso_2022_jp_encoder(jis0208.as_slice().try_into().unwrap(), &katakana);
+        let mut encoder = Encoder::new(Encoding::ISO_2022_JP, OnUnwritable::Refuse);
+        let mut room = [0; 8];
+        assert_eq!(encoder.encode(&[0xA5], &tables, &mut room), Ok(4));
+        let kept = encoder.clone();
+        assert!(!kept.is_ascii());
+        let small = encoder.encode(&[0x41], &tables, &mut []).unwrap_err();
+        assert_eq!((small.refusal, &encoder), (Refusal::SmallRoom, &kept));
+        let tables_of_reading = Tables::of(&jis0208, &[]);
+        let wrong = encoder
+            .encode(&[], &tables_of_reading, &mut [])
+            .unwrap_err();
+        assert_eq!((wrong.refusal, &encoder), (Refusal::WrongTable, &kept));
+        let report = encoder
+            .encode(&[0x41, 0x1B], &tables, &mut room)
+            .unwrap_err();
+        assert_eq!(
+            (report.refusal, report.written, report.index),
+            (Refusal::Malformed, 1, 1)
+        );
+        assert_eq!(encoder.finish(&mut [0; MAX_FINISH]), 3);
+    }
+
+    #[test]
+    fn a_whole_writing_needs_room_for_its_finish() {
+        let jis0208 = vec![0; 11_280];
+        let tables = Tables::of(&jis0208, &[0; 63]);
+        let write = |room: &mut [u8]| {
+            encode(
+                Encoding::ISO_2022_JP,
+                OnUnwritable::Html,
+                &[0xA5],
+                &tables,
+                room,
+            )
+        };
+        assert_eq!(write(&mut [0; 7]), Ok(7));
+        assert_eq!(write(&mut [0; 6]).unwrap_err().refusal, Refusal::SmallRoom);
     }
 
     #[test]

@@ -11,7 +11,7 @@ use lib.Seq.{getD-set-same, getD-set-other, drop-cons}
 use borrow.Author.Tests.{leb-true, eqb-true, eqb-false, lt-ltb, le-ltb, eq-eqb, ne-eqb}
 use Rattle.standard.specs.Base.{_then_else_, within, isScalar, mapped}
 use Rattle.standard.specs.Indexes.{irregular, windows1252}
-use Rattle.standard.specs.Machine.{Result, tokens}
+use Rattle.standard.specs.Machine.{Result, tokens, error-with}
 use Rattle.standard.specs.Search.{first, either, searchFrom, searching, pointerFrom}
 use Rattle.standard.specs.Encoders.Utf8.{utf8Encode}
 use Rattle.standard.specs.Encoders.SingleByte.{singleByteEncode}
@@ -21,6 +21,8 @@ use Rattle.standard.specs.Encoders.Big5.{big5Encode}
 use Rattle.standard.specs.Encoders.EucJp.{eucJpEncode}
 use Rattle.standard.specs.Encoders.ShiftJis.{shiftJisEncode}
 use Rattle.standard.specs.Encoders.EucKr.{eucKrEncode}
+use Rattle.standard.specs.Encoders.Iso2022Jp.{control}
+use Rattle.standard.specs.Ones.{iso2022JpEncode}
 use Rattle.standard.proofs.Tests.{split, and-left, and-right}
 use Rattle.pair_writers.specs.Pairs.{pairEncode}
 use Rattle.encoder.specs.WriterCode.{given, encoderOf, Slots, entered}
@@ -143,10 +145,11 @@ pub regular-on : (slots : List ℕ) (c : ℕ) → length slots ≡ 2048 → 0xA0
 regular-on slots c l h g s = slots-set (singleByteEncode (searching windows1252)) slots c (c * 256 + c) (omega arith) s
     (let d : (c * 256 + c) / 256 ≡ c = omega arith in let m : (c * 256 + c) % 256 ≡ c = omega arith in rw (d, m) (sym (windows-self c h (omega arith))))
 
--- ASCII is its own byte in the encodings that write pairs
-pub pair-80 : (e : ℕ) (table second : List ℕ) (c : ℕ) → c < 0x80 → tokens (c ∷ []) ≡ pairEncode e table second c
-unfolding pairEncode gb18030Encode big5Encode eucJpEncode shiftJisEncode eucKrEncode
-pair-80 e table second c h = go (leb e 30) (eqb e 31) (eqb e 32) (eqb e 34)
+-- ASCII is its own byte in the encodings that write pairs, but for the controls of ISO-2022-JP
+pub pair-80 : (e : ℕ) (table second : List ℕ) (c : ℕ) → c < 0x80 →
+    (eqb e 33 && control c then error-with 0xFFFD else tokens (c ∷ [])) ≡ pairEncode e table second c
+unfolding pairEncode gb18030Encode big5Encode eucJpEncode iso2022JpEncode shiftJisEncode eucKrEncode
+pair-80 e table second c h = split (eqb e 33) (λ z. rw (eqb-true e 33 z, lt-ltb c 0x80 h)) (λ z. rw z (go (leb e 30) (eqb e 31) (eqb e 32) (eqb e 34)))
   where
     go : (g b j s : Bool) → tokens (c ∷ []) ≡ (g then gb18030Encode (eqb e 29) (searching table) second else
         b then big5Encode (searching table) else j then eucJpEncode (searching table) else

@@ -1,5 +1,6 @@
 pub mod Scalars
 pub mod Rooms
+pub mod Shifts
 pub mod Filling
 pub mod Counting
 pub mod Most

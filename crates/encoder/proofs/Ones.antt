@@ -1,6 +1,7 @@
 -- The answers of the writers of pairs: their bytes in a room, and what is written of a scalar. Assumes nothing.
-use mathlib.Core.Path.{_≡_, sym, ap, _∙_}
-use mathlib.Core.List.{List, [], _∷_}
+use mathlib.Core.Path.{_≡_, refl, sym, ap, _∙_}
+use mathlib.Core.Bool.{Bool, true, false}
+use mathlib.Core.List.{List, [], _∷_, _++_}
 use Prim.Native.Nat.{ℕ, _+_, _≤_}
 use native.Mathlib.Omega.{arith}
 use lib.Dec.{eqb}
@@ -8,11 +9,13 @@ use lib.ListN.{length, set}
 use lib.Seq.{sets}
 use borrow.Author.Tests.{eqb-true, eqb-false, eq-eqb, ne-eqb}
 use Rattle.standard.proofs.Tests.{split}
-use Rattle.pair_writers.specs.Pairs.{bytesOf, told, pairEncode}
+use Rattle.pair_writers.specs.Pairs.{bytesOf, told, byCount, pairEncode, pairState, Plain}
 use Rattle.pair_writers.specs.declared.One.{One}
-use Rattle.encoder_spec.specs.Writing.{wrote, cannot}
+use Rattle.standard.specs.Machine.{Result, tokens, error-with}
+use Rattle.standard.specs.Base.{_then_else_}
+use Rattle.standard.specs.Ones.{wrote, cannot, shiftTo, answered, stateFor}
 use Rattle.encoder.specs.WriterCode.{pairOf}
-use Rattle.encoder.proofs.Counting.{told-bytes, told-error}
+use Rattle.encoder.proofs.Filling.{pair-80}
 use Rattle.encoder.proofs.Rooms.{same-list, put-one, put-two, put-four}
 
 -- one byte, two or four
@@ -59,10 +62,40 @@ module _ (o : One) where
         (set (set (set (set room at (o .first)) (at + 1) (o .second)) (at + 2) (o .third)) (at + 3) (o .fourth) ≡ sets room at (bytesOf o))
     four-put h g = same-list room at (sym (four-bytes h g)) (put-four room at (o .first) (o .second) (o .third) (o .fourth))
 
-  -- what is written of a scalar, by the answer
-  module _ (e : ℕ) (table second : List ℕ) (c : ℕ) (t : told o ≡ pairEncode e table second c) where
-    pub pair-bytes : (o .count ≡ 0 → ⊥) → pairOf e table second 0 c ≡ wrote (bytesOf o) 0
-    pair-bytes h = told-bytes (pairEncode e table second) c (sym t ∙ rw (ne-eqb (o .count) 0 h))
+  -- the state after it goes by the count
+  by-count : (e s c : ℕ) → pairState e s c (told o) ≡ pairState e s c (byCount (o .count))
+  by-count e s c = go (eqb e 33) (eqb (o .count) 0)
+    where
+      go : (i b : Bool) → (i then stateFor s c (b then error-with (o .named) else tokens (bytesOf o)) else s) ≡
+          (i then stateFor s c (b then error-with 0 else tokens []) else s)
+      go true true = refl
+      go true false = refl
+      go false b = refl
 
-    pub pair-named : o .count ≡ 0 → pairOf e table second 0 c ≡ cannot (o .named) 0
-    pair-named h = told-error (pairEncode e table second) c (sym t ∙ rw (eq-eqb (o .count) 0 h))
+  -- what is written of a scalar from a state, by the answer and the state that it is written in
+  module _ (e : ℕ) (table second : List ℕ) (s c : ℕ) (t : told o ≡ pairEncode e table second c) (s′ : ℕ) (z : s′ ≡ pairState e s c (byCount (o .count))) where
+    abbrev result : Result
+    result = pairEncode e table second c
+
+    -- with the way to that state in front
+    pub pair-answered : pairOf e table second s c ≡ answered (shiftTo s s′) s′ result
+    pair-answered =
+        let q : pairState e s c result ≡ s′ = ap (pairState e s c) (sym t) ∙ by-count e s c ∙ sym z in
+        ap (λ (n : ℕ). answered (shiftTo s n) n result) q
+
+    pub pair-bytes : (o .count ≡ 0 → ⊥) → pairOf e table second s c ≡ wrote (shiftTo s s′ ++ bytesOf o) s′
+    pair-bytes h =
+        let q : result ≡ tokens (bytesOf o) = sym t ∙ rw (ne-eqb (o .count) 0 h) in
+        pair-answered ∙ ap (answered (shiftTo s s′) s′) q
+
+    pub pair-named : o .count ≡ 0 → pairOf e table second s c ≡ cannot (shiftTo s s′) (o .named) s′
+    pair-named h =
+        let q : result ≡ error-with (o .named) = sym t ∙ rw (eq-eqb (o .count) 0 h) in
+        pair-answered ∙ ap (answered (shiftTo s s′) s′) q
+
+-- ASCII that leaves the state as it is
+pub plain-byte : (e : ℕ) (table second : List ℕ) (s c : ℕ) → Plain e s c → pairOf e table second s c ≡ wrote (c ∷ []) s
+plain-byte e table second s c p =
+    let r : pairEncode e table second c ≡ tokens (c ∷ []) = sym (pair-80 e table second c (p .is-ascii)) ∙ rw (p .no-control) in
+    ap (λ (q : Result). answered (shiftTo s (pairState e s c q)) (pairState e s c q) q) r ∙
+    ap (λ (n : ℕ). answered (shiftTo s n) n (tokens (c ∷ []))) (p .stays) ∙ rw (eq-eqb s s refl)

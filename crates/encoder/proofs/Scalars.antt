@@ -7,7 +7,7 @@ use Prim.Native.Nat.{ℕ, zero, suc, _+_, _-_, _/_, _%_, _≤_, _<_}
 use native.Mathlib.Omega.{arith}
 use lib.Dec.{ltb, leb, eqb}
 use lib.ListN.{length}
-use borrow.Author.Tests.{ltb-true, ltb-false, lt-ltb, le-ltb, le-leb, lt-leb, eqb-true, eqb-false, eq-eqb, ne-eqb, not-true}
+use borrow.Author.Tests.{ltb-true, ltb-false, lt-ltb, le-ltb, le-leb, lt-leb, eqb-true, eqb-false, eq-eqb, ne-eqb}
 use Rattle.standard.specs.Base.{_then_else_, within, every, mapped}
 use Rattle.standard.specs.Indexes.{irregular, countFrom, windows1252}
 use Rattle.standard.specs.Machine.{Result, tokens, error-with}
@@ -206,36 +206,31 @@ module _ (c : ℕ) where
 
 -- the encodings that write pairs
 module _ (e : ℕ) (p : pairs e ≡ true) where
-  not-33 : e ≡ 33 → ⊥
-  not-33 = eqb-false e 33 (not-true (eqb e 33) (and-left (not (eqb e 33)) (within 29 e 35) p))
-
-  pair-range : within 29 e 35 ≡ true
-  pair-range = and-right (not (eqb e 33)) (within 29 e 35) p
-
   pub pairs-past : 28 < e
-  pairs-past = omega (arith, within-low 29 e 35 pair-range)
+  pairs-past = omega (arith, within-low 29 e 35 p)
 
-  pub by-pairs : {A : Type 0} → (e ≡ 29 → A) → (e ≡ 30 → A) → (e ≡ 31 → A) → (e ≡ 32 → A) → (e ≡ 34 → A) → (e ≡ 35 → A) → A
-  by-pairs f g h i j k =
+  pub by-pairs : {A : Type 0} → (e ≡ 29 → A) → (e ≡ 30 → A) → (e ≡ 31 → A) → (e ≡ 32 → A) → (e ≡ 33 → A) → (e ≡ 34 → A) → (e ≡ 35 → A) → A
+  by-pairs f g h i n j k =
       split (eqb e 29) (λ z. f (eqb-true e 29 z)) (λ a.
       split (eqb e 30) (λ z. g (eqb-true e 30 z)) (λ b.
       split (eqb e 31) (λ z. h (eqb-true e 31 z)) (λ c.
       split (eqb e 32) (λ z. i (eqb-true e 32 z)) (λ d.
+      split (eqb e 33) (λ z. n (eqb-true e 33 z)) (λ r.
       split (eqb e 34) (λ z. j (eqb-true e 34 z)) (λ q.
       k (omega (
         arith,
-        within-low 29 e 35 pair-range,
-        within-high 29 e 35 pair-range,
+        within-low 29 e 35 p,
+        within-high 29 e 35 p,
         eqb-false e 29 a,
         eqb-false e 30 b,
         eqb-false e 31 c,
         eqb-false e 32 d,
-        not-33,
+        eqb-false e 33 r,
         eqb-false e 34 q,
-      )))))))
+      ))))))))
 
 pub no-pairs : (e : ℕ) → e ≤ 28 → pairs e ≡ false
-no-pairs e l = rw (under 29 e 35 (omega arith), and-false (not (eqb e 33)))
+no-pairs e l = under 29 e 35 (omega arith)
 
 -- by the encoding's number
 module _ (e : ℕ) (table : List ℕ) (c : ℕ) where

@@ -7,7 +7,7 @@ use Prim.Native.Nat.{ℕ, _+_, _*_, _/_, _%_, _≤_}
 use lib.Dec.{ltb, leb, eqb}
 use lib.ListN.{length, getD, set}
 use Rattle.standard.specs.Base.{_then_else_, within, isScalar, scalars, mapped}
-use Rattle.standard.specs.Encodings.{family, Tables, fits}
+use Rattle.standard.specs.Encodings.{family, Tables, lent, fits}
 use Rattle.standard.specs.Indexes.{windows1252}
 use Rattle.standard.specs.Machine.{Result, tokens, error-with}
 use Rattle.standard.specs.Search.{searching}
@@ -15,8 +15,9 @@ use Rattle.standard.specs.Encoders.Utf8.{utf8-bytes, utf8Encode}
 use Rattle.standard.specs.Encoders.SingleByte.{singleByteEncode}
 use Rattle.standard.specs.Encoders.UserDefined.{userDefinedEncode}
 use Rattle.standard.specs.Writers.{stateless}
-use Rattle.pair_writers.specs.Pairs.{pairEncode, cellsOf}
-use Rattle.encoder_spec.specs.Writing.{One, encodeOne, Writing, writing}
+use Rattle.standard.specs.Ones.{One, shiftTo, answered, encodeOne}
+use Rattle.pair_writers.specs.Pairs.{pairEncode, pairState, cellsOf}
+use Rattle.encoder_spec.specs.Writing.{Writing, writing}
 use Rattle.encoder_spec.specs.Writer.{write}
 use Rattle.encoder_spec.specs.declared.Written.{Written}
 
@@ -38,12 +39,12 @@ utf8Of c =
 
 -- Does this encoding write pairs? Is there a writer for it?
 abbrev pub pairs : ℕ → Bool
-pairs e = not (eqb e 33) && within 29 e 35
+pairs e = within 29 e 35
 
 abbrev pub writes : ℕ → Bool
 writes e = leb e 28 || (pairs e || eqb e 39)
 
--- The encoder of UTF-8 and of the encodings of one byte a scalar, with their table; and that of every encoding with a writer.
+-- The encoder of UTF-8 and of the encodings of one byte a scalar, with their table.
 unfoldable pub encoderOf : ℕ → List ℕ → ℕ → Result
 encoderOf e table =
     eqb e 0 then utf8Encode else
@@ -51,15 +52,16 @@ encoderOf e table =
     leb e 28 then singleByteEncode (searching table) else
     userDefinedEncode
 
-unfoldable pub lentEncoder : ℕ → Tables → ℕ → Result
-lentEncoder e t = pairs e then pairEncode e (t .first) (t .second) else encoderOf e (t .first)
-
 -- Its first table: of so many cells where it writes pairs, else of 128 or none.
 pub record Tabled (e : ℕ) (table : List ℕ) : Type 0 where
   pub of-pairs : pairs e ≡ true → length table ≡ cellsOf e
   pub of-bytes : pairs e ≡ false → length table ≤ 128
 
--- An encoder of one scalar, whatever the state; those of an encoding number.
+-- (02) Tables for writing: as for reading, and in ISO-2022-JP the katakana cells.
+abbrev pub tablesFit : ℕ → Tables → Bool
+tablesFit e t = eqb e 33 then fits (family e) (lent (t .first) []) && eqb (length (t .second)) 63 else fits (family e) t
+
+-- An encoder of one scalar, whatever the state; those of an encoding number: of one byte a scalar, of pairs, and any with a writer.
 abbrev pub plain : (ℕ → Result) → ℕ → ℕ → One
 plain encode = encodeOne (stateless encode)
 
@@ -67,7 +69,12 @@ abbrev pub oneOf : ℕ → List ℕ → ℕ → ℕ → One
 oneOf e table = plain (encoderOf e table)
 
 abbrev pub pairOf : ℕ → List ℕ → List ℕ → ℕ → ℕ → One
-pairOf e table second = plain (pairEncode e table second)
+pairOf e table second s c =
+    let r = pairEncode e table second c in
+    answered (shiftTo s (pairState e s c r)) (pairState e s c r) r
+
+unfoldable pub lentOf : ℕ → Tables → ℕ → ℕ → One
+lentOf e t = pairs e then pairOf e (t .first) (t .second) else oneOf e (t .first)
 
 -- Every slot holds a scalar, times 256, and its byte.
 pub record Slots (encode : ℕ → Result) (slots : List ℕ) : Type 0 where
@@ -89,15 +96,32 @@ entered slots c p = mapped c then set slots (c % 2048) (c * 256 + (p + 0x80)) el
 abbrev pub writingOf : ℕ → ℕ → List ℕ → List ℕ → Writing
 writingOf e m table cs = writing (oneOf e table) m 0 cs
 
-abbrev pub pairWriting : ℕ → ℕ → List ℕ → List ℕ → List ℕ → Writing
-pairWriting e m table second cs = writing (pairOf e table second) m 0 cs
+abbrev pub pairWriting : ℕ → ℕ → ℕ → List ℕ → List ℕ → List ℕ → Writing
+pairWriting e m s table second cs = writing (pairOf e table second) m s cs
 
-abbrev pub lentWriting : ℕ → ℕ → Tables → List ℕ → Writing
-lentWriting e m t cs = writing (plain (lentEncoder e t)) m 0 cs
+abbrev pub lentWriting : ℕ → ℕ → ℕ → Tables → List ℕ → Writing
+lentWriting e m s t cs = writing (lentOf e t) m s cs
 
--- The most bytes that it writes of one scalar.
+-- The bytes that may stand in front of those of one scalar; and the most bytes that it writes of one.
+abbrev pub frontOf : ℕ → ℕ
+frontOf e = eqb e 33 then 3 else 0
+
 abbrev pub mostOf : ℕ → ℕ → ℕ
-mostOf e m = eqb e 0 then 4 else eqb m 1 then (eqb e 30 then 4 else pairs e then 2 else 1) else 10
+mostOf e m =
+    eqb e 0 then 4 else
+    eqb m 1 then (eqb e 30 then 4 else eqb e 33 then 5 else pairs e then 2 else 1) else
+    10 + frontOf e
+
+-- The second and third byte of the escape sequence to a state.
+abbrev pub middleOf : ℕ → ℕ
+middleOf s = ltb s 2 then 0x28 else 0x24
+
+abbrev pub lastOf : ℕ → ℕ
+lastOf s = eqb s 1 then 0x4A else 0x42
+
+-- An answer with a state handed back.
+abbrev pub handedBack : ℕ → Written → Written
+handedBack s a = record { written = a .written; index = a .index; refusal = a .refusal; state = s }
 
 -- A room has space for a writing.
 abbrev pub Space : Writing → List ℕ → Type 0
@@ -109,18 +133,19 @@ pub record Wrote (w : Writing) (room : List ℕ) (answer : Written) (after : Lis
   pub leaves : after ≡ write w room .room
 
 -- The refusal that depends on the scalars, with so many bytes of room, or 0: 8, 10, 7.
-unfoldable pub textRefusal : ℕ → ℕ → Tables → List ℕ → ℕ → ℕ
-textRefusal e m t cs n =
+unfoldable pub textRefusal : ℕ → ℕ → ℕ → Tables → List ℕ → ℕ → ℕ
+textRefusal e m s t cs n =
     ltb 16384 (length cs) then 8 else
     not (scalars cs) then 10 else
-    ltb n (length (lentWriting e m t cs .bytes)) then 7 else
+    ltb n (length (lentWriting e m s t cs .bytes)) then 7 else
     0
 
--- The refusal of a call: 2, 3, 9, 4, then those.
-unfoldable pub refusalOf : ℕ → ℕ → Tables → List ℕ → ℕ → ℕ
-refusalOf e m t cs n =
+-- The refusal of a call: 2, 3, 5, 9, 4, then those.
+unfoldable pub refusalOf : ℕ → ℕ → ℕ → Tables → List ℕ → ℕ → ℕ
+refusalOf e m s t cs n =
     ltb 39 e then 2 else
     ltb 1 m then 3 else
+    ltb 2 s then 5 else
     not (writes e) then 9 else
-    not (fits (family e) t) then 4 else
-    textRefusal e m t cs n
+    not (tablesFit e t) then 4 else
+    textRefusal e m s t cs n

@@ -1,5 +1,6 @@
-// Writing: document 01, "Writing rules" and "Refusal numbers".
+// Writing: document 01, "Writing rules" and "Refusal numbers"; 02, Ask 6.
 
+mod escapes;
 mod one_byte;
 mod pairs;
 mod references;
@@ -14,27 +15,58 @@ use encoder_spec::Written;
 use refusals::refusal;
 ghost use mathlib.Core.Path.{_≡_};
 ghost use Rattle.standard.specs.Encodings.{lent};
-ghost use Rattle.encoder_spec.specs.Writer.{writerCall};
+ghost use Rattle.encoder_spec.specs.Writer.{writerCall, writerFinish};
 
 // The writer's call: the scalars' bytes are written at the front of the room. Nothing is written where the call is refused.
 pub fn encode(
     encoding: u8,
     mode: u8,
+    state: u8,
     scalars: &[u32],
     t1: &[u32],
     t2: &[u32],
     room: &mut [u8],
 ) -> Written
-    ensures { λ r. ⌜ (r ≡ writerCall encoding mode (lent (now (t1 .entry)) (now (t2 .entry))) (now (scalars .entry)) (now (room .entry)) .answer) ×
-        (now (room .exit) ≡ writerCall encoding mode (lent (now (t1 .entry)) (now (t2 .entry))) (now (scalars .entry)) (now (room .entry)) .room) ⌝ }
+    ensures { λ r. ⌜ (r ≡ writerCall encoding mode state (lent (now (t1 .entry)) (now (t2 .entry))) (now (scalars .entry)) (now (room .entry)) .answer) ×
+        (now (room .exit) ≡ writerCall encoding mode state (lent (now (t1 .entry)) (now (t2 .entry))) (now (scalars .entry)) (now (room .entry)) .room) ⌝ }
 {
-    let refused = refusal(encoding, mode, scalars, t1, t2, room.len());
+    let refused = refusal(encoding, mode, state, scalars, t1, t2, room.len());
     if refused != 0 {
         return Written {
             written: 0,
             index: 0,
             refusal: refused,
+            state,
         };
     }
-    writers::write(encoding, mode, scalars, t1, t2, room)
+    writers::write(encoding, mode, state, scalars, t1, t2, room)
+}
+
+// The finish: a return to ASCII.
+pub fn finish(state: u8, room: &mut [u8]) -> Written
+    ensures { λ r. ⌜ (r ≡ writerFinish state (now (room .entry)) .answer) × (now (room .exit) ≡ writerFinish state (now (room .entry)) .room) ⌝ }
+{
+    if 2 < state {
+        return Written {
+            written: 0,
+            index: 0,
+            refusal: 5,
+            state,
+        };
+    }
+    if room.len() < escapes::size(state, 0) {
+        return Written {
+            written: 0,
+            index: 0,
+            refusal: 7,
+            state,
+        };
+    }
+    let written = escapes::put(room, 0, state, 0);
+    Written {
+        written,
+        index: 0,
+        refusal: 0,
+        state: 0,
+    }
 }

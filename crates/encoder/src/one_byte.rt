@@ -88,6 +88,7 @@ fn write_by(
                 written: o,
                 index: i,
                 refusal: 11,
+                state: 0,
             };
         }
         o = references::put(room, o, c);
@@ -97,6 +98,7 @@ fn write_by(
         written: o,
         index: 0,
         refusal: 0,
+        state: 0,
     }
 }
 

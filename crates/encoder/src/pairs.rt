@@ -1,5 +1,7 @@
-// The encodings that write pairs. In html mode an unwritable scalar is a reference to the code point that its error names.
+// The encodings that write pairs, ISO-2022-JP with a state. In html mode an unwritable scalar is a reference to the code point that its
+// error names.
 
+use crate::escapes;
 use crate::references;
 use encoder_spec::Written;
 use pair_writers::One;
@@ -16,14 +18,7 @@ fn one_of(encoding: u8, table: &[u32], second: &[u32], slots: &[u16], c: u32) ->
     ensures { λ r. ⌜ told r ≡ pairEncode encoding (now (table .entry)) (now (second .entry)) c ⌝ }
 {
     if c < 0x80 {
-        return One {
-            named: 0,
-            count: 1,
-            first: c as u8,
-            second: 0,
-            third: 0,
-            fourth: 0,
-        };
+        return pair_writers::ascii(encoding, c as u8);
     }
     pair_writers::bytes_of(encoding, table, second, slots, c)
 }
@@ -59,22 +54,28 @@ fn put(room: &mut [u8], at: usize, one: One) -> usize
     at + 4
 }
 
-// How many bytes are written of the scalars, with slots.
+// How many bytes are written of the scalars from a state, with slots.
 fn count_by(
     encoding: u8,
     mode: u8,
+    state: u8,
     scalars: &[u32],
     table: &[u32],
     second: &[u32],
     slots: &[u16],
 ) -> usize
     requires { ⌜ (length (now scalars) ≤ 16384) × Ready encoding (now table) (now slots) ⌝ }
-    ensures { λ r. ⌜ r ≡ length (pairWriting encoding mode (now (table .entry)) (now (second .entry)) (now (scalars .entry)) .bytes) ⌝ }
+    ensures { λ r. ⌜ r ≡ length (pairWriting encoding mode state (now (table .entry)) (now (second .entry)) (now (scalars .entry)) .bytes) ⌝ }
 {
+    let mut s = state;
     let mut n: usize = 0;
     let mut i: usize = 0;
     while i < scalars.len() {
-        let one = one_of(encoding, table, second, slots, scalars[i]);
+        let c = scalars[i];
+        let one = one_of(encoding, table, second, slots, c);
+        let to = pair_writers::state_for(encoding, s, c, one.count);
+        n += escapes::size(s, to);
+        s = to;
         if one.count != 0 {
             n += size(one);
             i += 1;
@@ -114,23 +115,31 @@ fn others(scalars: &[u32]) -> u32
 }
 
 // The same, with slots where they save more time than they cost.
-pub(crate) fn count(encoding: u8, mode: u8, scalars: &[u32], table: &[u32], second: &[u32]) -> usize
+pub(crate) fn count(
+    encoding: u8,
+    mode: u8,
+    state: u8,
+    scalars: &[u32],
+    table: &[u32],
+    second: &[u32],
+) -> usize
     requires { ⌜ (length (now scalars) ≤ 16384) × (length (now table) ≡ cellsOf encoding) ⌝ }
-    ensures { λ r. ⌜ r ≡ length (pairWriting encoding mode (now (table .entry)) (now (second .entry)) (now (scalars .entry)) .bytes) ⌝ }
+    ensures { λ r. ⌜ r ≡ length (pairWriting encoding mode state (now (table .entry)) (now (second .entry)) (now (scalars .entry)) .bytes) ⌝ }
 {
     if others(scalars) < 256 {
         let none = [0u16; 1];
-        return count_by(encoding, mode, scalars, table, second, &none);
+        return count_by(encoding, mode, state, scalars, table, second, &none);
     }
     let mut filled = [0u16; 16384];
     pair_writers::fill(encoding, table, &mut filled);
-    count_by(encoding, mode, scalars, table, second, &filled)
+    count_by(encoding, mode, state, scalars, table, second, &filled)
 }
 
-// The scalars written into a room that has space for all their bytes, with slots.
+// The scalars written from a state into a room that has space for all their bytes, with slots.
 fn write_by(
     encoding: u8,
     mode: u8,
+    state: u8,
     scalars: &[u32],
     table: &[u32],
     second: &[u32],
@@ -138,14 +147,25 @@ fn write_by(
     room: &mut [u8],
 ) -> Written
     requires { ⌜ Ready encoding (now table) (now slots) ×
-        Space (pairWriting encoding mode (now table) (now second) (now scalars)) (now room) ⌝ }
-    ensures { λ r. ⌜ Wrote (pairWriting encoding mode (now (table .entry)) (now (second .entry)) (now (scalars .entry)))
+        Space (pairWriting encoding mode state (now table) (now second) (now scalars)) (now room) ⌝ }
+    ensures { λ r. ⌜ Wrote (pairWriting encoding mode state (now (table .entry)) (now (second .entry)) (now (scalars .entry)))
         (now (room .entry)) r (now (room .exit)) ⌝ }
 {
+    let mut s = state;
     let mut o: usize = 0;
     let mut i: usize = 0;
     while i < scalars.len() {
-        let one = one_of(encoding, table, second, slots, scalars[i]);
+        let c = scalars[i];
+        if pair_writers::plain(encoding, s, c) {
+            room[o] = c as u8;
+            o += 1;
+            i += 1;
+            continue;
+        }
+        let one = one_of(encoding, table, second, slots, c);
+        let to = pair_writers::state_for(encoding, s, c, one.count);
+        o = escapes::put(room, o, s, to);
+        s = to;
         if one.count != 0 {
             o = put(room, o, one);
             i += 1;
@@ -156,6 +176,7 @@ fn write_by(
                 written: o,
                 index: i,
                 refusal: 11,
+                state: s,
             };
         }
         o = references::put(room, o, one.named);
@@ -165,6 +186,7 @@ fn write_by(
         written: o,
         index: 0,
         refusal: 0,
+        state: s,
     }
 }
 
@@ -172,21 +194,22 @@ fn write_by(
 pub(crate) fn write(
     encoding: u8,
     mode: u8,
+    state: u8,
     scalars: &[u32],
     table: &[u32],
     second: &[u32],
     room: &mut [u8],
 ) -> Written
     requires { ⌜ (length (now scalars) ≤ 16384) × (length (now table) ≡ cellsOf encoding) ⌝ }
-    requires { ⌜ Space (pairWriting encoding mode (now table) (now second) (now scalars)) (now room) ⌝ }
-    ensures { λ r. ⌜ Wrote (pairWriting encoding mode (now (table .entry)) (now (second .entry)) (now (scalars .entry)))
+    requires { ⌜ Space (pairWriting encoding mode state (now table) (now second) (now scalars)) (now room) ⌝ }
+    ensures { λ r. ⌜ Wrote (pairWriting encoding mode state (now (table .entry)) (now (second .entry)) (now (scalars .entry)))
         (now (room .entry)) r (now (room .exit)) ⌝ }
 {
     if others(scalars) < 256 {
         let none = [0u16; 1];
-        return write_by(encoding, mode, scalars, table, second, &none, room);
+        return write_by(encoding, mode, state, scalars, table, second, &none, room);
     }
     let mut filled = [0u16; 16384];
     pair_writers::fill(encoding, table, &mut filled);
-    write_by(encoding, mode, scalars, table, second, &filled, room)
+    write_by(encoding, mode, state, scalars, table, second, &filled, room)
 }

@@ -1,9 +1,8 @@
-// The refusals of the writer's call, in document 01's order: 2, 3, 9, 4, 8, 10, 7.
+// The refusals of the writer's call, in document 01's order: 2, 3, 5, 9, 4, 8, 10, 7.
 
 use crate::writers::count;
 use crate::writers::most;
 use crate::writers::writes;
-use index::tables_fit;
 ghost use mathlib.Core.Path.{_≡_};
 ghost use mathlib.Core.Bool.{true};
 ghost use Prim.Native.Nat.{_≤_};
@@ -11,7 +10,7 @@ ghost use lib.Dec.{ltb};
 ghost use lib.ListN.{length};
 ghost use Rattle.standard.specs.Base.{isScalar, scalars as areScalars};
 ghost use Rattle.standard.specs.Encodings.{lent};
-ghost use Rattle.encoder.specs.WriterCode.{noScalar, Tabled, lentWriting, textRefusal, refusalOf};
+ghost use Rattle.encoder.specs.WriterCode.{noScalar, Tabled, tablesFit, lentWriting, textRefusal, refusalOf};
 
 fn is_scalar(c: u32) -> bool
     ensures { λ r. ⌜ r ≡ isScalar c ⌝ }
@@ -50,21 +49,37 @@ fn all_scalars(scalars: &[u32]) -> bool
 }
 
 // Is a room of so many bytes too small? The bytes are counted only where the most of them would not fit.
-fn lacks(encoding: u8, mode: u8, scalars: &[u32], t1: &[u32], t2: &[u32], room: usize) -> bool
+fn lacks(
+    encoding: u8,
+    mode: u8,
+    state: u8,
+    scalars: &[u32],
+    t1: &[u32],
+    t2: &[u32],
+    room: usize,
+) -> bool
     requires { ⌜ (areScalars (now scalars) ≡ true) × (length (now scalars) ≤ 16384) × Tabled encoding (now t1) ⌝ }
     ensures { λ r. ⌜ r ≡
-        ltb room (length (lentWriting encoding mode (lent (now (t1 .entry)) (now (t2 .entry))) (now (scalars .entry)) .bytes)) ⌝ }
+        ltb room (length (lentWriting encoding mode state (lent (now (t1 .entry)) (now (t2 .entry))) (now (scalars .entry)) .bytes)) ⌝ }
 {
     if scalars.len() * most(encoding, mode) <= room {
         return false;
     }
-    room < count(encoding, mode, scalars, t1, t2)
+    room < count(encoding, mode, state, scalars, t1, t2)
 }
 
 // The refusal that depends on the scalars, or 0: 8, 10, 7.
-fn text_refusal(encoding: u8, mode: u8, scalars: &[u32], t1: &[u32], t2: &[u32], room: usize) -> u8
+fn text_refusal(
+    encoding: u8,
+    mode: u8,
+    state: u8,
+    scalars: &[u32],
+    t1: &[u32],
+    t2: &[u32],
+    room: usize,
+) -> u8
     requires { ⌜ Tabled encoding (now t1) ⌝ }
-    ensures { λ r. ⌜ r ≡ textRefusal encoding mode (lent (now (t1 .entry)) (now (t2 .entry))) (now (scalars .entry)) room ⌝ }
+    ensures { λ r. ⌜ r ≡ textRefusal encoding mode state (lent (now (t1 .entry)) (now (t2 .entry))) (now (scalars .entry)) room ⌝ }
 {
     if 16384 < scalars.len() {
         return 8;
@@ -72,22 +87,36 @@ fn text_refusal(encoding: u8, mode: u8, scalars: &[u32], t1: &[u32], t2: &[u32],
     if !all_scalars(scalars) {
         return 10;
     }
-    if lacks(encoding, mode, scalars, t1, t2, room) {
+    if lacks(encoding, mode, state, scalars, t1, t2, room) {
         return 7;
     }
     0
+}
+
+// Are the lent tables' lengths as they must be for writing? ISO-2022-JP is lent the katakana cells beside the table of its reader.
+fn tables_fit(encoding: u8, t1: &[u32], t2: &[u32]) -> bool
+    ensures { λ r. ⌜ r ≡ tablesFit encoding (lent (now (t1 .entry)) (now (t2 .entry))) ⌝ }
+{
+    if encoding != 33 {
+        return index::tables_fit(encoding, t1, t2);
+    }
+    if t2.len() != 63 {
+        return false;
+    }
+    index::tables_fit(33, t1, &t2[0..0])
 }
 
 // The refusal of a call with so many bytes of room, or 0.
 pub(crate) fn refusal(
     encoding: u8,
     mode: u8,
+    state: u8,
     scalars: &[u32],
     t1: &[u32],
     t2: &[u32],
     room: usize,
 ) -> u8
-    ensures { λ r. ⌜ r ≡ refusalOf encoding mode (lent (now (t1 .entry)) (now (t2 .entry))) (now (scalars .entry)) room ⌝ }
+    ensures { λ r. ⌜ r ≡ refusalOf encoding mode state (lent (now (t1 .entry)) (now (t2 .entry))) (now (scalars .entry)) room ⌝ }
 {
     if 39 < encoding {
         return 2;
@@ -95,11 +124,14 @@ pub(crate) fn refusal(
     if 1 < mode {
         return 3;
     }
+    if 2 < state {
+        return 5;
+    }
     if !writes(encoding) {
         return 9;
     }
     if !tables_fit(encoding, t1, t2) {
         return 4;
     }
-    text_refusal(encoding, mode, scalars, t1, t2, room)
+    text_refusal(encoding, mode, state, scalars, t1, t2, room)
 }

@@ -113,7 +113,7 @@ pub(crate) fn count(scalars: &[u32]) -> usize
 // The scalars written into a room that has space for all their bytes; how many bytes.
 pub(crate) fn write(scalars: &[u32], room: &mut [u8]) -> usize
     requires { ⌜ (areScalars (now scalars) ≡ true) × Space (writing (plain utf8Encode) 0 0 (now scalars)) (now room) ⌝ }
-    ensures { λ r. ⌜ Wrote (writing (plain utf8Encode) 0 0 (now (scalars .entry))) (now (room .entry)) (answerOf r none) (now (room .exit)) ⌝ }
+    ensures { λ r. ⌜ Wrote (writing (plain utf8Encode) 0 0 (now (scalars .entry))) (now (room .entry)) (answerOf r 0 none) (now (room .exit)) ⌝ }
 {
     let mut o: usize = 0;
     let mut i: usize = 0;

@@ -7,15 +7,12 @@ ghost use Prim.Native.Nat.{_≤_};
 ghost use lib.ListN.{length};
 ghost use Rattle.standard.specs.Base.{scalars as areScalars};
 ghost use Rattle.standard.specs.Encodings.{lent};
-ghost use Rattle.encoder.specs.WriterCode.{pairs, writes, Tabled, lentWriting, mostOf, Space, Wrote};
+ghost use Rattle.encoder.specs.WriterCode.{pairs, writes, Tabled, lentWriting, frontOf, mostOf, handedBack, Space, Wrote};
 
 // Does this encoding write pairs?
 fn pairs(encoding: u8) -> bool
     ensures { λ r. ⌜ r ≡ pairs encoding ⌝ }
 {
-    if encoding == 33 {
-        return false;
-    }
     if encoding < 29 {
         return false;
     }
@@ -35,18 +32,31 @@ pub(crate) fn writes(encoding: u8) -> bool
     encoding == 39
 }
 
+// The bytes that may stand in front of those of a scalar.
+fn front(encoding: u8) -> usize
+    ensures { λ r. ⌜ (r ≡ frontOf encoding) × (r ≤ 3) ⌝ }
+{
+    if encoding == 33 {
+        return 3;
+    }
+    0
+}
+
 // The most bytes that are written of one scalar.
 pub(crate) fn most(encoding: u8, mode: u8) -> usize
-    ensures { λ r. ⌜ (r ≡ mostOf encoding mode) × (r ≤ 10) ⌝ }
+    ensures { λ r. ⌜ (r ≡ mostOf encoding mode) × (r ≤ 13) ⌝ }
 {
     if encoding == 0 {
         return 4;
     }
     if mode != 1 {
-        return 10;
+        return 10 + front(encoding);
     }
     if encoding == 30 {
         return 4;
+    }
+    if encoding == 33 {
+        return 5;
     }
     if pairs(encoding) {
         return 2;
@@ -54,32 +64,52 @@ pub(crate) fn most(encoding: u8, mode: u8) -> usize
     1
 }
 
-// How many bytes are written of the scalars.
-pub(crate) fn count(encoding: u8, mode: u8, scalars: &[u32], t1: &[u32], t2: &[u32]) -> usize
+// How many bytes are written of the scalars from a state.
+pub(crate) fn count(
+    encoding: u8,
+    mode: u8,
+    state: u8,
+    scalars: &[u32],
+    t1: &[u32],
+    t2: &[u32],
+) -> usize
     requires { ⌜ (areScalars (now scalars) ≡ true) × (length (now scalars) ≤ 16384) × Tabled encoding (now t1) ⌝ }
-    ensures { λ r. ⌜ r ≡ length (lentWriting encoding mode (lent (now (t1 .entry)) (now (t2 .entry))) (now (scalars .entry)) .bytes) ⌝ }
+    ensures { λ r. ⌜ r ≡ length (lentWriting encoding mode state (lent (now (t1 .entry)) (now (t2 .entry))) (now (scalars .entry)) .bytes) ⌝ }
 {
     if encoding == 0 {
         return crate::utf8::count(scalars);
     }
     if pairs(encoding) {
-        return crate::pairs::count(encoding, mode, scalars, t1, t2);
+        return crate::pairs::count(encoding, mode, state, scalars, t1, t2);
     }
     crate::one_byte::count(encoding, mode, scalars, t1)
 }
 
-// The scalars written into a room that has space for all their bytes.
+// An answer of a writer without a state, which hands it back.
+fn handed_back(w: Written, state: u8) -> Written
+    ensures { λ r. ⌜ r ≡ handedBack state w ⌝ }
+{
+    Written {
+        written: w.written,
+        index: w.index,
+        refusal: w.refusal,
+        state,
+    }
+}
+
+// The scalars written from a state into a room that has space for all their bytes.
 pub(crate) fn write(
     encoding: u8,
     mode: u8,
+    state: u8,
     scalars: &[u32],
     t1: &[u32],
     t2: &[u32],
     room: &mut [u8],
 ) -> Written
     requires { ⌜ (areScalars (now scalars) ≡ true) × (length (now scalars) ≤ 16384) × Tabled encoding (now t1) ⌝ }
-    requires { ⌜ Space (lentWriting encoding mode (lent (now t1) (now t2)) (now scalars)) (now room) ⌝ }
-    ensures { λ r. ⌜ Wrote (lentWriting encoding mode (lent (now (t1 .entry)) (now (t2 .entry))) (now (scalars .entry)))
+    requires { ⌜ Space (lentWriting encoding mode state (lent (now t1) (now t2)) (now scalars)) (now room) ⌝ }
+    ensures { λ r. ⌜ Wrote (lentWriting encoding mode state (lent (now (t1 .entry)) (now (t2 .entry))) (now (scalars .entry)))
         (now (room .entry)) r (now (room .exit)) ⌝ }
 {
     if encoding == 0 {
@@ -88,10 +118,12 @@ pub(crate) fn write(
             written,
             index: 0,
             refusal: 0,
+            state,
         };
     }
     if pairs(encoding) {
-        return crate::pairs::write(encoding, mode, scalars, t1, t2, room);
+        return crate::pairs::write(encoding, mode, state, scalars, t1, t2, room);
     }
-    crate::one_byte::write(encoding, mode, scalars, t1, room)
+    let w = crate::one_byte::write(encoding, mode, scalars, t1, room);
+    handed_back(w, state)
 }

@@ -19,8 +19,8 @@ use Rattle.standard.specs.Encoders.Big5.{big5Over, big5Side, big5Encode}
 use Rattle.standard.specs.Encoders.EucJp.{jis0208Over, eucJpEncode}
 use Rattle.standard.specs.Encoders.ShiftJis.{shiftJisOver, shiftJisEncode}
 use Rattle.standard.specs.Encoders.EucKr.{eucKrEncode}
-use Rattle.standard.specs.Writers.{Writer, utf-8, single-byte, windows-1252, gbk, gb18030, big5, euc-jp, shift-jis, euc-kr, x-user-defined}
-use Rattle.standard.specs.Writers.{Coding, stateless, coding}
+use Rattle.standard.specs.Writers.{Writer, utf-8, single-byte, windows-1252, gbk, gb18030, big5, euc-jp, iso-2022-jp}
+use Rattle.standard.specs.Writers.{shift-jis, euc-kr, x-user-defined, Coding, stateless, switching, coding}
 use Rattle.standard.proofs.Tests.{choose}
 
 -- It answers with bytes, or with an error that names a code point.
@@ -90,9 +90,10 @@ module _ (look : Lookup) (c : ℕ) where
   unfolding eucKrEncode
   euc-kr-answer = choose Answer (ascii c) (λ _. bytes _) (λ _. by-pair eucKrLayout (look first noneOver c) (fault c))
 
--- The codings of the writers: by encoders that answer so.
+-- The codings of the writers: by encoders that answer so, and ISO-2022-JP's.
 pub data Answers : Coding → Type 0 where
   answering : {encode : ℕ → Result} → ((c : ℕ) → Answer (encode c)) → Answers (stateless encode)
+  switches : (look : Lookup) (katakana : List ℕ) → Answers (switching look katakana)
 
 pub answers : (w : Writer) (look : Lookup) (second : List ℕ) → Answers (coding w look second)
 answers utf-8 look second = answering utf8-answer
@@ -102,6 +103,7 @@ answers gbk look second = answering (λ c. gb18030-answer look c true second)
 answers gb18030 look second = answering (λ c. gb18030-answer look c false second)
 answers big5 look second = answering (big5-answer look)
 answers euc-jp look second = answering (euc-jp-answer look)
+answers iso-2022-jp look second = switches look second
 answers shift-jis look second = answering (shift-jis-answer look)
 answers euc-kr look second = answering (euc-kr-answer look)
 answers x-user-defined look second = answering user-defined-answer

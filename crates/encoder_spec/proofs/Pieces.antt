@@ -9,7 +9,8 @@ use lib.Dec.{eqb}
 use lib.ListN.{length}
 use Rattle.standard.specs.Base.{_then_else_}
 use Rattle.standard.specs.Machine.{reference}
-use Rattle.encoder_spec.specs.Writing.{One, Fault, Writing, later, onward, ahead, writing}
+use Rattle.standard.specs.Ones.{One}
+use Rattle.encoder_spec.specs.Writing.{Fault, Writing, later, onward, ahead, writing}
 use Rattle.encoder_spec.specs.Pieces.{follow, inPieces, joined, Cutting}
 
 later-zero : (o : Option Fault) → later 0 o ≡ o
@@ -73,7 +74,7 @@ ahead-follow m k o w v = go (o .named)
 
 module _ (one : ℕ → ℕ → One) (m : ℕ) where
   -- two pieces
-  cut : (s : ℕ) (cs ds : List ℕ) → writing one m s (cs ++ ds) ≡ follow (length cs) (writing one m s cs) (λ s′. writing one m s′ ds)
+  pub cut : (s : ℕ) (cs ds : List ℕ) → writing one m s (cs ++ ds) ≡ follow (length cs) (writing one m s cs) (λ s′. writing one m s′ ds)
   unfolding writing
   cut s [] ds = sym (onward-none (writing one m s ds))
   cut s (c ∷ cs) ds =

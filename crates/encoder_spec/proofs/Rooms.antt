@@ -1,4 +1,4 @@
--- A call keeps its room's length. Assumes nothing.
+-- Calls keep their room's length. Assumes nothing.
 use mathlib.Core.Path.{_≡_, refl}
 use mathlib.Core.Bool.{not}
 use mathlib.Core.List.{List}
@@ -9,11 +9,12 @@ use lib.Dec.{ltb}
 use lib.ListN.{length, drop, length-append, length-drop}
 use borrow.Author.Tests.{ltb-false}
 use Rattle.standard.specs.Base.{scalars}
-use Rattle.standard.specs.Encodings.{fits}
-use Rattle.standard.specs.Writers.{Writer, writerOf, reader}
+use Rattle.standard.specs.Encodings.{Tables}
+use Rattle.standard.specs.Writers.{Writer, writerOf, writerFits}
+use Rattle.standard.specs.Ones.{finishBytes}
 use Rattle.standard.proofs.Tests.{choose}
 use Rattle.encoder_spec.specs.Writing.{Writing, writing}
-use Rattle.encoder_spec.specs.Writer.{Outcome, write, lentOne, writeBy, writerCall}
+use Rattle.encoder_spec.specs.Writer.{Outcome, write, lentOne, writeBy, writerCall, writerFinish}
 use Rattle.encoder_spec.specs.Statements.{RoomKept}
 
 -- a writing that fits
@@ -24,18 +25,29 @@ abbrev Keeps : List ℕ → Outcome → Type 0
 Keeps room o = length (o .room) ≡ length room
 
 -- each answer of the call
-pub room-kept : RoomKept
+writing-keeps : (e m s : ℕ) (t : Tables) (cs room : List ℕ) → Keeps room (writerCall e m s t cs room)
 unfolding writerCall
-room-kept e m t cs room =
+writing-keeps e m s t cs room =
     choose (Keeps room) (ltb 39 e) (λ _. refl) (λ _.
-    choose (Keeps room) (ltb 1 m) (λ _. refl) (λ _. go (writerOf e)))
+    choose (Keeps room) (ltb 1 m) (λ _. refl) (λ _.
+    choose (Keeps room) (ltb 2 s) (λ _. refl) (λ _. go (writerOf e))))
   where
-    go : (o : Option Writer) → Keeps room (writeBy o m t cs room)
+    go : (o : Option Writer) → Keeps room (writeBy o m s t cs room)
     go none = refl
     go (some w) =
-        choose (Keeps room) (fits (reader w) t) (λ _.
+        choose (Keeps room) (writerFits w t) (λ _.
         choose (Keeps room) (ltb 16384 (length cs)) (λ _. refl) (λ _.
         choose (Keeps room) (not (scalars cs)) (λ _. refl) (λ _.
-        choose (Keeps room) (ltb (length room) (length (writing (lentOne w t) m 0 cs .bytes))) (λ _. refl) (λ h.
-        write-keeps (writing (lentOne w t) m 0 cs) room (ltb-false (length room) (length (writing (lentOne w t) m 0 cs .bytes)) h)))))
+        choose (Keeps room) (ltb (length room) (length (writing (lentOne w t) m s cs .bytes))) (λ _. refl) (λ h.
+        write-keeps (writing (lentOne w t) m s cs) room (ltb-false (length room) (length (writing (lentOne w t) m s cs .bytes)) h)))))
         (λ _. refl)
+
+finish-keeps : (s : ℕ) (room : List ℕ) → Keeps room (writerFinish s room)
+unfolding writerFinish
+finish-keeps s room =
+    choose (Keeps room) (ltb 2 s) (λ _. refl) (λ _.
+    choose (Keeps room) (ltb (length room) (length (finishBytes s))) (λ _. refl) (λ h.
+    write-keeps (record { bytes = finishBytes s; state = 0; unwritable = none }) room (ltb-false (length room) (length (finishBytes s)) h)))
+
+pub room-kept : RoomKept
+room-kept = record { by-writing = writing-keeps; by-finish = finish-keeps }

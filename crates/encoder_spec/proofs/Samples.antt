@@ -2,7 +2,7 @@
 use mathlib.Core.Path.{refl}
 use Rattle.standard.specs.Base.{every}
 use Rattle.standard.specs.Encodings.{traits, fits}
-use Rattle.standard.specs.Indexes.{lastPair, rangesCodePoint, rangesPointer, irregular, countFrom, windows1252}
+use Rattle.standard.specs.Indexes.{indexCodePoint, lastPair, rangesCodePoint, rangesPointer, irregular, countFrom, windows1252}
 use Rattle.standard.specs.Machine.{digits, reference}
 use Rattle.standard.specs.Search.{searchFrom}
 use Rattle.standard.specs.Encoders.Utf8.{utf8-following, utf8-bytes, utf8Encode}
@@ -13,9 +13,10 @@ use Rattle.standard.specs.Encoders.EucJp.{eucJpEncode}
 use Rattle.standard.specs.Encoders.ShiftJis.{shiftJisEncode}
 use Rattle.standard.specs.Encoders.EucKr.{eucKrEncode}
 use Rattle.standard.specs.Writers.{writerOf}
+use Rattle.standard.specs.Ones.{iso2022JpEncode}
 use Rattle.encoder_spec.specs.Writing.{writing}
-use Rattle.encoder_spec.specs.Writer.{writerCall}
-use Rattle.encoder_spec.specs.Samples.{Samples, JapaneseSamples, ChineseSamples}
+use Rattle.encoder_spec.specs.Writer.{writerCall, writerFinish}
+use Rattle.encoder_spec.specs.Samples.{Samples, JapaneseSamples, ChineseSamples, IsoSamples}
 
 pub samples : Samples
 unfolding every traits fits irregular countFrom windows1252 digits reference searchFrom utf8-following utf8-bytes utf8Encode
@@ -30,6 +31,13 @@ samples = record {
   no-room-needed = refl;
   2-before-3 = refl;
   3-before-9 = refl;
+  3-before-5 = refl;
+  5-before-9 = refl;
+  5-before-4 = refl;
+  5-in-utf8 = refl;
+  9-in-state-2 = refl;
+  utf8-in-state-2 = refl;
+  utf8-keeps-state = refl;
   9-before-4 = refl;
   4-before-8 = refl;
   8-before-10 = refl;
@@ -68,4 +76,27 @@ chinese-samples = record {
   gb18030-call = refl;
   big5-call = refl;
   euc-kr-call = refl;
+}
+
+pub iso-samples : IsoSamples
+unfolding every traits fits digits reference indexCodePoint searchFrom iso2022JpEncode writerOf writing writerCall writerFinish
+iso-samples = record {
+  iso-writes = refl;
+  no-katakana = refl;
+  nothing = refl;
+  to-roman = refl;
+  in-roman = refl;
+  to-two-byte = refl;
+  in-two-byte = refl;
+  katakana = refl;
+  report-returns = refl;
+  report-needs-room = refl;
+  report-in-roman = refl;
+  html-returns = refl;
+  html-roman = refl;
+  finish-ascii = refl;
+  finish-roman = refl;
+  finish-two-byte = refl;
+  finish-7 = refl;
+  finish-5-before-7 = refl;
 }

@@ -4,7 +4,8 @@ use mathlib.Core.List.{List, [], _∷_, _++_}
 use mathlib.Core.Option.{some, none}
 use Prim.Native.Nat.{ℕ}
 use lib.ListN.{length}
-use Rattle.encoder_spec.specs.Writing.{One, Writing, nothing, onward, writing}
+use Rattle.standard.specs.Ones.{One}
+use Rattle.encoder_spec.specs.Writing.{Writing, nothing, onward, writing}
 
 -- A writing of n scalars and the one after it, from the state that it left: nothing is written after a report.
 abbrev pub follow : ℕ → Writing → (ℕ → Writing) → Writing

@@ -1,6 +1,6 @@
--- Writing is the standard's, and a call keeps its room's length. Assumes nothing.
+-- Writing is the standard's, and calls keep their room's length. Assumes nothing.
 use mathlib.Core.Path.{_≡_}
-use mathlib.Core.List.{List}
+use mathlib.Core.List.{List, _++_}
 use mathlib.Core.Option.{some, none}
 use Prim.Native.Nat.{ℕ}
 use lib.ListN.{length}
@@ -8,18 +8,27 @@ use Rattle.standard.specs.Encodings.{Tables}
 use Rattle.standard.specs.Machine.{finished, error-with, fatal, html, Ran}
 use Rattle.standard.specs.Search.{Lookup}
 use Rattle.standard.specs.Writers.{Writer, coding, encoder, standardEncode}
-use Rattle.encoder_spec.specs.Writing.{encodeOne, Writing, writing}
-use Rattle.encoder_spec.specs.Writer.{writerCall}
+use Rattle.standard.specs.Ones.{encodeOne, finishBytes}
+use Rattle.encoder_spec.specs.Writing.{Writing, writing}
+use Rattle.encoder_spec.specs.Writer.{writerCall, writerFinish}
 
--- What 000's `run` of an encoder answers: all is written, or the error that stopped it, with the code point that it names.
+-- What 000's `run` of an encoder answers: all is written, and a finish, since `run` reads the end of the stream; or the error that stopped
+-- it, with the code point that it names.
 abbrev pub ran : Writing → Ran
-ran w = record { result = elim (w .unwritable) [ none ↦ finished | some f ↦ error-with (f .codePoint) ]; output = w .bytes }
+ran w = elim (w .unwritable) [
+  | none ↦ record { result = finished; output = w .bytes ++ finishBytes (w .state) }
+  | some f ↦ record { result = error-with (f .codePoint); output = w .bytes }
+]
 
--- Writing is the standard's: for every writer, by any look-up and second table, any scalars, in both modes.
-pub record WritingIsStandard (w : Writer) (look : Lookup) (second cs : List ℕ) : Type 0 where
-  pub refusing : standardEncode (encoder (coding w look second)) fatal cs ≡ some (ran (writing (encodeOne (coding w look second)) 1 0 cs))
-  pub html-mode : standardEncode (encoder (coding w look second)) html cs ≡ some (ran (writing (encodeOne (coding w look second)) 0 0 cs))
+-- Writing is the standard's: for every writer, by any look-up and second table, from a state that it has, any scalars, in both modes.
+-- Where 02 changes a step the handler is changed: (02) marks it in `standard/specs/Encoders`. What 02 changes of ISO-2022-JP is that its
+-- steps 8 and 9 come once for a scalar, that an unmapped katakana cell is an error naming the scalar, that pointers from 8,836 are passed
+-- over, and that an unwritable scalar in the two-byte state first returns to ASCII.
+pub record WritingIsStandard (w : Writer) (look : Lookup) (second : List ℕ) (s : ℕ) (cs : List ℕ) : Type 0 where
+  pub refusing : standardEncode (encoder (coding w look second)) fatal s cs ≡ some (ran (writing (encodeOne (coding w look second)) 1 s cs))
+  pub html-mode : standardEncode (encoder (coding w look second)) html s cs ≡ some (ran (writing (encodeOne (coding w look second)) 0 s cs))
 
 -- No call writes past the room: whatever is asked and lent, the room keeps its length.
-abbrev pub RoomKept : Type 0
-RoomKept = (e m : ℕ) (t : Tables) (cs room : List ℕ) → length (writerCall e m t cs room .room) ≡ length room
+pub record RoomKept : Type 0 where
+  pub by-writing : (e m s : ℕ) (t : Tables) (cs room : List ℕ) → length (writerCall e m s t cs room .room) ≡ length room
+  pub by-finish : (s : ℕ) (room : List ℕ) → length (writerFinish s room .room) ≡ length room

@@ -1,5 +1,5 @@
--- Document 01, "Writing rules": what the writer answers: refusal, bytes written, the unwritable scalar's index, and the room afterwards.
--- Assumes nothing.
+-- Document 01, "Writing rules", and 02, Ask 6: what the writer and its finish answer: refusal, bytes written, the unwritable scalar's index,
+-- the state, and the room afterwards. Assumes nothing.
 use mathlib.Core.Bool.{not}
 use mathlib.Core.List.{List, _++_}
 use mathlib.Core.Option.{Option, some, none}
@@ -7,10 +7,11 @@ use Prim.Native.Nat.{ℕ}
 use lib.Dec.{ltb}
 use lib.ListN.{length, drop}
 use Rattle.standard.specs.Base.{_then_else_, scalars}
-use Rattle.standard.specs.Encodings.{Tables, fits}
+use Rattle.standard.specs.Encodings.{Tables}
 use Rattle.standard.specs.Search.{searching}
-use Rattle.standard.specs.Writers.{Writer, writerOf, coding, reader}
-use Rattle.encoder_spec.specs.Writing.{One, encodeOne, Fault, Writing, writing}
+use Rattle.standard.specs.Writers.{Writer, writerOf, coding, writerFits}
+use Rattle.standard.specs.Ones.{One, encodeOne, finishBytes}
+use Rattle.encoder_spec.specs.Writing.{Fault, Writing, writing}
 use Rattle.encoder_spec.specs.declared.Written.{Written}
 
 -- What a call leaves: its answer, and every cell of the room.
@@ -18,37 +19,49 @@ pub record Outcome : Type 0 where
   pub answer : Written
   pub room : List ℕ
 
-abbrev pub refuse : ℕ → List ℕ → Outcome
-refuse n room = record { answer = record { written = 0; index = 0; refusal = n }; room = room }
+-- A refused call hands back the state that it was handed.
+abbrev pub refuse : ℕ → ℕ → List ℕ → Outcome
+refuse n s room = record { answer = record { written = 0; index = 0; refusal = n; state = s }; room = room }
 
--- so many bytes written, and report 11 where a scalar is unwritable
-abbrev pub answerOf : ℕ → Option Fault → Written
-answerOf n none = record { written = n; index = 0; refusal = 0 }
-answerOf n (some f) = record { written = n; index = f .index; refusal = 11 }
+-- so many bytes written, the state then reached, and report 11 where a scalar is unwritable
+abbrev pub answerOf : ℕ → ℕ → Option Fault → Written
+answerOf n s none = record { written = n; index = 0; refusal = 0; state = s }
+answerOf n s (some f) = record { written = n; index = f .index; refusal = 11; state = s }
 
 abbrev pub write : Writing → List ℕ → Outcome
-write w room = record { answer = answerOf (length (w .bytes)) (w .unwritable); room = w .bytes ++ drop (length (w .bytes)) room }
+write w room = record {
+  answer = answerOf (length (w .bytes)) (w .state) (w .unwritable);
+  room = w .bytes ++ drop (length (w .bytes)) room;
+}
 
--- 8, 10, 7, then 11. A call begins in state 0.
-abbrev pub writeAccepted : (ℕ → ℕ → One) → ℕ → List ℕ → List ℕ → Outcome
-writeAccepted one m cs room =
-    ltb 16384 (length cs) then refuse 8 room else
-    not (scalars cs) then refuse 10 room else
-    ltb (length room) (length (writing one m 0 cs .bytes)) then refuse 7 room else
-    write (writing one m 0 cs) room
+-- 8, 10, 7, then 11
+abbrev pub writeAccepted : (ℕ → ℕ → One) → ℕ → ℕ → List ℕ → List ℕ → Outcome
+writeAccepted one m s cs room =
+    ltb 16384 (length cs) then refuse 8 s room else
+    not (scalars cs) then refuse 10 s room else
+    ltb (length room) (length (writing one m s cs .bytes)) then refuse 7 s room else
+    write (writing one m s cs) room
 
 -- one scalar in a state, by a search of the first table that is lent
 abbrev pub lentOne : Writer → Tables → ℕ → ℕ → One
 lentOne w t = encodeOne (coding w (searching (t .first)) (t .second))
 
--- 9, 4, then those. The tables are those that are lent for reading.
-abbrev pub writeBy : Option Writer → ℕ → Tables → List ℕ → List ℕ → Outcome
-writeBy none m t cs room = refuse 9 room
-writeBy (some w) m t cs room = fits (reader w) t then writeAccepted (lentOne w t) m cs room else refuse 4 room
+-- 9, 4, then those
+abbrev pub writeBy : Option Writer → ℕ → ℕ → Tables → List ℕ → List ℕ → Outcome
+writeBy none m s t cs room = refuse 9 s room
+writeBy (some w) m s t cs room = writerFits w t then writeAccepted (lentOne w t) m s cs room else refuse 4 s room
 
--- Writing: 2, 3, then those.
-unfoldable pub writerCall : ℕ → ℕ → Tables → List ℕ → List ℕ → Outcome
-writerCall e m t cs room =
-    ltb 39 e then refuse 2 room else
-    ltb 1 m then refuse 3 room else
-    writeBy (writerOf e) m t cs room
+-- Writing from a state: 2, 3, (02) 5 for every encoding, then those.
+unfoldable pub writerCall : ℕ → ℕ → ℕ → Tables → List ℕ → List ℕ → Outcome
+writerCall e m s t cs room =
+    ltb 39 e then refuse 2 s room else
+    ltb 1 m then refuse 3 s room else
+    ltb 2 s then refuse 5 s room else
+    writeBy (writerOf e) m s t cs room
+
+-- (02) A finish returns to ASCII, whatever the encoding: it sees the state only. 5, 7.
+unfoldable pub writerFinish : ℕ → List ℕ → Outcome
+writerFinish s room =
+    ltb 2 s then refuse 5 s room else
+    ltb (length room) (length (finishBytes s)) then refuse 7 s room else
+    write (record { bytes = finishBytes s; state = 0; unwritable = none }) room

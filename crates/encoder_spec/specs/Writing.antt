@@ -4,32 +4,8 @@ use mathlib.Core.Option.{Option, some, none}
 use Prim.Native.Nat.{ℕ, _+_}
 use lib.Dec.{eqb}
 use Rattle.standard.specs.Base.{_then_else_}
-use Rattle.standard.specs.Machine.{Result, finished, continue, tokens, error, error-with, reference}
-use Rattle.standard.specs.Writers.{Coding, stateless}
-
--- One scalar in a state: its bytes, the state after it, and the code point that an error names where it is unwritable.
-pub record One : Type 0 where
-  pub bytes : List ℕ
-  pub state : ℕ
-  pub named : Option ℕ
-
-abbrev pub wrote : List ℕ → ℕ → One
-wrote bs s = record { bytes = bs; state = s; named = none }
-
-abbrev pub cannot : ℕ → ℕ → One
-cannot n s = record { bytes = []; state = s; named = some n }
-
--- by what an encoder without variables answers: bytes, or an error that names a code point (no encoder answers otherwise); the state stays
-abbrev pub plainly : ℕ → Result → One
-plainly s (tokens bs) = wrote bs s
-plainly s (error-with n) = cannot n s
-plainly s finished = cannot 0 s
-plainly s continue = cannot 0 s
-plainly s error = cannot 0 s
-
--- one scalar, by a writer's coding
-abbrev pub encodeOne : Coding → ℕ → ℕ → One
-encodeOne (stateless encode) s c = plainly s (encode c)
+use Rattle.standard.specs.Machine.{reference}
+use Rattle.standard.specs.Ones.{One}
 
 -- Where writing stopped: the scalar's index, and the code point that the error names.
 pub record Fault : Type 0 where

@@ -7,7 +7,7 @@ ghost use Rattle.index_spec.specs.IndexCall.{indexLine};
 ghost use Rattle.decoder.specs.Calls.{opening, feeding, finishing};
 ghost use Rattle.in_place.specs.Replies.{Leaves};
 ghost use Rattle.clean.specs.Checking.{checking};
-ghost use Rattle.encoder_spec.specs.Writer.{writerCall};
+ghost use Rattle.encoder_spec.specs.Writer.{writerCall, writerFinish};
 ghost use Rattle.list_spec.specs.ListCall.{listCall};
 use clean::Checked;
 use decoder::Answer;
@@ -19,12 +19,12 @@ use labels_spec::Found;
 use labels_spec::Named;
 use list_spec::Listed;
 
-// The version of the library, 0.7.0: 10,000 times major, 100 times minor, and patch.
+// The version of the library, 0.8.0: 10,000 times major, 100 times minor, and patch.
 #[no_mangle]
 pub extern "C" fn hamvukile_version() -> u32
-    ensures { λ r. ⌜ r ≡ 700 ⌝ }
+    ensures { λ r. ⌜ r ≡ 800 ⌝ }
 {
-    700
+    800
 }
 
 // The label call.
@@ -140,17 +140,27 @@ pub extern "C" fn hamvukile_check(
 pub extern "C" fn hamvukile_encode(
     encoding: u8,
     mode: u8,
+    state: u8,
     scalars: &[u32],
     first: &[u32],
     second: &[u32],
     room: &mut [u8],
 ) -> Written
-    ensures { λ r. ⌜ (r ≡ writerCall encoding mode (lent (now (first .entry)) (now (second .entry)))
+    ensures { λ r. ⌜ (r ≡ writerCall encoding mode state (lent (now (first .entry)) (now (second .entry)))
         (now (scalars .entry)) (now (room .entry)) .answer) ×
-        (now (room .exit) ≡ writerCall encoding mode (lent (now (first .entry)) (now (second .entry)))
+        (now (room .exit) ≡ writerCall encoding mode state (lent (now (first .entry)) (now (second .entry)))
         (now (scalars .entry)) (now (room .entry)) .room) ⌝ }
 {
-    encoder::encode(encoding, mode, scalars, first, second, room)
+    encoder::encode(encoding, mode, state, scalars, first, second, room)
+}
+
+// The finish of a writing.
+#[no_mangle]
+pub extern "C" fn hamvukile_encode_finish(state: u8, room: &mut [u8]) -> Written
+    ensures { λ r. ⌜ (r ≡ writerFinish state (now (room .entry)) .answer) ×
+        (now (room .exit) ≡ writerFinish state (now (room .entry)) .room) ⌝ }
+{
+    encoder::finish(state, room)
 }
 
 // The list reader.

@@ -1,9 +1,9 @@
 -- What the code's values stand for: the answer for one scalar, slots, and what a search by slots is given. Contracts of functions inside the
 -- library cite this. Assumes nothing.
 use mathlib.Core.Path.{_≡_}
-use mathlib.Core.Bool.{true, false}
+use mathlib.Core.Bool.{true, false, _&&_}
 use mathlib.Core.List.{List, [], _∷_}
-use mathlib.Core.Option.{some}
+use mathlib.Core.Option.{Option, some, none}
 use Prim.Native.Nat.{ℕ, suc, _+_, _%_, _≤_, _<_}
 use lib.Dec.{leb, eqb}
 use lib.ListN.{length, getD, set, replicate}
@@ -16,6 +16,8 @@ use Rattle.standard.specs.Encoders.Big5.{big5Encode}
 use Rattle.standard.specs.Encoders.EucJp.{eucJpEncode}
 use Rattle.standard.specs.Encoders.ShiftJis.{shiftJisEncode}
 use Rattle.standard.specs.Encoders.EucKr.{eucKrEncode}
+use Rattle.standard.specs.Encoders.Iso2022Jp.{control}
+use Rattle.standard.specs.Ones.{iso2022JpEncode, stateFor}
 use Rattle.index.specs.IndexCode.{pointerOf}
 use Rattle.index.specs.declared.Found.{Found}
 use Rattle.layouts.specs.Rows.{cells}
@@ -31,24 +33,43 @@ bytesOf o =
 abbrev pub told : One → Result
 told o = eqb (o .count) 0 then error-with (o .named) else tokens (bytesOf o)
 
+-- What an answer of so many bytes is, as far as the state after it goes.
+abbrev pub byCount : ℕ → Result
+byCount n = eqb n 0 then error-with 0 else tokens []
+
+-- A code point, or null where the code has 0.
+abbrev pub orNone : ℕ → Option ℕ
+orNone d = eqb d 0 then none else some d
+
 -- The encoder of an encoding number, of those that write pairs, with its tables.
 unfoldable pub pairEncode : ℕ → List ℕ → List ℕ → ℕ → Result
 pairEncode e table second =
     leb e 30 then gb18030Encode (eqb e 29) (searching table) second else
     eqb e 31 then big5Encode (searching table) else
     eqb e 32 then eucJpEncode (searching table) else
+    eqb e 33 then iso2022JpEncode (searching table) second else
     eqb e 34 then shiftJisEncode (searching table) else
     eucKrEncode (searching table)
 
+-- The state after a scalar, from a state, by what the encoder answers: it stays but in ISO-2022-JP.
+abbrev pub pairState : ℕ → ℕ → ℕ → Result → ℕ
+pairState e s c r = eqb e 33 then stateFor s c r else s
+
+-- An ASCII scalar whose one byte leaves the state as it is.
+pub record Plain (e s c : ℕ) : Type 0 where
+  pub is-ascii : c < 0x80
+  pub no-control : eqb e 33 && control c ≡ false
+  pub stays : pairState e s c (tokens (c ∷ [])) ≡ s
+
 -- The pointers that it passes over, from low to high; from 1 to 0 there is none. And the cells of its first table.
 abbrev pub lowOf : ℕ → ℕ
-lowOf e = leb e 30 then 1 else eqb e 31 then 0 else eqb e 32 then 8836 else eqb e 34 then 8272 else 1
+lowOf e = leb e 30 then 1 else eqb e 31 then 0 else leb e 33 then 8836 else eqb e 34 then 8272 else 1
 
 abbrev pub highOf : ℕ → ℕ
-highOf e = leb e 30 then 0 else eqb e 31 then 5023 else eqb e 32 then 11279 else eqb e 34 then 10715 else 0
+highOf e = leb e 30 then 0 else eqb e 31 then 5023 else leb e 33 then 11279 else eqb e 34 then 10715 else 0
 
 abbrev pub cellsOf : ℕ → ℕ
-cellsOf e = leb e 30 then 23940 else eqb e 31 then 19782 else eqb e 32 then 11280 else eqb e 34 then 11280 else 23940
+cellsOf e = leb e 30 then 23940 else eqb e 31 then 19782 else leb e 34 then 11280 else 23940
 
 -- A pointer that is searched, whose cell counts as mapped and has this remainder.
 pub record Has (over : PassedOver) (table : List ℕ) (k q : ℕ) : Type 0 where

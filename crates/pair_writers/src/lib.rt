@@ -1,15 +1,22 @@
-// The bytes of one scalar in the encodings that write pairs: document 02, Asks 5 and 7. Slots help the search where a text is long.
+// The bytes of one scalar in the encodings that write pairs: document 02, Asks 5, 6 and 7. Slots help the search where a text is long.
 
 mod big5;
 mod euc_jp;
 mod euc_kr;
 mod gb18030;
+mod iso_2022_jp;
 mod pairs;
 mod shift_jis;
 mod slots;
 
 ghost use mathlib.Core.Path.{_≡_};
-ghost use Rattle.pair_writers.specs.Pairs.{told, pairEncode, lowOf, highOf, Ready, Fillable};
+ghost use mathlib.Core.Bool.{true, _&&_};
+ghost use mathlib.Core.List.{[], _∷_};
+ghost use lib.Dec.{eqb};
+ghost use Rattle.standard.specs.Base.{_then_else_};
+ghost use Rattle.standard.specs.Machine.{tokens, error-with};
+ghost use Rattle.standard.specs.Encoders.Iso2022Jp.{control};
+ghost use Rattle.pair_writers.specs.Pairs.{told, byCount, pairEncode, pairState, Plain, lowOf, highOf, Ready, Fillable};
 
 // One, two or four bytes; or none, where the scalar is unwritable and an error names a code point.
 pub struct One {
@@ -21,7 +28,7 @@ pub struct One {
     pub fourth: u8,
 }
 
-// GBK (29) and gb18030, Big5 (31), EUC-JP (32), Shift_JIS (34) and EUC-KR.
+// GBK (29) and gb18030, Big5 (31), EUC-JP (32), ISO-2022-JP (33) in the state that it is written in, Shift_JIS (34) and EUC-KR.
 pub fn bytes_of(encoding: u8, table: &[u32], second: &[u32], slots: &[u16], c: u32) -> One
     ensures { λ r. ⌜ (Ready encoding (now (table .entry)) (now (slots .entry)) →
         told r ≡ pairEncode encoding (now (table .entry)) (now (second .entry)) c) ⌝ }
@@ -35,10 +42,49 @@ pub fn bytes_of(encoding: u8, table: &[u32], second: &[u32], slots: &[u16], c: u
     if encoding == 32 {
         return euc_jp::bytes_of(table, slots, c);
     }
+    if encoding == 33 {
+        return iso_2022_jp::bytes_of(table, second, slots, c);
+    }
     if encoding == 34 {
         return shift_jis::bytes_of(table, slots, c);
     }
     euc_kr::bytes_of(table, slots, c)
+}
+
+// ASCII: its own byte, but for the controls of ISO-2022-JP.
+pub fn ascii(encoding: u8, c: u8) -> One
+    ensures { λ r. ⌜ told r ≡ (eqb encoding 33 && control c then error-with 0xFFFD else tokens (c ∷ [])) ⌝ }
+{
+    if encoding != 33 {
+        return pairs::one_byte(c);
+    }
+    iso_2022_jp::ascii(c)
+}
+
+// Is it an ASCII scalar whose one byte leaves the state as it is? In ISO-2022-JP only in ASCII.
+pub fn plain(encoding: u8, state: u8, c: u32) -> bool
+    ensures { λ r. ⌜ (r ≡ true → Plain encoding state c) ⌝ }
+{
+    if 0x80 <= c {
+        return false;
+    }
+    if encoding != 33 {
+        return true;
+    }
+    if state != 0 {
+        return false;
+    }
+    !iso_2022_jp::control(c)
+}
+
+// The state after a scalar, by the count of its bytes: it stays but in ISO-2022-JP.
+pub fn state_for(encoding: u8, state: u8, c: u32, count: u32) -> u8
+    ensures { λ r. ⌜ r ≡ pairState encoding state c (byCount count) ⌝ }
+{
+    if encoding != 33 {
+        return state;
+    }
+    iso_2022_jp::state_for(state, c, count)
 }
 
 // The pointers that are passed over: from low to high.
@@ -51,7 +97,7 @@ fn low(encoding: u8) -> usize
     if encoding == 31 {
         return 0;
     }
-    if encoding == 32 {
+    if encoding <= 33 {
         return 8836;
     }
     if encoding == 34 {
@@ -69,7 +115,7 @@ fn high(encoding: u8) -> usize
     if encoding == 31 {
         return 5023;
     }
-    if encoding == 32 {
+    if encoding <= 33 {
         return 11279;
     }
     if encoding == 34 {

@@ -1,23 +1,24 @@
--- Reading back: what the writer's call wrote in refusing mode goes through the decoder's calls. Assumes nothing.
-use mathlib.Core.Path.{_≡_, refl, ap, _∙_}
-use mathlib.Core.Bool.{true, not, and-false}
+-- Reading back: what the writer's calls wrote in refusing mode, and the finish, goes through the decoder's calls. Assumes nothing.
+use mathlib.Core.Path.{_≡_, refl, sym, ap, _∙_}
+use mathlib.Core.Bool.{Bool, true, false, not, _&&_, _||_, and-false}
 use mathlib.Core.List.{List, [], _∷_, _++_, append-nil, map}
 use mathlib.Core.Option.{Option, some, none}
-use Prim.Native.Nat.{ℕ, suc, _≤_}
+use Prim.Native.Nat.{ℕ, _≤_, _<_}
 use native.Mathlib.Omega.{arith}
 use lib.Dec.{ltb, eqb}
-use lib.ListN.{length, drop}
+use lib.ListN.{length}
 use lib.Seq.{take-append-seam}
-use borrow.Author.Tests.{ltb-false, le-ltb, not-true, not-false}
-use Rattle.standard.specs.Base.{every, lineFeeds, scalars}
-use Rattle.standard.specs.Encodings.{family, Tables, fits}
+use borrow.Author.Tests.{ltb-true, ltb-false, le-ltb, lt-leb, ne-eqb, not-true}
+use Rattle.standard.specs.Base.{every, lineFeeds}
+use Rattle.standard.specs.Encodings.{family, Tables}
 use Rattle.standard.specs.Search.{searching}
-use Rattle.standard.specs.Sequence.{plain}
+use Rattle.standard.specs.Sequence.{Shift, shift, plain}
 use Rattle.standard.specs.Next.{next}
 use Rattle.standard.specs.Decode.{Item, Read, decode, ending, shown, everything}
-use Rattle.standard.specs.Writers.{Writer, writerOf, reader}
+use Rattle.standard.specs.Writers.{Writer, writerOf, reader, readerTables, writerFits}
+use Rattle.standard.specs.Ones.{finishBytes}
 use Rattle.standard.specs.Images.{image, leavesOut}
-use Rattle.standard.proofs.Tests.{choose, and-both}
+use Rattle.standard.proofs.Tests.{split, choose, and-both}
 use Rattle.standard.proofs.Search.{plain-sound}
 use Rattle.standard.proofs.Reading.{no-bytes}
 use Rattle.standard.proofs.Writers.{reader-of, own-image}
@@ -33,65 +34,108 @@ use Rattle.demands.specs.Whole.{dealt, wholeAccount}
 use Rattle.demands.proofs.Steps.{kept-new}
 use Rattle.demands.proofs.Cutting.{cut-is-whole, feeds-give}
 use Rattle.encoder_spec.specs.Writing.{Fault, Writing, writing}
-use Rattle.encoder_spec.specs.Writer.{Outcome, refuse, answerOf, write, lentOne, writerCall}
-use Rattle.read_back.specs.Statements.{ReadBack, written, ReadsBack}
-use Rattle.read_back.proofs.Decoding.{Reads, written-reads, reads-whole}
+use Rattle.encoder_spec.specs.Writer.{Outcome, lentOne, writerFinish}
+use Rattle.encoder_spec.specs.Calls.{callsOf, allScalars, written, accepted, indexOf, onePiece}
+use Rattle.encoder_spec.specs.Calls.{Piece as WriterPiece, Account as WriterAccount, account as writerAccount}
+use Rattle.encoder_spec.proofs.Calls.{Called, refused, writes, called, as-one-piece, all-scalars}
+use Rattle.read_back.specs.Statements.{ReadBack, ReadsBack}
+use Rattle.read_back.proofs.Decoding.{Reads, written-reads, none-reads, reads-whole}
 
--- What the bytes bs are to the decoder of a number: they decode to the scalars cs without an error, and nothing is left over.
-record Good (e : ℕ) (t : Tables) (cs bs : List ℕ) : Type 0 where
+-- What the bytes bs, through a finish from the state s, are to the decoder of a number: they decode to the scalars cs without an error, and
+-- nothing is left over.
+record Good (e : ℕ) (t : Tables) (s : ℕ) (cs bs : List ℕ) : Type 0 where
   number : e ≤ 39
-  read : Reads (next t (family e)) plain bs plain cs
+  read : Reads (next t (family e)) plain bs (shift 0 (not (eqb s 0))) cs
 
--- What an outcome without a refusal wrote is good: it reads as the images.
-record Fine (w : Writer) (e : ℕ) (t : Tables) (cs : List ℕ) (o : Outcome) : Type 0 where
-  good : o .answer .refusal ≡ 0 → Good e t (map (image w (t .second)) cs) (written o)
+-- a number with a writer
+small : (e : ℕ) (w : Writer) → writerOf e ≡ some w → e ≤ 39
+unfolding writerOf
+small e w h = split (ltb 39 e) (λ l. let far : 39 < e = ltb-true 39 e l in no-writer far) (λ l. ltb-false 39 e l)
+  where
+    no-writer : 39 < e → e ≤ 39
+    no-writer far =
+        let z : _≡_ {A = Option Writer} none (some w) = rw (
+          ne-eqb e 0 (λ z. omega arith),
+          ne-eqb e 21 (λ z. omega arith),
+          lt-leb e 28 (omega arith),
+          ne-eqb e 29 (λ z. omega arith),
+          ne-eqb e 30 (λ z. omega arith),
+          ne-eqb e 31 (λ z. omega arith),
+          ne-eqb e 32 (λ z. omega arith),
+          ne-eqb e 33 (λ z. omega arith),
+          ne-eqb e 34 (λ z. omega arith),
+          ne-eqb e 35 (λ z. omega arith),
+          ne-eqb e 39 (λ z. omega arith),
+        ) at h in
+        let y : _≡_ {A = ℕ} 0 1 = cc in
+        absurd (omega arith)
 
-module _ {w : Writer} {e : ℕ} {t : Tables} {cs : List ℕ} where
-  refused : (n : ℕ) (room : List ℕ) → Fine w e t cs (refuse (suc n) room)
-  refused n room = record { good = λ z. absurd (omega arith) }
+-- what an accepted finish wrote
+finish-wrote : (s : ℕ) (room : List ℕ) → writerFinish s room .answer .refusal ≡ 0 → written (writerFinish s room) ≡ finishBytes s
+unfolding writerFinish
+finish-wrote s room =
+    choose Wrote (ltb 2 s) (λ _ e. absurd (omega arith)) (λ _.
+    choose Wrote (ltb (length room) (length (finishBytes s))) (λ _ e. absurd (omega arith)) (λ _ e. take-append-seam _ _))
+  where
+    Wrote : Outcome → Type 0
+    Wrote o = o .answer .refusal ≡ 0 → written o ≡ finishBytes s
 
-  wrote : (room : List ℕ) → e ≤ 39 → writerOf e ≡ some w → fits (reader w) t ≡ true → scalars cs ≡ true →
-      Fine w e t cs (write (writing (lentOne w t) 1 0 cs) room)
-  wrote room n h f s = record { good = go (v .unwritable) refl }
-    where
-      v : Writing
-      v = writing (lentOne w t) 1 0 cs
+-- A call that is not refused was lent tables that fit.
+first-fits : (w : Writer) (e : ℕ) (t : Tables) (p : WriterPiece) (ps : List WriterPiece) → writerOf e ≡ some w →
+    accepted (callsOf e 1 t) 0 (p ∷ ps) ≡ true → writerFits w t ≡ true
+unfolding accepted
+first-fits w e t p ps q = go (callsOf e 1 t 0 p) (called e 1 0 t w (p .scalars) (p .room) q)
+  where
+    go : (o : Outcome) → Called (writerFits w t) (p .scalars) (writing (lentOne w t) 1 0 (p .scalars)) (p .room) 0 o →
+        eqb (o .answer .refusal) 11 || (eqb (o .answer .refusal) 0 && accepted (callsOf e 1 t) (o .answer .state) ps) ≡ true →
+        writerFits w t ≡ true
+    go o (refused n a b) h = let f : false ≡ true = rw (a, b) at h in let z : _≡_ {A = ℕ} 0 1 = cc in absurd (omega arith)
+    go o (writes f c) h = f
 
-      go : (o : Option Fault) → v .unwritable ≡ o → answerOf (length (v .bytes)) o .refusal ≡ 0 →
-          Good e t (map (image w (t .second)) cs)
-          (written (record { answer = answerOf (length (v .bytes)) o; room = v .bytes ++ drop (length (v .bytes)) room }))
-      go (some i) u z = absurd (omega arith)
-      go none u z = record {
-        number = n;
-        read = rw (take-append-seam, reader-of e w h) (written-reads w t (searching (t .first)) f (plain-sound (t .first)) cs s u);
-      }
+unreported : (o : Option Fault) → indexOf o ≡ none → o ≡ none
+unreported none e = refl
+unreported (some f) e = let z : _≡_ {A = ℕ} 0 1 = cc in absurd (omega arith)
 
-call-good : (w : Writer) (e : ℕ) (t : Tables) (cs room : List ℕ) → writerOf e ≡ some w → Fine w e t cs (writerCall e 1 t cs room)
-unfolding writerCall
-call-good w e t cs room q = choose (Fine w e t cs) (ltb 39 e) (λ h. refused 1 room) (λ h. rw q (
-    choose (Fine w e t cs) (fits (reader w) t) (λ f.
-    choose (Fine w e t cs) (ltb 16384 (length cs)) (λ _. refused 7 room) (λ _.
-    choose (Fine w e t cs) (not (scalars cs)) (λ _. refused 9 room) (λ s.
-    choose (Fine w e t cs) (ltb (length room) (length (writing (lentOne w t) 1 0 cs .bytes))) (λ _. refused 6 room)
-    (λ _. wrote room (ltb-false 39 e h) q f (not-false (scalars cs) s)))))
-    (λ _. refused 3 room)))
+-- What the calls and the finish wrote is good.
+calls-good : (w : Writer) (e : ℕ) (t : Tables) (ps : List WriterPiece) (room : List ℕ) → writerOf e ≡ some w →
+    accepted (callsOf e 1 t) 0 ps ≡ true →
+    let a = writerAccount (callsOf e 1 t) 0 ps in
+    a .report ≡ none → writerFinish (a .state) room .answer .refusal ≡ 0 →
+    Good e (readerTables w t) (a .state) (map (image w (t .second)) (allScalars ps)) (a .output ++ written (writerFinish (a .state) room))
+unfolding writerAccount allScalars
+calls-good w e t [] room q h u f = record { number = small e w q; read = rw (finish-wrote 0 room f) (none-reads (readerTables w t) (family e)) }
+calls-good w e t (p ∷ ps) room q h u f = record {
+  number = small e w q;
+  read = rw (finish-wrote (writerAccount (callsOf e 1 t) 0 (p ∷ ps) .state) room f, whole, reader-of e w q)
+      (written-reads w t (searching (t .first)) (first-fits w e t p ps q h) (plain-sound (t .first)) (allScalars (p ∷ ps))
+      (all-scalars w e 1 t q 0 (p ∷ ps) h u) (unreported (W .unwritable) (ap (λ (a : WriterAccount). a .report) (sym whole) ∙ u)));
+}
+  where
+    W : Writing
+    W = writing (lentOne w t) 1 0 (allScalars (p ∷ ps))
+
+    whole : writerAccount (callsOf e 1 t) 0 (p ∷ ps) ≡ onePiece W
+    whole = as-one-piece w e 1 t q 0 (p ∷ ps) h
 
 opens : (e m : ℕ) → e ≤ 39 → m ≤ 1 → openRefusal e m 1 ≡ 0
 unfolding openRefusal
 opens e m p q = rw (le-ltb 39 e p, le-ltb 1 m q)
 
 -- Such bytes through the decoder's calls.
-module _ (e m : ℕ) (t : Tables) (cs bs : List ℕ) (m-number : m ≤ 1) (g : Good e t cs bs) where
+module _ (e m : ℕ) (t : Tables) (s : ℕ) (cs bs : List ℕ) (m-number : m ≤ 1) (g : Good e t s cs bs) where
   abbrev items : List Item
   items = g .read .items
 
-  new-reads : (xs : List ℕ) → xs ≡ bs → readFrom t e (newSpot e 1) xs ≡ lift 0 (record { items = items; shift = plain; rest = [] })
+  abbrev end : Shift
+  end = shift 0 (not (eqb s 0))
+
+  new-reads : (xs : List ℕ) → xs ≡ bs → readFrom t e (newSpot e 1) xs ≡ lift 0 (record { items = items; shift = end; rest = [] })
   unfolding readerAt
   new-reads xs q = rw (kept-new e, q) (read-on t e (spot 0 plain) bs refl ∙ ap (lift 0) (reads-whole t (family e) (g .read)))
 
   fed : (calls : List Call) → AllFeeds t calls → after (start e m 1) calls .taken ≡ bs →
       (after (start e m 1) calls .handed ≡ cs) ×
-      (after (start e m 1) calls .decoder ≡ holding e m (length bs) (lineFeeds cs) (spot 0 plain) [])
+      (after (start e m 1) calls .decoder ≡ holding e m (length bs) (lineFeeds cs) (spot 0 end) [])
   fed calls a q =
       let d = new-reads (after (start e m 1) calls .taken) q in
       let f = feeds-give t e m 1 (opens e m (g .number) m-number) calls a (rw (d, g .read .whole) (and-false (eqb m 1))) in
@@ -102,7 +146,7 @@ module _ (e m : ℕ) (t : Tables) (cs bs : List ℕ) (m-number : m ≤ 1) (g : G
   unfolding everything readerAt
   all = rw (kept-new e) (all-read t e (spot 0 plain) bs refl ∙
       ap (λ (r : Read). r .items ++ ending t (family e) (r .shift) (r .rest)) (reads-whole t (family e) (g .read)) ∙
-      rw (no-bytes t (family e) plain, append-nil))
+      rw (no-bytes t (family e) end, append-nil))
 
   whole : wholeAccount t e m 1 bs ≡ record { handed = cs; reports = []; decoder = closed e m 0 (lineFeeds cs) }
   unfolding wholeAccount dealt
@@ -112,7 +156,7 @@ module _ (e m : ℕ) (t : Tables) (cs bs : List ℕ) (m-number : m ≤ 1) (g : G
       account (start e m 1) (cutting t ps last) ≡ record { handed = cs; reports = []; decoder = closed e m 0 (lineFeeds cs) }
   finished ps last q a = cut-is-whole t e m 1 (opens e m (g .number) m-number) ps last a ∙ rw q whole
 
-  back : ReadBack e m t cs bs
+  back : ReadBack e m t s cs bs
   back = record { fed = fed; finished = finished }
 
 -- Scalars none of which is left out are their own images.
@@ -125,6 +169,9 @@ selves w second (c ∷ cs) h =
     rw e (ap (_∷_ c) (selves w second cs (l .1)))
 
 pub reads-back : ReadsBack
-reads-back w e m t cs room h q z =
-    let images = back e m t (map (image w (t .second)) cs) (written (writerCall e 1 t cs room)) h (call-good w e t cs room q .good z) in
+reads-back w e m t ps room h q a u f =
+    let cs = allScalars ps in
+    let o = writerAccount (callsOf e 1 t) 0 ps in
+    let bs = o .output ++ written (writerFinish (o .state) room) in
+    let images = back e m (readerTables w t) (o .state) (map (image w (t .second)) cs) bs h (calls-good w e t ps room q a u f) in
     record { as-images = images; as-themselves = λ n. rw (selves w (t .second) cs n) at images }

@@ -1,13 +1,16 @@
 -- The samples of the encoders, by computation. Assumes nothing.
 use mathlib.Core.Path.{refl}
-use Rattle.standard.specs.Indexes.{lastPair, rangesCodePoint, rangesPointer}
+use Rattle.standard.specs.Indexes.{indexCodePoint, lastPair, rangesCodePoint, rangesPointer}
+use Rattle.standard.specs.Machine.{stream, deliver, run}
 use Rattle.standard.specs.Search.{searchFrom}
 use Rattle.standard.specs.Encoders.Gb18030.{gb18030Encode}
 use Rattle.standard.specs.Encoders.Big5.{big5Encode}
 use Rattle.standard.specs.Encoders.EucJp.{eucJpEncode}
 use Rattle.standard.specs.Encoders.ShiftJis.{shiftJisEncode}
 use Rattle.standard.specs.Encoders.EucKr.{eucKrEncode}
-use Rattle.standard.specs.Encoders.Samples.{EncoderSamples, ChineseSamples}
+use Rattle.standard.specs.Encoders.Iso2022Jp.{iso2022JpHandler}
+use Rattle.standard.specs.Writers.{standardEncode}
+use Rattle.standard.specs.Encoders.Samples.{EncoderSamples, ChineseSamples, IsoSamples}
 
 pub encoder-samples : EncoderSamples
 unfolding searchFrom eucJpEncode shiftJisEncode
@@ -91,4 +94,34 @@ chinese-samples = record {
   euc-kr-62 = refl;
   euc-kr-63 = refl;
   euc-kr-none = refl;
+}
+
+pub iso-samples : IsoSamples
+unfolding indexCodePoint stream deliver run searchFrom iso2022JpHandler standardEncode
+iso-samples = record {
+  yen = refl;
+  overline = refl;
+  nothing-in-ascii = refl;
+  roman-stays = refl;
+  roman-5C = refl;
+  roman-7E = refl;
+  two-byte-letter = refl;
+  two-byte-yen = refl;
+  pair = refl;
+  pair-8835 = refl;
+  pair-8836 = refl;
+  first-of-two = refl;
+  control-ascii = refl;
+  control-roman = refl;
+  control-two-byte = refl;
+  unwritable-roman = refl;
+  unwritable-two-byte = refl;
+  minus = refl;
+  minus-named = refl;
+  katakana = refl;
+  katakana-named = refl;
+  katakana-unmapped = refl;
+  cell-2212 = refl;
+  cell-A5 = refl;
+  cell-FF62 = refl;
 }

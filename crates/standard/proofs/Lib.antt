@@ -9,6 +9,7 @@ pub mod ReadsBackBytes
 pub mod ReadsBackPairs
 pub mod ReadsBackChinese
 pub mod Walk
+pub mod ReadsBackIso
 pub mod AnyTables
 pub mod Items
 pub mod Reading

@@ -6,15 +6,18 @@ use mathlib.Core.List.{List, _∷_, _++_}
 use mathlib.Core.Option.{Option, some, none}
 use Prim.Native.Nat.{ℕ, _*_, _≤_, _<_}
 use native.Mathlib.Omega.{arith}
+use lib.Dec.{eqb}
 use lib.ListN.{length, getD}
-use borrow.Author.Tests.{ne-eqb}
+use borrow.Author.Tests.{eqb-true, ne-eqb}
 use Rattle.standard.specs.Base.{_then_else_, mapped}
+use Rattle.standard.specs.Encodings.{Family, Tables, traits, secondFits, fits}
 use Rattle.standard.specs.Indexes.{indexCodePoint}
 use Rattle.standard.specs.Machine.{Result, tokens, error-with}
 use Rattle.standard.specs.Sequence.{Next, scalar, cell, pair}
 use Rattle.standard.specs.Search.{PassedOver, passed, Side, Lookup, Sound}
 use Rattle.standard.specs.Layouts.{Layout, leads, trails, pointerOf, leadOf, trailOf, twoBytes}
 use Rattle.standard.specs.Encoders.Pairs.{pairOr}
+use Rattle.standard.proofs.Tests.{and-left}
 use Rattle.standard.proofs.Laws.{mapped-real}
 use Rattle.standard.proofs.Layouts.{Regular, two-bytes}
 
@@ -61,3 +64,10 @@ by-lookup {n} {y} {over} {index} R {look} S side c {other} B = go (look side ove
         let w = two-bytes y p (R .regular) (R .in-rows p (f .inside) (f .searched)) in
         by-bytes (twoBytes y p) (λ ys. R .pairs (leadOf y p) (trailOf y p) p ys (w .lead-fits) (w .trail-fits) (w .back) (f .searched) ∙
         rw (x .0, ne-eqb c 0 (λ z. omega (arith, x .1))))
+
+-- A first table that fits.
+pub first-fits : (f : Family) (t : Tables) → fits f t ≡ true → length (t .first) ≤ traits f .first
+unfolding fits
+first-fits f t h =
+    let e = and-left (eqb (length (t .first)) (traits f .first)) (secondFits (traits f .second) (length (t .second))) h in
+    omega (arith, eqb-true (length (t .first)) (traits f .first) e)

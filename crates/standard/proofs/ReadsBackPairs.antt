@@ -15,7 +15,7 @@ use Rattle.standard.specs.Sequence.{Next, scalar}
 use Rattle.standard.specs.Layouts.{pairCode, eucJpLayout, shiftJisLayout}
 use Rattle.standard.specs.Sequences.EucJp.{eucJp}
 use Rattle.standard.specs.Sequences.ShiftJis.{shiftJis}
-use Rattle.standard.specs.Search.{first, Lookup, Sound}
+use Rattle.standard.specs.Search.{passed, first, Lookup, Sound}
 use Rattle.standard.specs.Encoders.Pairs.{minus}
 use Rattle.standard.specs.Encoders.EucJp.{jis0208Over, eucJpEncode}
 use Rattle.standard.specs.Encoders.ShiftJis.{shiftJisOver, shiftJisEncode}
@@ -68,12 +68,16 @@ module _ (c : ℕ) (h : within 0xFF61 c 0xFF9F ≡ true) where
   kana-back : 0xFF61 - 0xA1 + (c - 0xFF61 + 0xA1) ≡ c
   kana-back = omega (arith, within-low 0xFF61 c 0xFF9F h)
 
+-- Of at most 11,280 cells of jis0208 those that are searched stand in its 94 rows.
+pub jis0208-row : (n p : ℕ) → n ≤ 11280 → p < n → passed jis0208Over p ≡ false → p < 8836
+jis0208-row n p h i o = outside 8836 p 11279 o (λ a. a) (λ a. absurd (omega arith))
+
 module _ (t : Tables) (n : length (t .first) ≤ 11280) {look : Lookup} (S : Sound look (t .first)) (c : ℕ) where
   euc-jp-pairs : ReadsPairs (eucJp t) eucJpLayout jis0208Over (t .first)
   unfolding eucJp pairCode
   euc-jp-pairs = record {
     regular = euc-jp-regular;
-    in-rows = λ p i o. outside 8836 p 11279 o (λ a. a) (λ a. absurd (omega arith));
+    in-rows = λ p i o. jis0208-row (length (t .first)) p n i o;
     pairs = λ b c p ys l r e _.
         let low : 0xA1 ≤ b = within-low 0xA1 b 0xFE l in
         rw (le-ltb b 0x80 (omega arith), ne-eqb b 0x8E (λ z. omega arith), ne-eqb b 0x8F (λ z. omega arith), l, r, e);

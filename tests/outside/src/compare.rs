@@ -3,7 +3,7 @@
 
 use crate::reference::{self, Answer, Checked, Encoded};
 use std::fmt::Debug;
-use support::ffi::{self, Decoder as Record};
+use support::ffi::{self, Decoder as Record, Written};
 use support::{calls, Tables};
 
 /// Cells behind the lent room.
@@ -161,9 +161,25 @@ pub fn check(encoding: u8, text: &[u8], tables: Tables) -> Result<Checked, Strin
     Ok(reference)
 }
 
+/// What the writer's calls answer, beside each other.
+fn written(library: Written, cells: &[u8], reference: Encoded) -> Result<Encoded, String> {
+    numbers("refusal", library.refusal.into(), reference.refusal.into())?;
+    rooms(
+        "bytes",
+        cells,
+        library.written,
+        &reference.output,
+        byte_before,
+    )?;
+    numbers("index", library.index, reference.index)?;
+    numbers("state", library.state.into(), reference.state.into())?;
+    Ok(reference)
+}
+
 pub fn encode(
     encoding: u8,
     mode: u8,
+    state: u8,
     scalars: &[u32],
     tables: Tables,
     room: usize,
@@ -172,22 +188,20 @@ pub fn encode(
     let library = calls::encode(
         encoding,
         mode,
+        state,
         scalars,
         tables.first,
         tables.second,
         &mut cells[..room],
     );
-    let reference = reference::encode(encoding, mode, scalars, tables, room);
-    numbers("refusal", library.refusal.into(), reference.refusal.into())?;
-    rooms(
-        "bytes",
-        &cells,
-        library.written,
-        &reference.output,
-        byte_before,
-    )?;
-    numbers("index", library.index, reference.index)?;
-    Ok(reference)
+    let reference = reference::encode(encoding, mode, state, scalars, tables, room);
+    written(library, &cells, reference)
+}
+
+pub fn encode_finish(state: u8, room: usize) -> Result<Encoded, String> {
+    let mut cells: Vec<u8> = (0..room + BEHIND).map(byte_before).collect();
+    let library = calls::encode_finish(state, &mut cells[..room]);
+    written(library, &cells, reference::encode_finish(state, room))
 }
 
 pub fn index_line(line: &[u8], table: &mut Vec<u32>) -> Result<reference::Entered, String> {

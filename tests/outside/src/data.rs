@@ -32,6 +32,7 @@ pub fn read_windows_1252() -> Result<(), String> {
 /// The tables of every encoding.
 pub struct Published {
     tables: Vec<(Vec<u32>, Vec<u32>)>,
+    katakana: Vec<u32>,
     pub entries: usize,
 }
 
@@ -43,7 +44,12 @@ impl Published {
         for encoding in 0..40u8 {
             tables.push(Self::of(encoding, &mut entries)?);
         }
-        Ok(Published { tables, entries })
+        let katakana = table(data::KATAKANA, &mut entries)?;
+        Ok(Published {
+            tables,
+            katakana,
+            entries,
+        })
     }
 
     fn of(encoding: u8, entries: &mut usize) -> Result<(Vec<u32>, Vec<u32>), String> {
@@ -67,6 +73,20 @@ impl Published {
     pub fn tables(&self, encoding: u8) -> Tables<'_> {
         let (first, second) = &self.tables[usize::from(encoding)];
         Tables { first, second }
+    }
+}
+
+impl Published {
+    /// The tables for writing: those for reading, and in ISO-2022-JP the katakana.
+    pub fn writer_tables(&self, encoding: u8) -> Tables<'_> {
+        let tables = self.tables(encoding);
+        match encoding {
+            33 => Tables {
+                second: &self.katakana,
+                ..tables
+            },
+            _ => tables,
+        }
     }
 }
 

@@ -573,7 +573,7 @@ pub fn four_bytes(published: &Published) -> Result<String, String> {
 
 /// Writes scalars in refusing mode and reads them back; false where one of them cannot be written.
 fn round_trip(encoding: u8, scalars: &[u32], tables: Tables) -> Result<bool, String> {
-    let written = compare::encode(encoding, 1, scalars, tables, 4 * scalars.len())?;
+    let written = compare::encode(encoding, 1, 0, scalars, tables, 4 * scalars.len())?;
     if written.refusal == 11 {
         return Ok(false);
     }
@@ -607,7 +607,8 @@ pub fn scalars(published: &Published) -> Result<String, String> {
     let (mut html, mut refusing, mut read_back) = (0, 0, 0);
     for encoding in (0..=28).chain([39u8]) {
         let tables = published.tables(encoding);
-        let write_html = |list: &[u32]| compare::encode(encoding, 0, list, tables, 10 * list.len());
+        let write_html =
+            |list: &[u32]| compare::encode(encoding, 0, 0, list, tables, 10 * list.len());
         let write_and_read = |list: &[u32]| round_trip(encoding, list, tables);
         let case = |mode: u8, (list, error): (Vec<u32>, String)| {
             let name = name(encoding);
@@ -680,7 +681,8 @@ pub fn pair_writers(published: &Published) -> Result<String, String> {
                 first: &first,
                 second: tables.second,
             };
-            let write = |list: &[u32]| compare::encode(encoding, 0, list, tables, 10 * list.len());
+            let write =
+                |list: &[u32]| compare::encode(encoding, 0, 0, list, tables, 10 * list.len());
             let case = |mode: u8, (list, error): (Vec<u32>, String)| {
                 let name = name(encoding);
                 format!("no scalar can be left out of\n  {name}, mode {mode}, {list:04X?}: {error}")
@@ -699,5 +701,141 @@ pub fn pair_writers(published: &Published) -> Result<String, String> {
     }
     Ok(format!(
         "{written} scalars written and read back, {refused} unwritable, by published and by other tables"
+    ))
+}
+
+/// A scalar of ISO-2022-JP in a state, in both modes.
+fn iso_in_state(scalar: u32, state: u8, tables: Tables) -> Result<bool, String> {
+    compare::encode(33, 0, state, &[scalar], tables, 13)?;
+    let refusing = compare::encode(33, 1, state, &[scalar], tables, 5)?;
+    if let room @ 1.. = refusing.output.len() {
+        let small = compare::encode(33, 1, state, &[scalar], tables, room - 1)?;
+        if small.refusal != 7 {
+            return Err(format!("room {}: expected 7", room - 1));
+        }
+    }
+    Ok(refusing.refusal == 0)
+}
+
+/// A whole writing of ISO-2022-JP in refusing mode, cut behind the first scalar, with its finish, read back with the same
+/// first table.
+fn iso_read_back(scalars: &[u32], tables: Tables) -> Result<(), String> {
+    let one = compare::encode(33, 1, 0, &scalars[..1], tables, 5)?;
+    let other = compare::encode(33, 1, one.state, &scalars[1..], tables, 5 * scalars.len())?;
+    let last = compare::encode_finish(other.state, 3)?;
+    let bytes = [one.output, other.output, last.output].concat();
+    let start = compare::open(33, 1, 1)?.record;
+    let first = Tables {
+        second: &[],
+        ..tables
+    };
+    let read = compare::feed(start, &bytes, first, bytes.len())?.output;
+    let expected: Vec<u32> = scalars.iter().map(|&c| iso_image(c, tables)).collect();
+    if read != expected {
+        return Err(format!(
+            "read back: expected {expected:04X?}, came {read:04X?}"
+        ));
+    }
+    Ok(())
+}
+
+/// All of them in long calls: in html mode from each state; and those that can be written in refusing mode, the state going
+/// from call to call, with a finish, read back as a whole.
+fn iso_long(all: &[u32], writable: &[u32], tables: Tables) -> Result<(), String> {
+    for state in 0..3 {
+        for part in all.chunks(16384) {
+            compare::encode(33, 0, state, part, tables, 13 * part.len())?;
+        }
+    }
+    let (mut state, mut bytes) = (0, Vec::new());
+    for part in writable.chunks(5000) {
+        let answer = compare::encode(33, 1, state, part, tables, 5 * part.len())?;
+        state = answer.state;
+        bytes.extend(answer.output);
+    }
+    bytes.extend(compare::encode_finish(state, 3)?.output);
+    let mut record = compare::open(33, 1, 1)?.record;
+    let first = Tables {
+        second: &[],
+        ..tables
+    };
+    let mut read = Vec::new();
+    for chunk in bytes.chunks(65536) {
+        let answer = compare::feed(record, chunk, first, chunk.len() + 3)?;
+        record = answer.record;
+        read.extend(answer.output);
+    }
+    let expected: Vec<u32> = writable.iter().map(|&c| iso_image(c, tables)).collect();
+    match read == expected {
+        true => Ok(()),
+        false => Err("a long text is not read back".to_string()),
+    }
+}
+
+/// What a scalar that ISO-2022-JP writes is read back as.
+fn iso_image(scalar: u32, tables: Tables) -> u32 {
+    match scalar {
+        0x2212 => 0xFF0D,
+        0xFF61..=0xFF9F => tables.second[(scalar - 0xFF61) as usize],
+        _ => scalar,
+    }
+}
+
+/// Every scalar of the first plane, and some beyond it, through the writer of ISO-2022-JP, from each of its states, by the
+/// published tables, and every fourth, and those with rules of their own, by others; what refusing mode writes is read
+/// back, from ASCII and behind a scalar of each other state.
+pub fn iso_2022_jp(published: &Published) -> Result<String, String> {
+    let plane: Vec<u32> = (0..=0xFFFF)
+        .chain([0x10000, 0x1F4A9, 0x2000B, 0x10FFFF])
+        .filter(|&scalar| is_scalar(scalar))
+        .collect();
+    let ruled = (0..0x100)
+        .chain([0x203E, 0x2212, 0xFF0D, 0x4E00])
+        .chain(0xFF60..=0xFFA0);
+    let fourth: Vec<u32> = plane.iter().copied().step_by(4).chain(ruled).collect();
+    let tables = published.writer_tables(33);
+    let odd: Vec<u32> = [
+        0xA5, 0x203E, 0x2212, 0xFF0D, 0xFF61, 0xFF9F, 0, 0x41, 0xD800, 0x4E00,
+    ]
+    .into_iter()
+    .cycle()
+    .take(63)
+    .collect();
+    let (mut written, mut refused) = (0, 0);
+    for (number, first) in edged(tables.first).into_iter().enumerate() {
+        let all = if number == 0 { &plane } else { &fourth };
+        for second in [tables.second, &odd] {
+            let tables = Tables {
+                first: &first,
+                second,
+            };
+            let pair = (0..8836).find(|&pointer| {
+                let cell = first[pointer];
+                cell > 0x4000 && is_scalar(cell) && iso_in_state(cell, 0, tables) == Ok(true)
+            });
+            let pair = first[pair.ok_or("no pair is written")?];
+            let mut writable = Vec::new();
+            for &scalar in all {
+                let case = |error: String| format!("ISO-2022-JP, {scalar:04X}: {error}");
+                let mut writes = false;
+                for state in 0..3 {
+                    let case = |error: String| case(format!("state {state}, {error}"));
+                    writes = iso_in_state(scalar, state, tables).map_err(case)?;
+                }
+                if !writes {
+                    refused += 1;
+                    continue;
+                }
+                written += 1;
+                writable.push(scalar);
+                for list in [[scalar, 0x41], [0xA5, scalar], [pair, scalar]] {
+                    iso_read_back(&list, tables).map_err(case)?;
+                }
+            }
+            iso_long(all, &writable, tables)?;
+        }
+    }
+    Ok(format!(
+        "{written} scalars written from each state and read back, {refused} unwritable, by published and by other tables"
     ))
 }

@@ -60,6 +60,7 @@ fn compare_all(number: usize, seed: u64) -> Result<(), String> {
     show("four bytes", || exhaustive::four_bytes(&tables))?;
     show("writers", || exhaustive::scalars(&tables))?;
     show("writers of pairs", || exhaustive::pair_writers(&tables))?;
+    show("writer with a state", || exhaustive::iso_2022_jp(&tables))?;
     show("block borders", || long::borders(&tables))?;
     show("stretches of ASCII", || stretches::stretches(&tables))?;
     show("short lists", list::short_texts)?;

@@ -75,8 +75,7 @@ fn opened(encoding: u8, rule: u8, causes: &[u8], tables: Tables) -> Result<Recor
 }
 
 /// Tables of zeros; with cause 4 one of them is too long.
-fn zeros(published: &Published, encoding: u8, causes: &[u8], which: usize) -> (Vec<u32>, Vec<u32>) {
-    let tables = published.tables(encoding.min(39));
+fn zeros(tables: Tables, causes: &[u8], which: usize) -> (Vec<u32>, Vec<u32>) {
     let mut first = vec![0; tables.first.len()];
     let mut second = vec![0; tables.second.len()];
     if causes.contains(&4) {
@@ -103,7 +102,7 @@ fn feeds(published: &Published, calls: &mut Calls) -> Result<(), String> {
                     continue;
                 }
                 let record = opened(encoding, rule, &causes, published.tables(encoding))?;
-                let (first, second) = zeros(published, encoding, &causes, which);
+                let (first, second) = zeros(published.tables(encoding.min(39)), &causes, which);
                 let mut chunk = if causes.contains(&11) {
                     ERROR.to_vec()
                 } else {
@@ -158,7 +157,7 @@ fn finishes(published: &Published, calls: &mut Calls) -> Result<(), String> {
         }
         let refusing = causes.contains(&11);
         let open = compare::open(encoding, u8::from(refusing), rule)?.record;
-        let (first, second) = zeros(published, encoding, &[], 0);
+        let (first, second) = zeros(published.tables(encoding), &[], 0);
         let tables = Tables {
             first: &first,
             second: &second,
@@ -171,7 +170,7 @@ fn finishes(published: &Published, calls: &mut Calls) -> Result<(), String> {
         if causes.contains(&5) {
             record.third = 1;
         }
-        let (first, second) = zeros(published, encoding, &causes, which);
+        let (first, second) = zeros(published.tables(encoding.min(39)), &causes, which);
         let tables = Tables {
             first: &first,
             second: &second,
@@ -218,7 +217,7 @@ fn checks(published: &Published, calls: &mut Calls) {
             }
             for which in 0..2 {
                 for byte in [b'A', 0xFF] {
-                    let (first, second) = zeros(published, encoding, &causes, which);
+                    let (first, second) = zeros(published.tables(encoding.min(39)), &causes, which);
                     let length = 65536 + usize::from(causes.contains(&8));
                     let tables = Tables {
                         first: &first,
@@ -238,7 +237,7 @@ fn checks(published: &Published, calls: &mut Calls) {
 }
 
 fn encodes(published: &Published, calls: &mut Calls) {
-    let order = [2, 3, 9, 4, 8, 10, 7, 11];
+    let order = [2, 3, 5, 9, 4, 8, 10, 7, 11];
     for encoding in (0..=40).chain([255]) {
         for set in 0..1 << order.len() {
             let causes = causes(&order, set);
@@ -250,7 +249,8 @@ fn encodes(published: &Published, calls: &mut Calls) {
                 continue;
             }
             for which in 0..2 {
-                let (first, second) = zeros(published, encoding, &causes, which);
+                let (first, second) =
+                    zeros(published.writer_tables(encoding.min(39)), &causes, which);
                 let mut scalars = vec![0x41];
                 if causes.contains(&11) {
                     scalars.push(0xE5E5);
@@ -265,6 +265,11 @@ fn encodes(published: &Published, calls: &mut Calls) {
                     }
                 }
                 let mode = if causes.contains(&3) { 2 } else { 1 };
+                let state = match (causes.contains(&5), which) {
+                    (false, _) => 0,
+                    (true, 0) => 3,
+                    (true, _) => 255,
+                };
                 let room = if causes.contains(&7) {
                     0
                 } else {
@@ -275,14 +280,30 @@ fn encodes(published: &Published, calls: &mut Calls) {
                     second: &second,
                 };
                 let call = format!(
-                    "encode {encoding} mode {mode}, {} numbers, tables of {} and {} cells, room {room}",
+                    "encode {encoding} mode {mode} state {state}, {} numbers, tables of {} and {} cells, room {room}",
                     scalars.len(),
                     first.len(),
                     second.len()
                 );
-                let answer = compare::encode(encoding, mode, &scalars, tables, room);
+                let answer = compare::encode(encoding, mode, state, &scalars, tables, room);
                 calls.expect(&causes, call, answer.map(|answer| answer.refusal));
             }
+        }
+    }
+}
+
+fn encode_finishes(calls: &mut Calls) {
+    for state in 0..=255 {
+        for room in 0..5 {
+            let needs = if state == 0 { 0 } else { 3 };
+            let causes = [(5, state > 2), (7, room < needs)];
+            let causes: Vec<u8> = causes
+                .into_iter()
+                .filter_map(|(cause, holds)| holds.then_some(cause))
+                .collect();
+            let answer = compare::encode_finish(state, room);
+            let call = format!("encode_finish state {state}, room {room}");
+            calls.expect(&causes, call, answer.map(|answer| answer.refusal));
         }
     }
 }
@@ -298,6 +319,7 @@ pub fn refusals(published: &Published) -> Result<String, String> {
     checks(published, &mut calls);
     let checks = calls.compared - opens - feeds - finishes;
     encodes(published, &mut calls);
+    encode_finishes(&mut calls);
     let encodes = calls.compared - opens - feeds - finishes - checks;
     calls.differences.result(format!(
         "{opens} openings, {feeds} feeds, {finishes} finishes, {checks} checks, {encodes} encodings with combined causes"

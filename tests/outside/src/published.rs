@@ -4,7 +4,7 @@ use crate::data::Published;
 use crate::differences::Differences;
 use crate::labels::Labels;
 use crate::reference::has_writer;
-use support::ffi::Decoder;
+use support::ffi::{Decoder, Written};
 use support::{calls, data, Tables};
 
 struct Spellings<'a> {
@@ -304,6 +304,24 @@ pub fn characters(published: &Published) -> Result<String, String> {
     Ok(format!("{compared} characters"))
 }
 
+/// A whole writing: one call, and a finish.
+fn whole(published: &Published, encoding: u8, mode: u8, scalars: &[u32]) -> (Written, Vec<u8>) {
+    let tables = published.writer_tables(encoding);
+    let mut room = vec![0; 13 * scalars.len() + 3];
+    let answer = calls::encode(
+        encoding,
+        mode,
+        0,
+        scalars,
+        tables.first,
+        tables.second,
+        &mut room,
+    );
+    let last = calls::encode_finish(answer.state, &mut room[answer.written..]);
+    room.truncate(answer.written + last.written);
+    (answer, room)
+}
+
 /// The published characters whose encodings have a writer, written again: the published bytes, or those of another
 /// pair with the same character, which comes first in the index.
 pub fn characters_written(published: &Published) -> Result<String, String> {
@@ -319,16 +337,7 @@ pub fn characters_written(published: &Published) -> Result<String, String> {
         if !has_writer(character.encoding) {
             continue;
         }
-        let mut room = [0; 16];
-        let answer = calls::encode(
-            character.encoding,
-            1,
-            scalars,
-            tables.first,
-            tables.second,
-            &mut room,
-        );
-        let written = room[..answer.written].to_vec();
+        let (answer, written) = whole(published, character.encoding, 1, scalars);
         if answer.refusal == 11 && read_only(character.encoding, &character.chunks.concat()) {
             other += 1;
             continue;
@@ -445,16 +454,7 @@ pub fn encodings(published: &Published) -> Result<String, String> {
         let fields: Vec<&str> = line.split('\t').collect();
         let encoding = encoding_of(fields[0])?;
         let scalars = scalars_of(fields[1])?;
-        let tables = published.tables(encoding);
-        let mut room = vec![0; 10 * scalars.len()];
-        let answer = calls::encode(
-            encoding,
-            0,
-            &scalars,
-            tables.first,
-            tables.second,
-            &mut room,
-        );
+        let (answer, written) = whole(published, encoding, 0, &scalars);
         let expected = if !has_writer(encoding) {
             without += 1;
             (9, Vec::new())
@@ -462,7 +462,7 @@ pub fn encodings(published: &Published) -> Result<String, String> {
             compared += 1;
             (0, bytes_of(fields[2])?)
         };
-        let came = (answer.refusal, room[..answer.written].to_vec());
+        let came = (answer.refusal, written);
         let differs = matches!(encoding, 29 | 30) && OF_2022.contains(&scalars[0]);
         if differs {
             of_2022 += 1;

@@ -4,7 +4,7 @@ use crate::compare;
 use crate::data::Published;
 use crate::differences::smallest;
 use crate::exhaustive::alphabet;
-use crate::reference::{self, Answer};
+use crate::reference::{self, Answer, Encoded};
 use std::fmt;
 use support::ffi::Decoder as Record;
 use support::random::Random;
@@ -90,6 +90,7 @@ enum Call {
         tables: usize,
         flaw: usize,
     },
+    /// From the state that the call before it left, or from a forged one.
     Encode {
         encoding: u8,
         mode: u8,
@@ -97,6 +98,11 @@ enum Call {
         tables: usize,
         flaw: usize,
         room: isize,
+        state: Option<u8>,
+    },
+    EncodeFinish {
+        room: isize,
+        state: Option<u8>,
     },
 }
 
@@ -151,13 +157,17 @@ impl fmt::Display for Call {
                 tables,
                 flaw,
                 room,
+                state,
             } => {
                 let shown = &scalars[..scalars.len().min(40)];
                 let length = scalars.len();
                 write!(
                     to,
-                    "encode {encoding} mode {mode} {shown:X?} ({length}) tables {tables} flaw {flaw} room {room:+}"
+                    "encode {encoding} mode {mode} {shown:X?} ({length}) tables {tables} flaw {flaw} room {room:+} state {state:?}"
                 )
+            }
+            Call::EncodeFinish { room, state } => {
+                write!(to, "encode_finish room {room:+} state {state:?}")
             }
         }
     }
@@ -195,24 +205,27 @@ impl Lent {
 pub const VARIANTS: usize = 6;
 
 pub struct Lists {
-    /// By encoding and variant: published, empty, with holes, with cells at the edges, and two more of these.
+    /// By encoding and variant: published, empty, with holes, with cells at the edges, and two more of these. Behind the
+    /// last encoding those for writing ISO-2022-JP.
     lent: Vec<Vec<Lent>>,
 }
 
 impl Lists {
     pub fn new(published: &Published, random: &mut Random) -> Lists {
+        let writer = (33, published.writer_tables(33));
         let lent = (0..40)
-            .map(|encoding| {
+            .map(|encoding| (encoding, published.tables(encoding)))
+            .chain([writer])
+            .map(|(encoding, tables)| {
                 (0..VARIANTS)
-                    .map(|variant| Self::variant(published, encoding, variant, random))
+                    .map(|variant| Self::variant(tables, encoding, variant, random))
                     .collect()
             })
             .collect();
         Lists { lent }
     }
 
-    fn variant(published: &Published, encoding: u8, variant: usize, random: &mut Random) -> Lent {
-        let tables = published.tables(encoding);
+    fn variant(tables: Tables, encoding: u8, variant: usize, random: &mut Random) -> Lent {
         let mut cells = |cells: &[u32]| -> Vec<u32> {
             let mut cells = cells.to_vec();
             for cell in &mut cells {
@@ -259,6 +272,13 @@ impl Lists {
         self.lent[usize::from(encoding.min(39))][variant].with(flaw)
     }
 
+    fn writer_tables(&self, encoding: u8, variant: usize, flaw: usize) -> Tables<'_> {
+        match encoding {
+            33 => self.lent[40][variant].with(flaw),
+            _ => self.tables(encoding, variant, flaw),
+        }
+    }
+
     pub fn text(&self, encoding: u8, random: &mut Random) -> Vec<u8> {
         let length = match random.below(12) {
             0 => 0,
@@ -300,9 +320,9 @@ impl Lists {
             1 => random.below(0x11_0000) as u32,
             2 => random.pick(CELLS),
             3 => random.pick(&[
-                9, 10, 99, 100, 999, 1000, 9999, 10000, 99999, 100000, 999999, 1000000, 0x7FF,
-                0x800, 0x20AC, 0x80, 0x81, 0xA5, 0x178, 0x203E, 0x2212, 0xFF0D, 0xFF60, 0xFF61,
-                0xFF9F, 0xFFA0,
+                0x0E, 0x0F, 0x1B, 0x5C, 0x7E, 9, 10, 99, 100, 999, 1000, 9999, 10000, 99999,
+                100000, 999999, 1000000, 0x7FF, 0x800, 0x20AC, 0x80, 0x81, 0xA5, 0x178, 0x203E,
+                0x2212, 0xFF0D, 0xFF60, 0xFF61, 0xFF9F, 0xFFA0, 0xFF71,
             ]),
             _ if !table.is_empty() => random.pick(table),
             _ => 0xF780 + random.below(0x80) as u32,
@@ -390,12 +410,17 @@ impl Lists {
                 tables,
                 flaw,
             },
+            5 => Call::EncodeFinish {
+                room,
+                state: forged_state(random),
+            },
             2 | 3 => {
-                let encoding = match random.below(12) {
-                    0 => random.pick(&[33, 36, 37, 38, 40, 255]),
+                let encoding = match random.below(14) {
+                    0 => random.pick(&[36, 37, 38, 40, 255]),
                     1 => 0,
                     2 => 39,
                     3..=6 => random.pick(&[29, 30, 30, 31, 32, 34, 35]),
+                    7..=9 => 33,
                     _ => 1 + random.below(28) as u8,
                 };
                 let length = match random.below(400) {
@@ -415,6 +440,7 @@ impl Lists {
                     tables,
                     flaw,
                     room,
+                    state: forged_state(random),
                 }
             }
             _ => {
@@ -429,6 +455,13 @@ impl Lists {
             }
         }
     }
+}
+
+/// Seldom a state that no call left.
+fn forged_state(random: &mut Random) -> Option<u8> {
+    random
+        .one_in(6)
+        .then(|| random.pick(&[0, 1, 2, 2, 3, 4, 127, 128, 255]))
 }
 
 /// Is the encoding one of demand 3's first part?
@@ -553,6 +586,8 @@ struct Place<'a> {
     lists: &'a Lists,
     record: Record,
     taken: Taken,
+    /// The state of the writing.
+    state: u8,
 }
 
 impl Place<'_> {
@@ -623,13 +658,30 @@ impl Place<'_> {
                 tables,
                 flaw,
                 room,
+                state,
             } => {
-                let tables = self.lists.tables(*encoding, *tables, *flaw);
-                let whole = reference::encode(*encoding, *mode, scalars, tables, usize::MAX);
+                let tables = self.lists.writer_tables(*encoding, *tables, *flaw);
+                let from = state.unwrap_or(self.state);
+                let whole = reference::encode(*encoding, *mode, from, scalars, tables, usize::MAX);
                 let room = room_of(whole.output.len(), *room);
-                Ok(compare::encode(*encoding, *mode, scalars, tables, room)?.refusal)
+                let answer = compare::encode(*encoding, *mode, from, scalars, tables, room)?;
+                Ok(self.after_writing(answer))
+            }
+            Call::EncodeFinish { room, state } => {
+                let from = state.unwrap_or(self.state);
+                let needs = reference::encode_finish(from, usize::MAX).output.len();
+                let answer = compare::encode_finish(from, room_of(needs, *room))?;
+                Ok(self.after_writing(answer))
             }
         }
+    }
+
+    /// The list goes on with the state that a call left, forged or not, where it is one.
+    fn after_writing(&mut self, answer: Encoded) -> u8 {
+        if answer.state <= 2 {
+            self.state = answer.state;
+        }
+        answer.refusal
     }
 
     /// After a call on a forged record the list goes on with the record that was not forged.
@@ -650,6 +702,7 @@ impl Lists {
             lists: self,
             record: compare::open(0, 0, 1)?.record,
             taken: Taken::default(),
+            state: 0,
         };
         for call in list {
             let refusal = place.call(call)?;
@@ -696,7 +749,7 @@ impl Call {
         1 + match self {
             Call::Feed { chunk: bytes, .. } | Call::Check { text: bytes, .. } => bytes.len(),
             Call::Encode { scalars, .. } => scalars.len(),
-            Call::Open { .. } | Call::Finish { .. } => 0,
+            Call::Open { .. } | Call::Finish { .. } | Call::EncodeFinish { .. } => 0,
         }
     }
 
@@ -725,7 +778,7 @@ impl Call {
                 };
                 *scalars = smallest(scalars, |numbers| fails(with(numbers)));
             }
-            Call::Open { .. } | Call::Finish { .. } => {}
+            Call::Open { .. } | Call::Finish { .. } | Call::EncodeFinish { .. } => {}
         }
         call
     }

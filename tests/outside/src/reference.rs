@@ -1198,16 +1198,135 @@ pub fn check(encoding: u8, text: &[u8], tables: Tables) -> Checked {
     }
 }
 
-/// What the writer answers; `output` is what stands at the front of the room.
+/// What the writer and its finish answer; `output` is what stands at the front of the room.
 pub struct Encoded {
     pub refusal: u8,
     pub output: Vec<u8>,
     pub index: usize,
+    pub state: u8,
 }
 
 /// Whether an encoding has a writer.
 pub fn has_writer(encoding: u8) -> bool {
-    matches!(encoding, 0..=32 | 34 | 35 | 39)
+    matches!(encoding, 0..=35 | 39)
+}
+
+/// Whether the lent tables have the lengths that writing an encoding asks for.
+fn fits_writer(encoding: u8, tables: Tables) -> bool {
+    match encoding {
+        33 => (tables.first.len(), tables.second.len()) == (11280, 63),
+        _ => fits(encoding, tables),
+    }
+}
+
+/// A token of the stream that ISO-2022-JP's encoder reads.
+enum CodePoint {
+    Scalar(u32),
+    /// What 000's steps 8 and 9 made of a scalar: they come once, and it is only looked up and named.
+    Changed(u32),
+    /// A scalar whose katakana cell is unmapped.
+    Unmapped(u32),
+    EndOfStream,
+}
+
+/// 000's ISO-2022-JP encoder, with what document 02 changes; its state: 0 ASCII, 1 Roman, 2 jis0208.
+struct Iso2022JpEncoder<'a> {
+    state: u8,
+    tables: Tables<'a>,
+    stream: VecDeque<CodePoint>,
+    output: &'a mut Vec<u8>,
+}
+
+impl Iso2022JpEncoder<'_> {
+    /// Runs until the stream is read; an error has the code point that it names.
+    fn run(&mut self) -> Result<(), u32> {
+        while let Some(code_point) = self.stream.pop_front() {
+            match code_point {
+                CodePoint::Scalar(scalar) => self.scalar(scalar)?,
+                CodePoint::Changed(code_point) => self.pointed(code_point)?,
+                CodePoint::Unmapped(scalar) => self.unwritable(scalar, CodePoint::Unmapped)?,
+                // Steps 1 and 2.
+                CodePoint::EndOfStream if self.state != 0 => self.switch(0, CodePoint::EndOfStream),
+                CodePoint::EndOfStream => return Ok(()),
+            }
+        }
+        Ok(())
+    }
+
+    /// Sets the state, writes its three bytes, and puts the code point back.
+    fn switch(&mut self, state: u8, code_point: CodePoint) {
+        self.state = state;
+        self.output.extend(match state {
+            0 => b"\x1B(B",
+            1 => b"\x1B(J",
+            _ => b"\x1B$B",
+        });
+        self.stream.push_front(code_point);
+    }
+
+    /// Steps 3 to 9.
+    fn scalar(&mut self, scalar: u32) -> Result<(), u32> {
+        let ascii = scalar < 0x80;
+        match (self.state, scalar) {
+            (0 | 1, 0x0E | 0x0F | 0x1B) => return Err(0xFFFD),
+            (0, _) if ascii => self.output.push(scalar as u8),
+            (1, 0xA5) => self.output.push(0x5C),
+            (1, 0x203E) => self.output.push(0x7E),
+            (1, _) if ascii && scalar != 0x5C && scalar != 0x7E => self.output.push(scalar as u8),
+            _ if ascii => self.switch(0, CodePoint::Scalar(scalar)),
+            (_, 0xA5 | 0x203E) => self.switch(1, CodePoint::Scalar(scalar)),
+            (_, 0x2212) => self.stream.push_front(CodePoint::Changed(0xFF0D)),
+            (_, 0xFF61..=0xFF9F) => {
+                let cell = index_code_point(self.tables.second, (scalar - 0xFF61) as usize);
+                self.stream
+                    .push_front(cell.map_or(CodePoint::Unmapped(scalar), CodePoint::Changed));
+            }
+            _ => self.stream.push_front(CodePoint::Changed(scalar)),
+        }
+        Ok(())
+    }
+
+    /// Steps 10 to 15.
+    fn pointed(&mut self, code_point: u32) -> Result<(), u32> {
+        let found = (0..8836).find(|&pointer| self.tables.first[pointer] == code_point);
+        let Some(pointer) = found else {
+            return self.unwritable(code_point, CodePoint::Changed);
+        };
+        if self.state != 2 {
+            self.switch(2, CodePoint::Changed(code_point));
+            return Ok(());
+        }
+        self.output.push((pointer / 94 + 0x21) as u8);
+        self.output.push((pointer % 94 + 0x21) as u8);
+        Ok(())
+    }
+
+    /// Step 11; document 02: from jis0208 first a return to ASCII.
+    fn unwritable(&mut self, named: u32, again: fn(u32) -> CodePoint) -> Result<(), u32> {
+        if self.state != 2 {
+            return Err(named);
+        }
+        self.switch(0, again(named));
+        Ok(())
+    }
+}
+
+/// A code point through that encoder.
+fn encode_iso_2022_jp(
+    state: &mut u8,
+    code_point: CodePoint,
+    tables: Tables,
+    output: &mut Vec<u8>,
+) -> Result<(), u32> {
+    let mut encoder = Iso2022JpEncoder {
+        state: *state,
+        tables,
+        stream: VecDeque::from([code_point]),
+        output,
+    };
+    let result = encoder.run();
+    *state = encoder.state;
+    result
 }
 
 /// Writes one scalar as Shift_JIS (000's steps 2 to 13) or EUC-JP (steps 2 to 11), with what document 02 changes: the
@@ -1324,10 +1443,14 @@ fn encode_chinese(
 /// Writes the bytes of one scalar, where the encoding has any. `Err` has the code point that the error names.
 fn encode_scalar(
     encoding: u8,
+    state: &mut u8,
     scalar: u32,
     tables: Tables,
     output: &mut Vec<u8>,
 ) -> Result<(), u32> {
+    if encoding == 33 {
+        return encode_iso_2022_jp(state, CodePoint::Scalar(scalar), tables, output);
+    }
     if scalar < 0x80 {
         output.push(scalar as u8);
         return Ok(());
@@ -1363,11 +1486,19 @@ fn encode_scalar(
     Ok(())
 }
 
-pub fn encode(encoding: u8, mode: u8, scalars: &[u32], tables: Tables, room: usize) -> Encoded {
+pub fn encode(
+    encoding: u8,
+    mode: u8,
+    state: u8,
+    scalars: &[u32],
+    tables: Tables,
+    room: usize,
+) -> Encoded {
     let refused = |refusal| Encoded {
         refusal,
         output: Vec::new(),
         index: 0,
+        state,
     };
     if encoding > 39 {
         return refused(2);
@@ -1375,10 +1506,13 @@ pub fn encode(encoding: u8, mode: u8, scalars: &[u32], tables: Tables, room: usi
     if mode > 1 {
         return refused(3);
     }
+    if state > 2 {
+        return refused(5);
+    }
     if !has_writer(encoding) {
         return refused(9);
     }
-    if !fits(encoding, tables) {
+    if !fits_writer(encoding, tables) {
         return refused(4);
     }
     if scalars.len() > 16384 {
@@ -1389,8 +1523,10 @@ pub fn encode(encoding: u8, mode: u8, scalars: &[u32], tables: Tables, room: usi
     }
     let mut output = Vec::new();
     let mut error = None;
+    let mut reached = state;
     for (index, &scalar) in scalars.iter().enumerate() {
-        let Err(named) = encode_scalar(encoding, scalar, tables, &mut output) else {
+        let written = encode_scalar(encoding, &mut reached, scalar, tables, &mut output);
+        let Err(named) = written else {
             continue;
         };
         if mode == 1 {
@@ -1406,7 +1542,28 @@ pub fn encode(encoding: u8, mode: u8, scalars: &[u32], tables: Tables, room: usi
         refusal: if error.is_some() { 11 } else { 0 },
         output,
         index: error.unwrap_or(0),
+        state: reached,
     }
+}
+
+pub fn encode_finish(state: u8, room: usize) -> Encoded {
+    let answer = |refusal, output, state| Encoded {
+        refusal,
+        output,
+        index: 0,
+        state,
+    };
+    if state > 2 {
+        return answer(5, Vec::new(), state);
+    }
+    let mut output = Vec::new();
+    let mut reached = state;
+    let end = CodePoint::EndOfStream;
+    encode_iso_2022_jp(&mut reached, end, NO_TABLES, &mut output).expect("the end is no error");
+    if room < output.len() {
+        return answer(7, Vec::new(), state);
+    }
+    answer(0, output, reached)
 }
 
 /// What an index line answers; the table is filled.

@@ -15,6 +15,7 @@ pub const BIG5: Index = index("big5", 19782);
 pub const JIS0208: Index = index("jis0208", 11280);
 pub const JIS0212: Index = index("jis0212", 8836);
 pub const EUC_KR: Index = index("euc-kr", 23940);
+pub const KATAKANA: Index = index("iso-2022-jp-katakana", 63);
 
 const fn index(name: &str, cells: usize) -> Index<'_> {
     Index { name, cells }

@@ -16,13 +16,13 @@ refusal-requires c κs = search needs
 returns : tie.Need-returns
 returns c =
     let args = start (c .before) .args in
-    tells-refusal _ _ (lent (args .t1 .now) (args .t2 .now)) _ _ _ (c .before .refusal .ensures) (c .if1 .taken)
+    tells-refusal _ _ _ (lent (args .t1 .now) (args .t2 .now)) _ _ _ (c .before .refusal .ensures) (c .if1 .taken)
 
 write-requires : tie.Need-write-requires
 write-requires c κs =
     let at-refusal = c .before .before in
     let args = start at-refusal .args in
-    let k = accepted _ _ (lent (args .t1 .now) (args .t2 .now)) _ (args .room .now) (sym (at-refusal .refusal .ensures) ∙ c .before .if1 .left) in
+    let k = accepted _ _ _ (lent (args .t1 .now) (args .t2 .now)) _ (args .room .now) (sym (at-refusal .refusal .ensures) ∙ c .before .if1 .left) in
     ((k .are-scalars, k .few, k .tabled), k .space)
 
 same-length : tie.Need-same-length
@@ -34,7 +34,7 @@ returns-2 c =
     let at-if1 = at-write .before .before in
     let at-refusal = at-if1 .before in
     let args = start at-refusal .args in
-    tells-written _ _ (lent (args .t1 .now) (args .t2 .now)) _ _ _ (at-refusal .refusal .ensures) (at-if1 .if1 .left) (at-write .write .ensures)
+    tells-written _ _ _ (lent (args .t1 .now) (args .t2 .now)) _ _ _ (at-refusal .refusal .ensures) (at-if1 .if1 .left) (at-write .write .ensures)
 
 pub encode-spec : {M : Type 1} → statement M
 encode-spec = tie.close (tie.spec refusal-requires returns write-requires same-length returns-2)

@@ -1,7 +1,9 @@
 -- `bytes_of`, by the encoding number. Assumes nothing.
 use mathlib.Core.Path.{_∙_}
+use Prim.Native.Nat.{_<_}
+use native.Mathlib.Omega.{arith}
 use borrow.Author.Tests.{le-leb, lt-leb, ne-eqb}
-use Rattle.pair_writers.proofs.Encoders.{of-gb18030, of-big5, of-euc-jp, of-shift-jis, of-euc-kr}
+use Rattle.pair_writers.proofs.Encoders.{of-gb18030, of-big5, of-euc-jp, of-iso-2022-jp, of-shift-jis, of-euc-kr}
 use borrow.Author.Needs.{needs}
 use Rattle.pair_writers.proofs.bytes_of.Statement.{statement}
 use Rattle.pair_writers.proofs.bytes_of.Tie as tie
@@ -28,19 +30,28 @@ bytes-of-requires-4 : tie.Need-bytes-of-requires-4
 bytes-of-requires-4 c κs = search needs
 
 returns-4 : tie.Need-returns-4
-returns-4 c = λ h. c .bytes-of4 .ensures (rw (c .before .if4 .taken) at h) ∙ of-shift-jis _ _ _ _ (c .before .if4 .taken)
+returns-4 c = λ h. c .bytes-of4 .ensures (rw (c .before .if4 .taken) at h) ∙ of-iso-2022-jp _ _ _ _ (c .before .if4 .taken)
 
 bytes-of-requires-5 : tie.Need-bytes-of-requires-5
 bytes-of-requires-5 c κs = search needs
 
 returns-5 : tie.Need-returns-5
-returns-5 c =
-    let e = c .before in
+returns-5 c = λ h. c .bytes-of5 .ensures (rw (c .before .if5 .taken) at h) ∙ of-shift-jis _ _ _ _ (c .before .if5 .taken)
+
+bytes-of-requires-6 : tie.Need-bytes-of-requires-6
+bytes-of-requires-6 c κs = search needs
+
+returns-6 : tie.Need-returns-6
+returns-6 c =
+    let f = c .before in
+    let e = f .before in
     let d = e .before in
     let b = d .before in
-    λ h. c .bytes-of5 .ensures
-    (rw (lt-leb _ _ (b .before .if1 .left), ne-eqb _ _ (b .if2 .left), ne-eqb _ _ (d .if3 .left), ne-eqb _ _ (e .if4 .left)) at h) ∙
-    of-euc-kr _ _ _ _ (b .before .if1 .left) (b .if2 .left) (d .if3 .left) (e .if4 .left)
+    let n = b .before .before .before .before .before .args .encoding in
+    let past : 34 < n = omega (arith, b .before .if1 .left, b .if2 .left, d .if3 .left, e .if4 .left, f .if5 .left) in
+    λ h. c .bytes-of6 .ensures
+    (rw (lt-leb n 30 (omega arith), ne-eqb n 31 (λ z. omega arith), lt-leb n 33 (omega arith), lt-leb n 34 past, ne-eqb n 34 (λ z. omega arith)) at h) ∙
+    of-euc-kr _ _ _ _ past
 
 pub bytes-of-spec : {M : Type 1} → statement M
 bytes-of-spec =
@@ -55,4 +66,6 @@ bytes-of-spec =
     bytes-of-requires-4
     returns-4
     bytes-of-requires-5
-    returns-5)
+    returns-5
+    bytes-of-requires-6
+    returns-6)

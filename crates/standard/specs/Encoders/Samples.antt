@@ -1,16 +1,19 @@
--- Samples of the encoders of Shift_JIS and EUC-JP, and of GBK, gb18030, Big5 and EUC-KR, by document 02. Assumes nothing.
+-- Samples of the encoders of Shift_JIS and EUC-JP, of GBK, gb18030, Big5 and EUC-KR, and of ISO-2022-JP, by document 02.
+-- Assumes nothing.
 use mathlib.Core.Path.{_≡_}
 use mathlib.Core.Bool.{true, false}
 use mathlib.Core.List.{List, [], _∷_, _++_}
+use mathlib.Core.Option.{Option, some}
 use Prim.Native.Nat.{ℕ, _+_, _-_}
 use lib.ListN.{length, replicate}
-use Rattle.standard.specs.Machine.{Result, tokens, error-with}
+use Rattle.standard.specs.Machine.{Result, finished, tokens, error-with, fatal, Ran}
 use Rattle.standard.specs.Search.{searching}
 use Rattle.standard.specs.Encoders.Gb18030.{gb18030Encode}
 use Rattle.standard.specs.Encoders.Big5.{big5Encode}
 use Rattle.standard.specs.Encoders.EucJp.{eucJpEncode}
 use Rattle.standard.specs.Encoders.ShiftJis.{shiftJisEncode}
 use Rattle.standard.specs.Encoders.EucKr.{eucKrEncode}
+use Rattle.standard.specs.Writers.{switching, encoder, standardEncode}
 
 -- n cells: these from pointer p on, and none before and behind them; the 11,280 of jis0208
 abbrev pub table : ℕ → ℕ → List ℕ → List ℕ
@@ -145,3 +148,53 @@ pub record ChineseSamples : Type 0 where
   pub euc-kr-62 : eucKr 62 oneCell 0x4E00 ≡ tokens (0x81 ∷ 0x7F ∷ [])
   pub euc-kr-63 : eucKr 63 oneCell 0x4E00 ≡ tokens (0x81 ∷ 0x80 ∷ [])
   pub euc-kr-none : eucKr 0 oneCell 0xAC00 ≡ error-with 0xAC00
+
+-- ISO-2022-JP's encoder run from a state (0 ASCII, 1 Roman, 2 two-byte) to the end of the stream, with these cells of jis0208 from pointer
+-- p on, and these first cells of the katakana table
+abbrev pub iso : ℕ → List ℕ → List ℕ → ℕ → List ℕ → Option Ran
+iso p cells katakana s cs = standardEncode (encoder (switching (searching (jis0208 p cells)) katakana)) fatal s cs
+
+-- these bytes, and finished; these bytes, and an error that names a code point
+abbrev pub gives : List ℕ → Option Ran
+gives bs = some (record { result = finished; output = bs })
+
+abbrev pub fails : List ℕ → ℕ → Option Ran
+fails bs n = some (record { result = error-with n; output = bs })
+
+pub record IsoSamples : Type 0 where
+  -- 000: "Encoding U+00A5 gives 0x1B 0x28 0x4A 0x5C 0x1B 0x28 0x42"
+  pub yen : iso 0 [] [] 0 (0xA5 ∷ []) ≡ gives (0x1B ∷ 0x28 ∷ 0x4A ∷ 0x5C ∷ 0x1B ∷ 0x28 ∷ 0x42 ∷ [])
+  pub overline : iso 0 [] [] 1 (0x203E ∷ []) ≡ gives (0x7E ∷ 0x1B ∷ 0x28 ∷ 0x42 ∷ [])
+  pub nothing-in-ascii : iso 0 [] [] 0 [] ≡ gives []
+  -- a letter and a line feed stay in Roman; 5C and 7E leave it
+  pub roman-stays : iso 0 [] [] 1 (0x41 ∷ 0x0A ∷ []) ≡ gives (0x41 ∷ 0x0A ∷ 0x1B ∷ 0x28 ∷ 0x42 ∷ [])
+  pub roman-5C : iso 0 [] [] 1 (0x5C ∷ []) ≡ gives (0x1B ∷ 0x28 ∷ 0x42 ∷ 0x5C ∷ [])
+  pub roman-7E : iso 0 [] [] 1 (0x7E ∷ []) ≡ gives (0x1B ∷ 0x28 ∷ 0x42 ∷ 0x7E ∷ [])
+  -- every ASCII scalar leaves the two-byte state; U+00A5 leads to Roman from there
+  pub two-byte-letter : iso 0 [] [] 2 (0x0A ∷ []) ≡ gives (0x1B ∷ 0x28 ∷ 0x42 ∷ 0x0A ∷ [])
+  pub two-byte-yen : iso 0 [] [] 2 (0xA5 ∷ 0x41 ∷ []) ≡ gives (0x1B ∷ 0x28 ∷ 0x4A ∷ 0x5C ∷ 0x41 ∷ 0x1B ∷ 0x28 ∷ 0x42 ∷ [])
+  -- pairs, up to pointer 8,835; the first of several cells
+  pub pair : iso 0 oneCell [] 1 (0x4E00 ∷ 0x4E00 ∷ []) ≡
+      gives (0x1B ∷ 0x24 ∷ 0x42 ∷ 0x21 ∷ 0x21 ∷ 0x21 ∷ 0x21 ∷ 0x1B ∷ 0x28 ∷ 0x42 ∷ [])
+  pub pair-8835 : iso 8835 oneCell [] 2 (0x4E00 ∷ []) ≡ gives (0x7E ∷ 0x7E ∷ 0x1B ∷ 0x28 ∷ 0x42 ∷ [])
+  pub pair-8836 : iso 8836 oneCell [] 0 (0x4E00 ∷ []) ≡ fails [] 0x4E00
+  pub first-of-two : iso 2 (0x4E00 ∷ 0x4E00 ∷ []) [] 2 (0x4E00 ∷ []) ≡ gives (0x21 ∷ 0x23 ∷ 0x1B ∷ 0x28 ∷ 0x42 ∷ [])
+  -- 0E, 0F, 1B are errors that name U+FFFD; an error in the two-byte state first returns to ASCII, in Roman it stays
+  pub control-ascii : iso 0 [] [] 0 (0x1B ∷ []) ≡ fails [] 0xFFFD
+  pub control-roman : iso 0 [] [] 1 (0x0E ∷ []) ≡ fails [] 0xFFFD
+  pub control-two-byte : iso 0 [] [] 2 (0x0F ∷ []) ≡ fails (0x1B ∷ 0x28 ∷ 0x42 ∷ []) 0xFFFD
+  pub unwritable-roman : iso 0 [] [] 1 (0x4E00 ∷ []) ≡ fails [] 0x4E00
+  pub unwritable-two-byte : iso 0 [] [] 2 (0x4E00 ∷ []) ≡ fails (0x1B ∷ 0x28 ∷ 0x42 ∷ []) 0x4E00
+  -- U+2212 is looked up and named as U+FF0D
+  pub minus : iso 0 (0x2212 ∷ 0xFF0D ∷ []) [] 2 (0x2212 ∷ []) ≡ gives (0x21 ∷ 0x22 ∷ 0x1B ∷ 0x28 ∷ 0x42 ∷ [])
+  pub minus-named : iso 0 (0x2212 ∷ []) [] 0 (0x2212 ∷ []) ≡ fails [] 0xFF0D
+  -- a katakana of half width by its cell, and named as it; an unmapped cell names the scalar
+  pub katakana : iso 0 oneCell (0x4E00 ∷ []) 0 (0xFF61 ∷ []) ≡ gives (0x1B ∷ 0x24 ∷ 0x42 ∷ 0x21 ∷ 0x21 ∷ 0x1B ∷ 0x28 ∷ 0x42 ∷ [])
+  pub katakana-named : iso 0 [] (0x4E00 ∷ []) 0 (0xFF61 ∷ []) ≡ fails [] 0x4E00
+  pub katakana-unmapped : iso 0 (0xFF62 ∷ []) (0x4E00 ∷ []) 0 (0xFF62 ∷ []) ≡ fails [] 0xFF62
+  -- the cell is not treated again, whatever it is
+  pub cell-2212 : iso 0 (0x2212 ∷ 0xFF0D ∷ []) (0x2212 ∷ []) 0 (0xFF61 ∷ []) ≡
+      gives (0x1B ∷ 0x24 ∷ 0x42 ∷ 0x21 ∷ 0x21 ∷ 0x1B ∷ 0x28 ∷ 0x42 ∷ [])
+  pub cell-A5 : iso 0 (0xA5 ∷ []) (0xA5 ∷ []) 0 (0xFF61 ∷ []) ≡ gives (0x1B ∷ 0x24 ∷ 0x42 ∷ 0x21 ∷ 0x21 ∷ 0x1B ∷ 0x28 ∷ 0x42 ∷ [])
+  pub cell-FF62 : iso 0 (0xFF62 ∷ 0x4E00 ∷ []) (0xFF62 ∷ 0x4E00 ∷ []) 0 (0xFF61 ∷ []) ≡
+      gives (0x1B ∷ 0x24 ∷ 0x42 ∷ 0x21 ∷ 0x21 ∷ 0x1B ∷ 0x28 ∷ 0x42 ∷ [])

@@ -8,7 +8,7 @@ use lib.ListN.{length, getD}
 use borrow.Author.Needs.{needs}
 use Rattle.standard.specs.Machine.{reference}
 use Rattle.encoder.specs.WriterCode.{encoderOf, oneOf}
-use Rattle.encoder.proofs.Counting.{Counted, counted-start, counted-stop, counted-end, counted-on, here-bytes, here-reference, here-stop}
+use Rattle.encoder.proofs.Counting.{Counted, counted-start, counted-here, counted-end, counted-on, here-bytes, here-reference, here-stop}
 use Rattle.encoder.proofs.Counting.{told-byte, told-none, scalar-at}
 use Rattle.encoder.proofs.one_byte.count_by.Statement.{statement}
 use Rattle.encoder.proofs.one_byte.count_by.Tie as tie
@@ -59,7 +59,7 @@ returns : tie.Need-returns Inv-loop μ-loop
 returns c =
     let t = turn (c .before .before) in
     let none = told-none (encoderOf _ _) _ _ (c .before .before .byte-of .ensures) (c .before .if1 .left) in
-    counted-stop _ _ _ _ _ _ _ (t .before .loop .inv) (here-stop _ _ _ _ _ (t .loop-test .taken) none (c .if2 .taken))
+    counted-here _ _ _ _ _ _ _ (t .before .loop .inv) (here-stop _ _ _ _ _ (t .loop-test .taken) none (c .if2 .taken))
 
 size-requires : tie.Need-size-requires Inv-loop μ-loop
 size-requires c κs = search needs

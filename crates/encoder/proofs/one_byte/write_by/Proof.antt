@@ -8,7 +8,7 @@ use lib.ListN.{length, getD}
 use borrow.Author.Needs.{needs}
 use Rattle.standard.specs.Machine.{reference}
 use Rattle.encoder.specs.WriterCode.{encoderOf, oneOf}
-use Rattle.encoder.proofs.Counting.{Here, Running, running-start, running-end, running-stop, running-room, running-on}
+use Rattle.encoder.proofs.Counting.{Here, Running, running-start, running-end, running-here, running-room, running-on}
 use Rattle.encoder.proofs.Counting.{here-bytes, here-reference, here-stop, told-byte, told-none}
 use Rattle.encoder.proofs.one_byte.write_by.Statement.{statement}
 use Rattle.encoder.proofs.one_byte.write_by.Tie as tie
@@ -88,7 +88,7 @@ returns : tie.Need-returns Inv-loop μ-loop
 returns c =
     let t = turn (c .before .before) in
     let none = told-none (encoderOf _ _) _ _ (c .before .before .byte-of .ensures) (c .before .if1 .left) in
-    running-stop _ _ _ _ _ _ _ _ _ (t .before .loop .inv) (here-stop _ _ _ _ _ (t .loop-test .taken) none (c .if2 .taken))
+    running-here _ _ _ _ _ _ _ _ _ (t .before .loop .inv) (here-stop _ _ _ _ _ (t .loop-test .taken) none (c .if2 .taken))
 
 put-requires : tie.Need-put-requires Inv-loop μ-loop
 put-requires c κs =

@@ -1,115 +1,205 @@
--- `pairs::write_by`. The loop's invariant: the bytes of the i scalars before this one stand at the front of the room, the rest of the room is as it was.
--- What falls at each turn is the number of scalars left. Assumes nothing.
-use mathlib.Core.List.{List}
-use Prim.Native.Nat.{ℕ, _-_}
-use lib.ListN.{length}
-use Rattle.pair_writers.specs.Pairs.{bytesOf}
+-- `pairs::write_by`. The loop's invariant: the bytes of the i scalars before this one stand at the front of the room, the rest of the room is
+-- as it was, and s is the state after them. What falls at each turn is the number of scalars left. Assumes nothing.
+use mathlib.Core.Path.{refl}
+use mathlib.Core.List.{List, [], _∷_, _++_}
+use Prim.Native.Nat.{ℕ, _+_, _-_, _≤_}
+use lib.ListN.{length, getD}
 use Rattle.standard.specs.Machine.{reference}
+use Rattle.standard.specs.Ones.{shiftTo}
+use Rattle.pair_writers.specs.Pairs.{bytesOf, pairEncode}
 use Rattle.encoder.specs.WriterCode.{pairOf}
-use Rattle.encoder.proofs.Counting.{Here, Running, running-start, running-end, running-stop, running-room, running-on, here-bytes, here-reference, here-stop}
-use Rattle.encoder.proofs.Ones.{pair-bytes, pair-named}
+use Rattle.encoder.proofs.Counting.{Here, Running, running-start, running-end, running-front, running-stop, running-room, running-on, running-room-both, running-both}
+use Rattle.encoder.proofs.Counting.{here-bytes, here-reference, here-stop, here-least}
+use Rattle.encoder.proofs.Ones.{pair-answered, pair-bytes, pair-named, plain-byte}
+use native.Mathlib.Omega.{arith}
 use borrow.Author.Needs.{needs}
 use Rattle.encoder.proofs.pairs.write_by.Statement.{statement}
 use Rattle.encoder.proofs.pairs.write_by.Tie as tie
 
 abbrev Inv-loop : tie.InvT-loop
-Inv-loop encoding mode scalars table second slots room₀ o₀ i₀ room o i =
-    Running (pairOf encoding table second) mode 0 scalars room₀ room i o 0
+Inv-loop encoding mode state scalars table second slots room₀ s₀ o₀ i₀ room s o i =
+    Running (pairOf encoding table second) mode state scalars room₀ room i o s
 
 abbrev μ-loop : tie.MeasureT-loop
-μ-loop encoding mode scalars table second slots room₀ o₀ i₀ room o i = length scalars - i
+μ-loop encoding mode state scalars table second slots room₀ s₀ o₀ i₀ room s o i = length scalars - i
 
 -- the turn that a scalar's bytes are asked in, and the function's start
 abbrev turn : tie.After-one-of Inv-loop μ-loop → tie.In-loop Inv-loop μ-loop
-turn c = c .before .before
+turn c = c .before .before .before .before
 
 abbrev start : tie.In-loop Inv-loop μ-loop → tie.Start Inv-loop μ-loop
 start c = c .before .before .before .before .before .before .before
 
--- what is written of the scalar: its bytes, or a reference
-abbrev bytes : tie.Then1 Inv-loop μ-loop → List ℕ
-bytes c = bytesOf (c .before .before .one-of .result)
+-- the way to the next state, the place where it is written, and what is written of the scalar behind it: its bytes, or a reference
+abbrev way : tie.After-state-for Inv-loop μ-loop → List ℕ
+way c = shiftTo (turn (c .before) .before .loop .s) (c .state-for .result)
 
-abbrev refers : tie.Else2 Inv-loop μ-loop → List ℕ
-refers c = reference (c .before .before .before .one-of .result .named)
+abbrev shifted : tie.After-struct-known Inv-loop μ-loop → tie.After-put Inv-loop μ-loop
+shifted c = c .before .before .before
 
-abbrev Writes : tie.In-loop Inv-loop μ-loop → List ℕ → Type 0
-Writes t us =
+abbrev after : tie.After-put Inv-loop μ-loop → tie.After-state-for Inv-loop μ-loop
+after c = c .before .before
+
+abbrev bytes : tie.Then2 Inv-loop μ-loop → List ℕ
+bytes c = bytesOf (after (shifted (c .before)) .before .one-of .result)
+
+abbrev refers : tie.Else3 Inv-loop μ-loop → List ℕ
+refers c = reference (after (shifted (c .before .before)) .before .one-of .result .named)
+
+abbrev Writes : tie.After-state-for Inv-loop μ-loop → List ℕ → Type 0
+Writes c us =
+    let t = turn (c .before) in
     let a = start t .args in
-    Here (pairOf (a .encoding) (a .table .now) (a .second .now)) (a .mode) (a .scalars .now) 0 (t .before .loop .i) 0 us
+    Here (pairOf (a .encoding) (a .table .now) (a .second .now)) (a .mode) (a .scalars .now)
+    (t .before .loop .s) (t .before .loop .i) (c .state-for .result) (way c ++ us)
 
-bytes-here : (c : tie.Then1 Inv-loop μ-loop) → Writes (turn (c .before .before)) (bytes c)
+bytes-here : (c : tie.Then2 Inv-loop μ-loop) → Writes (after (shifted (c .before))) (bytes c)
 bytes-here c =
-    let o = c .before .before in
-    let t = turn o in
-    here-bytes _ _ _ _ _ (t .loop-test .taken) (pair-bytes (o .one-of .result) _ _ _ _ (o .one-of .ensures) (c .if1 .taken))
+    let to = after (shifted (c .before)) in
+    let o = to .before in
+    let wrote = pair-bytes (o .one-of .result) _ _ _ _ _ (o .one-of .ensures) _ (to .state-for .ensures) (c .if2 .taken) in
+    here-bytes _ _ _ _ _ (turn o .loop-test .taken) wrote
 
-reference-here : (c : tie.Else2 Inv-loop μ-loop) → Writes (turn (c .before .before .before)) (refers c)
+reference-here : (c : tie.Else3 Inv-loop μ-loop) → Writes (after (shifted (c .before .before))) (refers c)
 reference-here c =
-    let o = c .before .before .before in
-    let t = turn o in
-    let named = pair-named (o .one-of .result) _ _ _ _ (o .one-of .ensures) (c .before .if1 .left) in
-    here-reference _ _ _ _ _ (t .loop-test .taken) named (c .if2 .left)
+    let to = after (shifted (c .before .before)) in
+    let o = to .before in
+    let named = pair-named (o .one-of .result) _ _ _ _ _ (o .one-of .ensures) _ (to .state-for .ensures) (c .before .if2 .left) in
+    here-reference _ _ _ _ _ (turn o .loop-test .taken) named (c .if3 .left)
 
 loop-holds : tie.Need-loop-holds Inv-loop μ-loop
 loop-holds c = running-start _ _ _ _ _
 
-mul-one-of : tie.Need-mul-one-of Inv-loop μ-loop
-mul-one-of c = search needs
+mul-c : tie.Need-mul-c Inv-loop μ-loop
+mul-c c = search needs
 
-shared-slice-read-one-of : tie.Need-shared-slice-read-one-of Inv-loop μ-loop
-shared-slice-read-one-of c = search needs
+shared-slice-read-c : tie.Need-shared-slice-read-c Inv-loop μ-loop
+shared-slice-read-c c = search needs
 
-one-of-requires : tie.Need-one-of-requires Inv-loop μ-loop
-one-of-requires c κs = start (c .before) .pre .0
+plain-requires : tie.Need-plain-requires Inv-loop μ-loop
+plain-requires c κs = search needs
 
-put-requires : tie.Need-put-requires Inv-loop μ-loop
-put-requires c κs =
-    let t = turn (c .before .before .before) in
-    running-room _ _ _ _ _ _ _ _ _ (t .before .loop .inv) 0 (bytes (c .before)) (bytes-here (c .before)) (start t .pre .1)
+-- ASCII that leaves the state as it is: the turn, and its byte
+abbrev plain-turn : tie.Then1 Inv-loop μ-loop → tie.In-loop Inv-loop μ-loop
+plain-turn c = c .before .before .before
+
+abbrev byte : tie.Then1 Inv-loop μ-loop → List ℕ
+byte c = let t = plain-turn c in getD (start t .args .scalars .now) (t .before .loop .i) 0 ∷ []
+
+byte-here : (c : tie.Then1 Inv-loop μ-loop) →
+    let t = plain-turn c in
+    let a = start t .args in
+    Here (pairOf (a .encoding) (a .table .now) (a .second .now)) (a .mode) (a .scalars .now)
+    (t .before .loop .s) (t .before .loop .i) (t .before .loop .s) (byte c)
+byte-here c = here-bytes _ _ _ _ _ (plain-turn c .loop-test .taken) (plain-byte _ _ _ _ _ (c .before .plain .ensures (c .if1 .taken)))
+
+byte-room : (c : tie.Then1 Inv-loop μ-loop) → let l = plain-turn c .before .loop in l .o + length (byte c) ≤ length (l .room)
+byte-room c =
+    let t = plain-turn c in
+    running-room _ _ _ _ _ _ _ _ _ (t .before .loop .inv) _ (byte c) (byte-here c) (start t .pre .1)
+
+cast-room : tie.Need-cast-room Inv-loop μ-loop
+cast-room c = omega (arith, c .before .plain .ensures (c .if1 .taken) .is-ascii)
+
+slice-write-room : tie.Need-slice-write-room Inv-loop μ-loop
+slice-write-room c = omega (arith, byte-room c)
+
+add-o : tie.Need-add-o Inv-loop μ-loop
+add-o c = record { fits = omega (arith, byte-room c) }
 
 add-i : tie.Need-add-i Inv-loop μ-loop
-add-i c = search needs
+add-i c = record { fits = omega (arith, plain-turn c .loop-test .taken) }
 
 loop-less : tie.Need-loop-less Inv-loop μ-loop
 loop-less c = search needs
 
 loop-again : tie.Need-loop-again Inv-loop μ-loop
 loop-again c =
-    let at-put = c .before .before in
-    let w = at-put .before .before in
-    let t = turn (w .before .before) in
-    running-on _ _ _ _ _ _ _ _ _ (t .before .loop .inv) 0 (bytes w) (bytes-here w) (start t .pre .1) _ _
-    (at-put .put .ensures .0) (at-put .put .ensures .1)
+    let t = plain-turn c in
+    running-on _ _ _ _ _ _ _ _ _ (t .before .loop .inv) _ (byte c) (byte-here c) (start t .pre .1) _ _ refl refl
 
-same-length : tie.Need-same-length Inv-loop μ-loop
-same-length c = search needs
+one-of-requires : tie.Need-one-of-requires Inv-loop μ-loop
+one-of-requires c κs = start (c .before .before .before) .pre .0
 
-returns : tie.Need-returns Inv-loop μ-loop
-returns c =
-    let o = c .before .before .before in
+state-for-requires : tie.Need-state-for-requires Inv-loop μ-loop
+state-for-requires c κs = search needs
+
+-- the way has room, whatever comes behind it
+way-room : (c : tie.After-state-for Inv-loop μ-loop) → let l = turn (c .before) .before .loop in l .o + length (way c) ≤ length (l .room)
+way-room c =
+    let o = c .before in
     let t = turn o in
-    let named = pair-named (o .one-of .result) _ _ _ _ (o .one-of .ensures) (c .before .if1 .left) in
-    running-stop _ _ _ _ _ _ _ _ _ (t .before .loop .inv) (here-stop _ _ _ _ _ (t .loop-test .taken) named (c .if2 .taken))
+    let a = start t .args in
+    let result = pairEncode (a .encoding) (a .table .now) (a .second .now) (getD (a .scalars .now) (t .before .loop .i) 0) in
+    let answer = pair-answered (o .one-of .result) _ _ _ _ _ (o .one-of .ensures) _ (c .state-for .ensures) in
+    running-front _ _ _ _ _ _ _ _ _ (t .before .loop .inv) (way c)
+    (here-least _ _ _ _ _ (t .loop-test .taken) (way c) (c .state-for .result) result answer) (start t .pre .1)
+
+put-requires : tie.Need-put-requires Inv-loop μ-loop
+put-requires c κs = way-room (c .before)
 
 put-requires-2 : tie.Need-put-requires-2 Inv-loop μ-loop
 put-requires-2 c κs =
-    let t = turn (c .before .before .before .before) in
-    running-room _ _ _ _ _ _ _ _ _ (t .before .loop .inv) 0 (refers (c .before)) (reference-here (c .before)) (start t .pre .1)
+    let w = c .before in
+    let at-put = shifted (w .before) in
+    let t = turn (after at-put .before) in
+    running-room-both _ _ _ _ _ _ _ _ _ (t .before .loop .inv) _ (way (after at-put)) (bytes w) (bytes-here w) (start t .pre .1) _ _
+    (at-put .put .ensures .0) (at-put .put .ensures .1)
 
 add-i-2 : tie.Need-add-i-2 Inv-loop μ-loop
-add-i-2 c = search needs
+add-i-2 c =
+    let t = turn (after (shifted (c .before .before .before .before .before)) .before) in
+    record { fits = omega (arith, t .loop-test .taken) }
 
 loop-less-2 : tie.Need-loop-less-2 Inv-loop μ-loop
 loop-less-2 c = search needs
 
 loop-again-2 : tie.Need-loop-again-2 Inv-loop μ-loop
 loop-again-2 c =
-    let at-put = c .before .before in
-    let e = at-put .before .before in
-    let t = turn (e .before .before .before) in
-    running-on _ _ _ _ _ _ _ _ _ (t .before .loop .inv) 0 (refers e) (reference-here e) (start t .pre .1) _ _
-    (at-put .put2 .ensures .0) (at-put .put2 .ensures .1)
+    let second = c .before .before in
+    let w = second .before .before in
+    let at-put = shifted (w .before) in
+    let t = turn (after at-put .before) in
+    running-both _ _ _ _ _ _ _ _ _ (t .before .loop .inv) _ (way (after at-put)) (bytes w) (bytes-here w) (start t .pre .1) _ _
+    (at-put .put .ensures .0) (at-put .put .ensures .1) _ _ (second .put2 .ensures .0) (second .put2 .ensures .1)
+
+same-length : tie.Need-same-length Inv-loop μ-loop
+same-length c = search needs
+
+returns : tie.Need-returns Inv-loop μ-loop
+returns c =
+    let at-put = shifted (c .before .before) in
+    let to = after at-put in
+    let o = to .before in
+    let t = turn o in
+    let named = pair-named (o .one-of .result) _ _ _ _ _ (o .one-of .ensures) _ (to .state-for .ensures) (c .before .if2 .left) in
+    running-stop _ _ _ _ _ _ _ _ _ (t .before .loop .inv) (here-stop _ _ _ _ _ (t .loop-test .taken) named (c .if3 .taken)) (way-room to)
+    _ _ (at-put .put .ensures .0) (at-put .put .ensures .1)
+
+put-requires-3 : tie.Need-put-requires-3 Inv-loop μ-loop
+put-requires-3 c κs =
+    let e = c .before in
+    let at-put = shifted (e .before .before) in
+    let t = turn (after at-put .before) in
+    running-room-both _ _ _ _ _ _ _ _ _ (t .before .loop .inv) _ (way (after at-put)) (refers e) (reference-here e) (start t .pre .1) _ _
+    (at-put .put .ensures .0) (at-put .put .ensures .1)
+
+add-i-3 : tie.Need-add-i-3 Inv-loop μ-loop
+add-i-3 c =
+    let t = turn (after (shifted (c .before .before .before .before .before .before)) .before) in
+    record { fits = omega (arith, t .loop-test .taken) }
+
+loop-less-3 : tie.Need-loop-less-3 Inv-loop μ-loop
+loop-less-3 c = search needs
+
+loop-again-3 : tie.Need-loop-again-3 Inv-loop μ-loop
+loop-again-3 c =
+    let second = c .before .before in
+    let e = second .before .before in
+    let at-put = shifted (e .before .before) in
+    let t = turn (after at-put .before) in
+    running-both _ _ _ _ _ _ _ _ _ (t .before .loop .inv) _ (way (after at-put)) (refers e) (reference-here e) (start t .pre .1) _ _
+    (at-put .put .ensures .0) (at-put .put .ensures .1) _ _ (second .put3 .ensures .0) (second .put3 .ensures .1)
 
 same-length-2 : tie.Need-same-length-2 Inv-loop μ-loop
 same-length-2 c = search needs
@@ -124,18 +214,27 @@ write-by-spec =
     Inv-loop
     μ-loop
     loop-holds
-    mul-one-of
-    shared-slice-read-one-of
-    one-of-requires
-    put-requires
+    mul-c
+    shared-slice-read-c
+    plain-requires
+    cast-room
+    slice-write-room
+    add-o
     add-i
     loop-less
     loop-again
-    same-length
-    returns
+    one-of-requires
+    state-for-requires
+    put-requires
     put-requires-2
     add-i-2
     loop-less-2
     loop-again-2
+    same-length
+    returns
+    put-requires-3
+    add-i-3
+    loop-less-3
+    loop-again-3
     same-length-2
     returns-2)

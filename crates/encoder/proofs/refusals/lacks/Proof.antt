@@ -24,7 +24,7 @@ returns c =
     let at-pre = c .before .before .before .before .before .pre in
     let at-most = c .before .most in
     let at-if1 = c .if1 in
-    room-for-most (args .encoding) (args .mode) (lent (args .t1 .now) (args .t2 .now)) (args .scalars .now)
+    room-for-most (args .encoding) (args .mode) (args .state) (lent (args .t1 .now) (args .t2 .now)) (args .scalars .now)
     (args .room) (at-pre .0) (at-most .result) (at-most .ensures .0) (at-if1 .taken)
 
 count-requires : tie.Need-count-requires

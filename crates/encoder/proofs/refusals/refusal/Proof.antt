@@ -3,51 +3,60 @@ use mathlib.Core.Path.{_≡_, sym, _∙_}
 use mathlib.Core.Bool.{true}
 use borrow.Author.Needs.{needs}
 use borrow.Author.Tests.{not-true, not-false}
+use Rattle.standard.specs.Encodings.{lent}
 use Rattle.encoder.specs.WriterCode.{writes}
-use Rattle.encoder.proofs.Calls.{refused-2, refused-3, refused-9, refused-4, refused-text, table-fits}
+use Rattle.encoder.proofs.Calls.{refused-2, refused-3, refused-5, refused-9, refused-4, refused-text, table-fits}
 use Rattle.encoder.proofs.refusals.refusal.Statement.{statement}
 use Rattle.encoder.proofs.refusals.refusal.Tie as tie
 
+-- the function's start, and that there is a writer
+abbrev start : tie.Else3 → tie.Start
+start c = c .before .before .before .before .before .before
+
+writer : (c : tie.Else4) → writes (start (c .before .before) .args .encoding) ≡ true
+writer c = sym (c .before .writes .ensures) ∙ not-false _ (c .if4 .left)
+
 returns : tie.Need-returns
-returns c = refused-2 _ _ _ _ _ (c .if1 .taken)
+returns c = refused-2 _ _ _ _ _ _ (c .if1 .taken)
 
 returns-2 : tie.Need-returns-2
-returns-2 c = refused-3 _ _ _ _ _ (c .before .if1 .left) (c .if2 .taken)
+returns-2 c = refused-3 _ _ _ _ _ _ (c .before .if1 .left) (c .if2 .taken)
+
+returns-3 : tie.Need-returns-3
+returns-3 c = refused-5 _ _ _ _ _ _ (c .before .before .if1 .left) (c .before .if2 .left) (c .if3 .taken)
 
 writes-requires : tie.Need-writes-requires
 writes-requires c κs = search needs
 
-returns-3 : tie.Need-returns-3
-returns-3 c =
-    let at-mode = c .before .before in
-    refused-9 _ _ _ _ _ (at-mode .before .if1 .left) (at-mode .if2 .left) (sym (c .before .writes .ensures) ∙ not-true _ (c .if3 .taken))
+returns-4 : tie.Need-returns-4
+returns-4 c =
+    let s = c .before .before in
+    refused-9 _ _ _ _ _ _ (s .before .before .if1 .left) (s .before .if2 .left) (s .if3 .left)
+    (sym (c .before .writes .ensures) ∙ not-true _ (c .if4 .taken))
 
 tables-fit-requires : tie.Need-tables-fit-requires
 tables-fit-requires c κs = search needs
 
--- the function's start, and that there is a writer
-abbrev start : tie.Else2 → tie.Start
-start c = c .before .before .before .before .before
-
-writer : (c : tie.Else3) → writes (start (c .before .before) .args .encoding) ≡ true
-writer c = sym (c .before .writes .ensures) ∙ not-false _ (c .if3 .left)
-
-returns-4 : tie.Need-returns-4
-returns-4 c =
-    let e = c .before .before in
-    let at-mode = e .before .before in
-    refused-4 _ _ _ _ _ (at-mode .before .if1 .left) (at-mode .if2 .left) (writer e) (sym (c .before .tables-fit .ensures) ∙ not-true _ (c .if4 .taken))
-
-text-refusal-requires : tie.Need-text-refusal-requires
-text-refusal-requires c κs = table-fits _ _ (writer (c .before .before)) (sym (c .before .tables-fit .ensures) ∙ not-false _ (c .if4 .left))
-
 returns-5 : tie.Need-returns-5
 returns-5 c =
+    let e = c .before .before in
+    let s = e .before .before in
+    refused-4 _ _ _ _ _ _ (s .before .before .if1 .left) (s .before .if2 .left) (s .if3 .left) (writer e)
+    (sym (c .before .tables-fit .ensures) ∙ not-true _ (c .if5 .taken))
+
+text-refusal-requires : tie.Need-text-refusal-requires
+text-refusal-requires c κs =
+    let args = start (c .before .before .before .before) .args in
+    table-fits _ (lent (args .t1 .now) (args .t2 .now)) (writer (c .before .before)) (sym (c .before .tables-fit .ensures) ∙ not-false _ (c .if5 .left))
+
+returns-6 : tie.Need-returns-6
+returns-6 c =
     let at-fit = c .before .before in
     let e = at-fit .before in
-    let at-mode = e .before .before in
+    let s = e .before .before in
     c .text-refusal .ensures ∙
-    refused-text _ _ _ _ _ (at-mode .before .if1 .left) (at-mode .if2 .left) (writer e) (sym (at-fit .tables-fit .ensures) ∙ not-false _ (c .before .if4 .left))
+    refused-text _ _ _ _ _ _ (s .before .before .if1 .left) (s .before .if2 .left) (s .if3 .left) (writer e)
+    (sym (at-fit .tables-fit .ensures) ∙ not-false _ (c .before .if5 .left))
 
 pub refusal-spec : {M : Type 1} → statement M
 refusal-spec =
@@ -55,9 +64,10 @@ refusal-spec =
     (tie.spec
     returns
     returns-2
-    writes-requires
     returns-3
-    tables-fit-requires
+    writes-requires
     returns-4
+    tables-fit-requires
+    returns-5
     text-refusal-requires
-    returns-5)
+    returns-6)

@@ -12,13 +12,13 @@ use Rattle.encoder.proofs.refusals.text_refusal.Statement.{statement}
 use Rattle.encoder.proofs.refusals.text_refusal.Tie as tie
 
 returns : tie.Need-returns
-returns c = refused-8 _ _ _ _ _ (c .if1 .taken)
+returns c = refused-8 _ _ _ _ _ _ (c .if1 .taken)
 
 all-scalars-requires : tie.Need-all-scalars-requires
 all-scalars-requires c κs = c .if1 .left
 
 returns-2 : tie.Need-returns-2
-returns-2 c = refused-10 _ _ _ _ _ (c .before .before .if1 .left) (sym (c .before .all-scalars .ensures) ∙ not-true _ (c .if2 .taken))
+returns-2 c = refused-10 _ _ _ _ _ _ (c .before .before .if1 .left) (sym (c .before .all-scalars .ensures) ∙ not-true _ (c .if2 .taken))
 
 -- they are scalars
 are-scalars : (c : tie.Else2) → scalars (c .before .before .before .before .before .before .args .scalars .now) ≡ true
@@ -32,8 +32,8 @@ lacks-requires c κs =
 -- 7 or 0, by the test of the room
 by-room : (c : tie.After-lacks) → let s = c .before .before .before .before .before .before .before in
     (c .lacks .result then 7 else 0) ≡
-    textRefusal (s .args .encoding) (s .args .mode) (lent (s .args .t1 .now) (s .args .t2 .now)) (s .args .scalars .now) (s .args .room)
-by-room c = refused-7 _ _ _ _ _ (c .before .before .before .if1 .left) (are-scalars (c .before)) (c .lacks .result) (c .lacks .ensures)
+    textRefusal (s .args .encoding) (s .args .mode) (s .args .state) (lent (s .args .t1 .now) (s .args .t2 .now)) (s .args .scalars .now) (s .args .room)
+by-room c = refused-7 _ _ _ _ _ _ (c .before .before .before .if1 .left) (are-scalars (c .before)) (c .lacks .result) (c .lacks .ensures)
 
 returns-3 : tie.Need-returns-3
 returns-3 c = sym (rw (c .if3 .taken)) ∙ by-room (c .before)

@@ -21,7 +21,7 @@ count-requires : tie.Need-count-requires
 count-requires c κs = c .before .before .before .before .pre .1
 
 returns : tie.Need-returns
-returns c = c .count .ensures ∙ ap (λ (w : Writing). length (w .bytes)) (utf8-writing _ _ _ _ (c .before .if1 .taken))
+returns c = c .count .ensures ∙ ap (λ (w : Writing). length (w .bytes)) (utf8-writing _ _ (c .before .before .before .before .before .args .state) _ _ (c .before .if1 .taken))
 
 pairs-requires : tie.Need-pairs-requires
 pairs-requires c κs = search needs
@@ -36,7 +36,7 @@ returns-2 c =
     let t = c .before in
     let s = start (t .before .before) in
     let p : pairs (s .args .encoding) ≡ true = sym (t .before .pairs .ensures) ∙ t .if2 .taken in
-    c .count2 .ensures ∙ ap (λ (w : Writing). length (w .bytes)) (pairs-writing _ _ (tables s) _ p)
+    c .count2 .ensures ∙ ap (λ (w : Writing). length (w .bytes)) (pairs-writing _ _ _ (tables s) _ p)
 
 count-requires-3 : tie.Need-count-requires-3
 count-requires-3 c κs =
@@ -50,7 +50,7 @@ returns-3 c =
     let t = c .before in
     let s = start (t .before .before) in
     let p : pairs (s .args .encoding) ≡ false = sym (t .before .pairs .ensures) ∙ t .if2 .left in
-    c .count3 .ensures ∙ ap (λ (w : Writing). length (w .bytes)) (bytes-writing _ _ (tables s) _ p)
+    c .count3 .ensures ∙ ap (λ (w : Writing). length (w .bytes)) (bytes-writing _ _ (s .args .state) (tables s) _ p)
 
 pub count-spec : {M : Type 1} → statement M
 count-spec =

@@ -1,0 +1,14 @@
+-- `front`, by its test. Assumes nothing.
+use borrow.Author.Tests.{eq-eqb, ne-eqb}
+use native.Mathlib.Omega.{arith}
+use Rattle.encoder.proofs.writers.front.Statement.{statement}
+use Rattle.encoder.proofs.writers.front.Tie as tie
+
+returns : tie.Need-returns
+returns c = (rw (eq-eqb _ _ (c .if1 .taken)), omega arith)
+
+returns-2 : tie.Need-returns-2
+returns-2 c = (rw (ne-eqb _ _ (c .if1 .left)), omega arith)
+
+pub front-spec : {M : Type 1} → statement M
+front-spec = tie.close (tie.spec returns returns-2)
