@@ -44,14 +44,14 @@ extern "C" {
 
 /* ---- Version --------------------------------------------------------------------------------------------------- */
 
-#define HAMVUKILE_VERSION "0.8.0"
+#define HAMVUKILE_VERSION "0.9.0"
 #define HAMVUKILE_VERSION_MAJOR 0
-#define HAMVUKILE_VERSION_MINOR 8
+#define HAMVUKILE_VERSION_MINOR 9
 #define HAMVUKILE_VERSION_PATCH 0
 
 /* The version as one number: 10,000 times major, 100 times minor, and patch. Records and calls of another version may
  * differ, so a program that finds another number than this in the library has been linked with the wrong one. */
-#define HAMVUKILE_VERSION_NUMBER 800
+#define HAMVUKILE_VERSION_NUMBER 900
 
 /* The version of the library. */
 uint32_t hamvukile_version(void);
@@ -76,6 +76,7 @@ enum {
     HAMVUKILE_BAD_LINE = 12,          /* the line is no line of an index file */
     HAMVUKILE_TAKEN_CELL = 13,        /* the line's pointer is not below the table's length, or its cell is not 0 */
     HAMVUKILE_TOO_MUCH = 14,          /* with this chunk the decoder would have taken more than HAMVUKILE_MAX_TAKEN bytes */
+    HAMVUKILE_WRONG_INDEX = 15,       /* a lent reverse index has not the length that the table asks for */
     HAMVUKILE_BAD_OPTION_LINE = 16,   /* a line of a list has no tab, or several */
     HAMVUKILE_UNKNOWN_OPTION = 17,    /* the name of a line of a list is empty, or none of the known names */
     HAMVUKILE_REPEATED_OPTION = 18    /* an earlier line of the list has the same name */
@@ -208,10 +209,11 @@ enum {
     HAMVUKILE_EUC_KR_CELLS = 23940
 };
 
-/* What `hamvukile_index_line` answers. */
+/* What `hamvukile_index_line` answers, and `hamvukile_index_line_indexed`. */
 typedef struct {
     uint32_t pointer; /* the pointer of the entry; 0 where there is none */
-    uint8_t refusal;  /* 0, HAMVUKILE_TOO_LONG, HAMVUKILE_BAD_LINE or HAMVUKILE_TAKEN_CELL, in this order */
+    uint8_t refusal;  /* 0, with an index HAMVUKILE_WRONG_INDEX, HAMVUKILE_TOO_LONG, HAMVUKILE_BAD_LINE or
+                         HAMVUKILE_TAKEN_CELL, in this order */
     uint8_t entry;    /* 1 where the line is an entry; 0 for an empty line and a comment */
 } hamvukile_line;
 
@@ -220,6 +222,37 @@ typedef struct {
  * the lines of the file one by one. (The file of the gb18030 ranges has lines of the same form and is no such index:
  * its two numbers are a pair of the second table.) */
 hamvukile_line hamvukile_index_line(const uint8_t *line, size_t length, uint32_t *table, size_t table_length);
+
+/*
+ * A reverse index beside a table finds the pointer of a code point without a search of the table. It is the caller's,
+ * too: twice as many cells as the table has. For a table of n cells, cell b below n has the link to the least pointer
+ * of bucket b, and cell n + p the link from pointer p to the next of its bucket; a link is a pointer plus 1, or 0 where
+ * there is none; a code point c is in bucket c / 2 % n. Only cells that count as mapped are in a bucket. Such an index
+ * is true, and gives the pointer that a search of the table gives.
+ *
+ * An index is true once `hamvukile_build_index` has written it, and stays so as long as its table is changed by
+ * `hamvukile_index_line_indexed` alone; a caller that stores a cell otherwise builds the index anew. Of a table of
+ * zeros an index of zeros is true. Nothing tells a true index from another. With any other cells a look-up still gives
+ * a pointer that is searched and whose cell is the code point, though perhaps not the first or the last of them, and
+ * nothing exactly where the search of the table gives nothing.
+ */
+
+/* The cells of a reverse index of a table of so many cells: 2 * cells, so 0 for 0. A table of 4,294,967,296 cells or
+ * more has no index, since a link would not fit a cell: 0 is answered, and an index line with an index of any length,
+ * 0 too, is refused with HAMVUKILE_WRONG_INDEX. */
+size_t hamvukile_index_size(size_t cells);
+
+/* Builds the reverse index of an encoding's first table: writes every cell of `index`. An encoding without a first
+ * table has an index of no cells. Answers 0 or a refusal: HAMVUKILE_UNKNOWN_ENCODING, HAMVUKILE_WRONG_TABLE,
+ * HAMVUKILE_WRONG_INDEX, in this order. */
+uint8_t hamvukile_build_index(uint8_t encoding, const uint32_t *first, size_t first_length, uint32_t *index,
+                              size_t index_length);
+
+/* Enters one line as `hamvukile_index_line` does, and puts its entry into the reverse index of the table: a true index
+ * stays true. Refusals: HAMVUKILE_WRONG_INDEX, and then those of `hamvukile_index_line`. A line that is refused, and one that
+ * is no entry, alters neither table nor index. */
+hamvukile_line hamvukile_index_line_indexed(const uint8_t *line, size_t length, uint32_t *table, size_t table_length,
+                                            uint32_t *index, size_t index_length);
 
 /* ---- Decoding -------------------------------------------------------------------------------------------------- */
 
@@ -318,7 +351,7 @@ enum {
     HAMVUKILE_TWO_BYTE_STATE = 2
 };
 
-/* What `hamvukile_encode` and `hamvukile_encode_finish` answer. */
+/* What `hamvukile_encode`, `hamvukile_encode_indexed` and `hamvukile_encode_finish` answer. */
 typedef struct {
     size_t written;  /* bytes at the front of the room */
     size_t index;    /* with HAMVUKILE_MALFORMED the index of the scalar that cannot be written; else 0 */
@@ -345,6 +378,23 @@ typedef struct {
 hamvukile_written hamvukile_encode(uint8_t encoding, uint8_t mode, uint8_t state, const uint32_t *scalars,
                                    size_t scalars_length, const uint32_t *first, size_t first_length,
                                    const uint32_t *second, size_t second_length, uint8_t *room, size_t room_length);
+
+/* Encodes scalars as `hamvukile_encode` does, with a reverse index of the first table (see above; of no cells for an
+ * encoding without a first table), which is read and not altered. Scalars that are looked up in the first table are
+ * found by it in a few steps; one that the table has not costs a search of the table, as it does without an index. It
+ * pays with the tables of GBK, gb18030, Big5 and EUC-KR; with shorter tables a long call without an index is faster.
+ *
+ * With a true index the answer and the bytes are those of `hamvukile_encode`. With any other cells of the right length
+ * the answer is still the same, and as many bytes are written, which read back the same; where the table has a scalar in
+ * more than one cell, its bytes may be those of another of these cells. The two calls may write pieces of one text in
+ * turn; pieces written with the same index give the bytes of the whole text written with it.
+ *
+ * Refusals: as of `hamvukile_encode`, and behind HAMVUKILE_WRONG_TABLE and before HAMVUKILE_TOO_LONG
+ * HAMVUKILE_WRONG_INDEX: the index has not 2 * first_length cells. */
+hamvukile_written hamvukile_encode_indexed(uint8_t encoding, uint8_t mode, uint8_t state, const uint32_t *scalars,
+                                           size_t scalars_length, const uint32_t *first, size_t first_length,
+                                           const uint32_t *second, size_t second_length, const uint32_t *index,
+                                           size_t index_length, uint8_t *room, size_t room_length);
 
 /* Ends a text: writes the three bytes of a return to ASCII where the state is not HAMVUKILE_ASCII_STATE, else nothing, and
  * answers that state. The room needs what is written, and no more. A finish sees the state and not the encoding: a host

@@ -106,6 +106,41 @@ fn index(index: Index, rounds: usize, counts: &mut Counts) -> Result<(), String>
     Ok(())
 }
 
+/// The reverse index of a table, built in cells of any kind, and then again from the lines of its file beside the table.
+fn reverse_index(
+    encoding: u8,
+    index: Index,
+    rounds: usize,
+    counts: &mut Counts,
+) -> Result<(), String> {
+    let table = index.table()?;
+    let text = index.text()?;
+    let lines: Vec<&str> = text.split('\n').collect();
+    let mut built = vec![u32::MAX; calls::index_size(table.len())];
+    let (mut least, mut least_filled) = (f64::INFINITY, f64::INFINITY);
+    for _ in 0..rounds.max(5) {
+        built.fill(u32::MAX);
+        let start = Instant::now();
+        let refusal = calls::build_index(encoding, black_box(&table), &mut built);
+        least = least.min(start.elapsed().as_secs_f64());
+        assert_eq!(refusal, 0);
+        let (mut cells, mut links) = (vec![0; table.len()], vec![0; built.len()]);
+        links.fill(0);
+        let start = Instant::now();
+        for line in &lines {
+            calls::index_line_indexed(line.as_bytes(), &mut cells, &mut links);
+        }
+        least_filled = least_filled.min(start.elapsed().as_secs_f64());
+        assert!(cells == table && links == built, "the index that is built");
+    }
+    let microseconds = least * 1e6;
+    let remarks = counts.limit(microseconds < 1000.0, "above a millisecond");
+    let name = format!("index-{}.txt", index.name);
+    let rate = rate(text.len(), least_filled);
+    println!("{name:<24} {microseconds:>7.0} {rate:>7.0}   {remarks}");
+    Ok(())
+}
+
 pub fn indexes(rounds: usize, counts: &mut Counts) -> Result<(), String> {
     println!();
     println!("Index file loaded line by line, in MB/s, best round");
@@ -116,6 +151,17 @@ pub fn indexes(rounds: usize, counts: &mut Counts) -> Result<(), String> {
         data::single_byte("windows-1251"),
     ] {
         index(published, rounds, counts)?;
+    }
+    println!();
+    println!("Reverse index built from a table, in microseconds; file loaded with it, in MB/s; best round");
+    for (encoding, published) in [
+        (34, data::JIS0208),
+        (29, data::GB18030),
+        (31, data::BIG5),
+        (35, data::EUC_KR),
+        (20, data::single_byte("windows-1251")),
+    ] {
+        reverse_index(encoding, published, rounds, counts)?;
     }
     Ok(())
 }

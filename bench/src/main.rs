@@ -11,6 +11,7 @@ mod inputs;
 mod list;
 mod measure;
 mod simple;
+mod spread;
 mod table;
 mod text;
 mod write;
@@ -169,7 +170,7 @@ fn write_part(arguments: &Arguments, indexes: &Indexes, counts: &mut Counts) -> 
             counts,
         )?;
     }
-    Ok(())
+    spread::rows(indexes, arguments.rounds, counts)
 }
 
 fn chosen(arguments: &Arguments) -> Result<Vec<Input>, String> {

@@ -17,21 +17,23 @@ const BYTES: usize = 13;
 /// The most bytes of a finish.
 const FINISH: usize = 3;
 
-/// The library's writer, with the state that goes from call to call. No scalars end the text.
-fn ours<'a>(encoding: Encoding, tables: Tables<'a>) -> impl FnMut(&[u32], &mut [u8]) -> usize + 'a {
+/// The library's writer, with an index where one is lent, and with the state that goes from call to call. No scalars end the
+/// text.
+pub fn ours<'a>(
+    encoding: Encoding,
+    tables: Tables<'a>,
+    index: Option<&'a [u32]>,
+) -> impl FnMut(&[u32], &mut [u8]) -> usize + 'a {
     let mut state = 0;
+    let Tables { first, second } = tables;
     move |scalars: &[u32], room: &mut [u8]| {
-        let answer = match scalars {
-            [] => calls::encode_finish(state, room),
-            _ => calls::encode(
-                encoding.number(),
-                0,
-                state,
-                scalars,
-                tables.first,
-                tables.second,
-                room,
-            ),
+        let number = encoding.number();
+        let answer = match (scalars, index) {
+            ([], _) => calls::encode_finish(state, room),
+            (_, None) => calls::encode(number, 0, state, scalars, first, second, room),
+            (_, Some(index)) => {
+                calls::encode_indexed(number, 0, state, scalars, first, second, index, room)
+            }
         };
         assert_eq!(answer.refusal, 0);
         state = answer.state;
@@ -40,7 +42,7 @@ fn ours<'a>(encoding: Encoding, tables: Tables<'a>) -> impl FnMut(&[u32], &mut [
 }
 
 /// A timed run. Behind the clock the number of bytes and those of the last chunk are compared with what the writer wrote before.
-fn writing<'a>(
+pub fn writing<'a>(
     scalars: &'a [u32],
     expected: &'a [u8],
     mut write: impl FnMut(&[u32], &mut [u8]) -> usize + 'a,
@@ -64,7 +66,7 @@ fn writing<'a>(
 }
 
 /// What a writer writes for all scalars.
-fn all(scalars: &[u32], mut write: impl FnMut(&[u32], &mut [u8]) -> usize) -> Vec<u8> {
+pub fn all(scalars: &[u32], mut write: impl FnMut(&[u32], &mut [u8]) -> usize) -> Vec<u8> {
     let mut room = vec![0; SCALARS * BYTES];
     let mut bytes = Vec::new();
     for part in scalars.chunks(SCALARS).chain([&[][..]]) {
@@ -74,7 +76,15 @@ fn all(scalars: &[u32], mut write: impl FnMut(&[u32], &mut [u8]) -> usize) -> Ve
     bytes
 }
 
-/// Reads bytes, and measures how fast they are written again.
+/// The true index of an encoding's first table.
+pub fn index(encoding: Encoding, tables: Tables) -> Vec<u32> {
+    let mut index = vec![0; calls::index_size(tables.first.len())];
+    let refusal = calls::build_index(encoding.number(), tables.first, &mut index);
+    assert_eq!(refusal, 0);
+    index
+}
+
+/// Reads bytes, and measures how fast they are written again; with an index a second time.
 pub fn measure(
     name: &str,
     encoding: Encoding,
@@ -94,8 +104,9 @@ pub fn measure(
         assert_eq!(read, scalars.len());
         written
     };
+    let index = index(encoding, tables);
     let mut notes = Vec::new();
-    let by_ours = all(&scalars, ours(encoding, tables));
+    let by_ours = all(&scalars, ours(encoding, tables, None));
     if by_ours != bytes {
         notes.push("ours differs from the input".to_string());
     }
@@ -103,21 +114,29 @@ pub fn measure(
     if by_iconv != by_ours {
         notes.push("iconv differs".to_string());
     }
-    let differ = !notes.is_empty();
-    let measured = {
-        let mut runs = [
-            writing(&scalars, &by_ours, ours(encoding, tables)),
-            writing(&scalars, &by_iconv, &mut iconv),
-        ];
-        rounds(number, &mut runs)
+    let ways = match index.is_empty() {
+        true => vec![(name.to_string(), None)],
+        false => vec![
+            (name.to_string(), None),
+            (format!("{name} indexed"), Some(index.as_slice())),
+        ],
     };
-    let bar = Bar {
-        of: "iconv",
-        ratio: measured[1].ratio,
-        least: 1.0,
-    };
-    let remarks = counts.remarks(&[bar], &notes, differ);
-    let times = [Some(measured[0]), None, Some(measured[1]), None];
-    row(name, bytes.len(), &times, &remarks);
+    for (name, index) in ways {
+        let measured = {
+            let mut runs = [
+                writing(&scalars, &by_ours, ours(encoding, tables, index)),
+                writing(&scalars, &by_iconv, &mut iconv),
+            ];
+            rounds(number, &mut runs)
+        };
+        let bar = Bar {
+            of: "iconv",
+            ratio: measured[1].ratio,
+            least: 1.0,
+        };
+        let remarks = counts.remarks(&[bar], &notes, !notes.is_empty());
+        let times = [Some(measured[0]), None, Some(measured[1]), None];
+        row(&name, bytes.len(), &times, &remarks);
+    }
     Ok(())
 }

@@ -754,6 +754,87 @@ static void index_lines(void) {
     line(spaces, table, 4, HAMVUKILE_BAD_LINE, 0, 0);
 }
 
+/* A line with an index, and what the call answers. */
+static void indexed(const char *text, uint32_t *table, size_t length, uint32_t *index, size_t index_length, uint8_t refusal, uint8_t entry, uint32_t pointer) {
+    hamvukile_line l = hamvukile_index_line_indexed((const uint8_t *)text, strlen(text), table, length, index, index_length);
+    check(text, l.refusal == refusal && l.entry == entry && l.pointer == pointer);
+}
+
+/* A table of six cells. U+0100, U+0101 and U+010D are in its bucket 2, U+0110 in bucket 4. */
+static void indexes(void) {
+    static const uint32_t built[12] = { 0, 0, 1, 0, 6, 0, 3, 0, 5, 0, 0, 0 };
+    static const uint32_t entered[12] = { 0, 0, 1, 0, 6, 0, 3, 0, 4, 5, 0, 0 };
+    static const uint32_t zeros[12];
+    uint32_t table[6] = { 0 }, index[12] = { 0 };
+    static uint32_t first[HAMVUKILE_SINGLE_BYTE_CELLS], long_index[2 * HAMVUKILE_SINGLE_BYTE_CELLS + 1];
+    size_t i;
+    check("the size for no cells", hamvukile_index_size(0) == 0);
+    check("the size for 23,940 cells", hamvukile_index_size(HAMVUKILE_GB18030_CELLS) == 47880);
+    check("the size for 4,294,967,295 cells", hamvukile_index_size(4294967295u) == (size_t)4294967295u * 2);
+    check("no index of 4,294,967,296 cells", hamvukile_index_size((size_t)4294967295u + 1) == 0);
+    indexed("0\t0x0101", table, 6, index, 11, HAMVUKILE_WRONG_INDEX, 0, 0);
+    indexed(" ", table, 6, index, 11, HAMVUKILE_WRONG_INDEX, 0, 0);
+    indexed(" ", table, 6, index, 12, HAMVUKILE_BAD_LINE, 0, 0);
+    indexed("6\t0x0101", table, 6, index, 12, HAMVUKILE_TAKEN_CELL, 0, 0);
+    indexed("# a comment", table, 6, index, 12, 0, 0, 0);
+    check("refused lines, and a comment, alter nothing", memcmp(index, zeros, sizeof index) == 0 && memcmp(table, zeros, sizeof table) == 0);
+    indexed("4\t0x0100", table, 6, index, 12, 0, 1, 4);
+    indexed("0\t0x0101", table, 6, index, 12, 0, 1, 0);
+    indexed("5\t0x0110", table, 6, index, 12, 0, 1, 5);
+    indexed("2\t0x0101", table, 6, index, 12, 0, 1, 2);
+    check("the index of lines in any order", memcmp(index, built, sizeof index) == 0);
+    indexed("3\t0x010D", table, 6, index, 12, 0, 1, 3);
+    check("an entry between two of its bucket", memcmp(index, entered, sizeof index) == 0);
+    memset(long_index, 0xFF, sizeof long_index);
+    check("2", hamvukile_build_index(HAMVUKILE_MAX_ENCODING + 1, first, 0, long_index, 1) == HAMVUKILE_UNKNOWN_ENCODING);
+    check("4 before 15", hamvukile_build_index(HAMVUKILE_IBM866, first, 127, long_index, 1) == HAMVUKILE_WRONG_TABLE);
+    check("15", hamvukile_build_index(HAMVUKILE_IBM866, first, 128, long_index, 257) == HAMVUKILE_WRONG_INDEX);
+    for (i = 0; i < 257; i++) check("a refused building alters nothing", long_index[i] == 0xFFFFFFFF);
+    check("no table, no index", hamvukile_build_index(HAMVUKILE_UTF_8, NULL, 0, NULL, 0) == HAMVUKILE_ACCEPTED);
+    check("15 without a table", hamvukile_build_index(HAMVUKILE_UTF_8, NULL, 0, long_index, 1) == HAMVUKILE_WRONG_INDEX);
+    first[0] = first[127] = 0x2502;
+    first[1] = 0x7F;
+    check("built", hamvukile_build_index(HAMVUKILE_IBM866, first, 128, long_index, 256) == HAMVUKILE_ACCEPTED);
+    for (i = 0; i < 256; i++) {
+        uint32_t link = i == 0x2502 / 2 % 128 ? 1 : i == 128 ? 128 : 0;
+        check("every cell is written", long_index[i] == link);
+    }
+    check("and no other", long_index[256] == 0xFFFFFFFF);
+}
+
+/* Writing with an index: a true one, other cells, the order of the refusals, and ISO-2022-JP's state. */
+static void indexed_writing(void) {
+    static const uint32_t text[] = { 0x41, 0x2502, 0x2503 }, surrogate[] = { 0xD800 }, han[] = { 0x4E00, 0xFF61 };
+    static uint32_t first[HAMVUKILE_SINGLE_BYTE_CELLS], index[2 * HAMVUKILE_SINGLE_BYTE_CELLS];
+    static uint32_t jis0208[HAMVUKILE_JIS0208_CELLS], katakana[HAMVUKILE_KATAKANA_CELLS], links[2 * HAMVUKILE_JIS0208_CELLS];
+    static const uint32_t many[HAMVUKILE_MAX_SCALARS + 1] = { 0xD800 };
+    uint8_t room[16];
+    hamvukile_written w;
+    first[5] = first[9] = 0x2502;
+    check("an index", hamvukile_build_index(HAMVUKILE_IBM866, first, 128, index, 256) == HAMVUKILE_ACCEPTED);
+    memset(room, 0x55, sizeof room);
+    w = hamvukile_encode_indexed(HAMVUKILE_IBM866, HAMVUKILE_REFUSING, 0, text, 3, first, 128, NULL, 0, index, 256, room, 2);
+    check("the first pointer by a true index", w.refusal == HAMVUKILE_MALFORMED && w.written == 2 && w.index == 2 && w.state == 0 && memcmp(room, "A\x85\x55", 3) == 0);
+    index[0x2502 / 2 % 128] = 10;
+    w = hamvukile_encode_indexed(HAMVUKILE_IBM866, HAMVUKILE_REFUSING, 0, text, 3, first, 128, NULL, 0, index, 256, room, 2);
+    check("another pointer by other cells", w.refusal == HAMVUKILE_MALFORMED && w.written == 2 && w.index == 2 && memcmp(room, "A\x89\x55", 3) == 0);
+    memset(index, 0, sizeof index);
+    w = hamvukile_encode_indexed(HAMVUKILE_IBM866, HAMVUKILE_HTML, 0, text, 3, first, 128, NULL, 0, index, 256, room, 9);
+    check("zeros, and html", w.refusal == 0 && w.written == 9 && memcmp(room, "A\x85&#9475;\x55", 10) == 0);
+    check("4 before 15", hamvukile_encode_indexed(HAMVUKILE_IBM866, 0, 0, text, 3, first, 127, NULL, 0, index, 256, room, 9).refusal == HAMVUKILE_WRONG_TABLE);
+    check("9 before 15", hamvukile_encode_indexed(HAMVUKILE_REPLACEMENT, 0, 0, text, 3, NULL, 0, NULL, 0, index, 1, room, 9).refusal == HAMVUKILE_NO_ENCODER);
+    check("15 before 8", hamvukile_encode_indexed(HAMVUKILE_IBM866, 0, 0, many, HAMVUKILE_MAX_SCALARS + 1, first, 128, NULL, 0, index, 255, room, 0).refusal == HAMVUKILE_WRONG_INDEX);
+    w = hamvukile_encode_indexed(HAMVUKILE_UTF_8, 0, 2, surrogate, 1, NULL, 0, NULL, 0, index, 1, room, 0);
+    check("15 before 10, and the state back", w.refusal == HAMVUKILE_WRONG_INDEX && w.written == 0 && w.state == 2);
+    check("no table, an index of no cells", hamvukile_encode_indexed(HAMVUKILE_UTF_8, 0, 0, text, 1, NULL, 0, NULL, 0, NULL, 0, room, 1).written == 1);
+    jis0208[0] = 0x4E00;
+    jis0208[1] = 0x30A2;
+    katakana[0] = 0x30A2;
+    check("ISO-2022-JP's index", hamvukile_build_index(33, jis0208, HAMVUKILE_JIS0208_CELLS, links, 2 * HAMVUKILE_JIS0208_CELLS) == HAMVUKILE_ACCEPTED);
+    w = hamvukile_encode_indexed(33, HAMVUKILE_REFUSING, 0, han, 2, jis0208, HAMVUKILE_JIS0208_CELLS, katakana, HAMVUKILE_KATAKANA_CELLS, links, 2 * HAMVUKILE_JIS0208_CELLS, room, 7);
+    check("ISO-2022-JP by its index", w.refusal == 0 && w.written == 7 && w.state == HAMVUKILE_TWO_BYTE_STATE && memcmp(room, "\x1B$B!!!\"", 7) == 0);
+}
+
 static void part(const char *what, void (*run)(void)) {
     int before = compared;
     run();
@@ -776,6 +857,8 @@ int main(void) {
     part("labels and names", labels);
     part("constants of the header", constants);
     part("index lines", index_lines);
+    part("reverse indexes", indexes);
+    part("writing with an index", indexed_writing);
     printf("%d compared, %d different\n", compared, different);
     return different != 0;
 }

@@ -27,6 +27,41 @@ pub fn index_line(line: &[u8], table: &mut [u32]) -> Line {
 }
 
 #[inline]
+pub fn index_size(cells: usize) -> usize {
+    // SAFETY: the call reads a number only.
+    unsafe { ffi::hamvukile_index_size(cells) }
+}
+
+#[inline]
+pub fn build_index(encoding: u8, first: &[u32], index: &mut [u32]) -> u8 {
+    // SAFETY: each slice is valid for its length; the index, borrowed mutably, does not overlap the table.
+    unsafe {
+        ffi::hamvukile_build_index(
+            encoding,
+            first.as_ptr(),
+            first.len(),
+            index.as_mut_ptr(),
+            index.len(),
+        )
+    }
+}
+
+#[inline]
+pub fn index_line_indexed(line: &[u8], table: &mut [u32], index: &mut [u32]) -> Line {
+    // SAFETY: each slice is valid for its length; table and index, borrowed mutably, overlap no other.
+    unsafe {
+        ffi::hamvukile_index_line_indexed(
+            line.as_ptr(),
+            line.len(),
+            table.as_mut_ptr(),
+            table.len(),
+            index.as_mut_ptr(),
+            index.len(),
+        )
+    }
+}
+
+#[inline]
 pub fn open(encoding: u8, mode: u8, rule: u8) -> Answer {
     // SAFETY: the call reads numbers only.
     unsafe { ffi::hamvukile_open(encoding, mode, rule) }
@@ -155,6 +190,38 @@ pub fn encode(
             first.len(),
             second.as_ptr(),
             second.len(),
+            room.as_mut_ptr(),
+            room.len(),
+        )
+    }
+}
+
+#[allow(clippy::too_many_arguments)]
+#[inline]
+pub fn encode_indexed(
+    encoding: u8,
+    mode: u8,
+    state: u8,
+    scalars: &[u32],
+    first: &[u32],
+    second: &[u32],
+    index: &[u32],
+    room: &mut [u8],
+) -> Written {
+    // SAFETY: each slice is valid for its length; the room, borrowed mutably, overlaps no other.
+    unsafe {
+        ffi::hamvukile_encode_indexed(
+            encoding,
+            mode,
+            state,
+            scalars.as_ptr(),
+            scalars.len(),
+            first.as_ptr(),
+            first.len(),
+            second.as_ptr(),
+            second.len(),
+            index.as_ptr(),
+            index.len(),
             room.as_mut_ptr(),
             room.len(),
         )

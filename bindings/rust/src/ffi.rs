@@ -88,6 +88,22 @@ extern "C" {
         table: *mut u32,
         table_length: usize,
     ) -> Line;
+    pub fn hamvukile_index_size(cells: usize) -> usize;
+    pub fn hamvukile_build_index(
+        encoding: u8,
+        first: *const u32,
+        first_length: usize,
+        index: *mut u32,
+        index_length: usize,
+    ) -> u8;
+    pub fn hamvukile_index_line_indexed(
+        line: *const u8,
+        length: usize,
+        table: *mut u32,
+        table_length: usize,
+        index: *mut u32,
+        index_length: usize,
+    ) -> Line;
     pub fn hamvukile_open(encoding: u8, mode: u8, rule: u8) -> Answer;
     pub fn hamvukile_feed(
         decoder: Decoder,
@@ -148,6 +164,21 @@ extern "C" {
         first_length: usize,
         second: *const u32,
         second_length: usize,
+        room: *mut u8,
+        room_length: usize,
+    ) -> Written;
+    pub fn hamvukile_encode_indexed(
+        encoding: u8,
+        mode: u8,
+        state: u8,
+        scalars: *const u32,
+        scalars_length: usize,
+        first: *const u32,
+        first_length: usize,
+        second: *const u32,
+        second_length: usize,
+        index: *const u32,
+        index_length: usize,
         room: *mut u8,
         room_length: usize,
     ) -> Written;

@@ -25,6 +25,7 @@ mod calls;
 #[allow(dead_code)]
 mod ffi;
 
+use std::borrow::Cow;
 use std::fmt;
 use std::ops::Deref;
 
@@ -49,7 +50,7 @@ const MAX_NAME: usize = 14;
 /// The version of the library that is linked: 10,000 times major, 100 times minor, and patch.
 ///
 /// ```
-/// assert_eq!(hamvukile::version(), 800); // 0.8.0
+/// assert_eq!(hamvukile::version(), 900); // 0.9.0
 /// ```
 pub fn version() -> u32 {
     calls::version()
@@ -88,6 +89,8 @@ pub enum Refusal {
     TakenCell = 13,
     /// With this chunk the decoder would have taken more than [`MAX_TAKEN`] bytes.
     TooMuch = 14,
+    /// A reverse index has not the length that its table asks for.
+    WrongIndex = 15,
     /// A line of a list has no tab, or several.
     BadOptionLine = 16,
     /// The name of a line of a list is empty, or none of the known names.
@@ -118,6 +121,7 @@ impl Refusal {
             12 => Refusal::BadLine,
             13 => Refusal::TakenCell,
             14 => Refusal::TooMuch,
+            15 => Refusal::WrongIndex,
             16 => Refusal::BadOptionLine,
             17 => Refusal::UnknownOption,
             18 => Refusal::RepeatedOption,
@@ -143,6 +147,7 @@ impl fmt::Display for Refusal {
             Refusal::BadLine => "not a line of an index file",
             Refusal::TakenCell => "no free cell at the line's pointer",
             Refusal::TooMuch => "a decoder takes at most 4,294,967,295 bytes",
+            Refusal::WrongIndex => "a reverse index of the wrong length",
             Refusal::BadOptionLine => "not one tab",
             Refusal::UnknownOption => "an unknown name",
             Refusal::RepeatedOption => "a name that an earlier line has",
@@ -741,7 +746,7 @@ impl Encoder {
         tables: &Tables<'_>,
         room: &mut [u8],
     ) -> Result<usize, Error> {
-        let answer = calls::encode(
+        self.after(calls::encode(
             self.encoding.0,
             self.on_unwritable as u8,
             self.state,
@@ -749,7 +754,54 @@ impl Encoder {
             tables.first,
             tables.second,
             room,
-        );
+        ))
+    }
+
+    /// Encodes scalars as [`Encoder::encode`] does, and finds them in the first table by a [`ReverseIndex`] of it. A text may be
+    /// cut anywhere, and its pieces may be written with the index and without.
+    ///
+    /// With a true index the bytes are those of [`Encoder::encode`]. With any other cells of its length they are as many, and
+    /// what is written reads back the same; where the table has a scalar more than once, the bytes may be those of another of
+    /// its cells. An index of another length is refused with [`Refusal::WrongIndex`].
+    ///
+    /// ```
+    /// use hamvukile::{Encoder, Encoding, OnUnwritable, Refusal, ReverseIndex, Tables};
+    ///
+    /// let mut table = vec![0; 23_940];
+    /// table[16_000] = 0xAC00;
+    /// let index = ReverseIndex::build(Encoding::EUC_KR, &table).unwrap();
+    /// let tables = Tables::euc_kr(table.as_slice().try_into().unwrap());
+    ///
+    /// let mut encoder = Encoder::new(Encoding::EUC_KR, OnUnwritable::Html);
+    /// let mut room = [0; 16];
+    /// let n = encoder.encode_indexed(&[0xAC00, 0x41], &tables, &index, &mut room).unwrap();
+    /// assert_eq!(&room[..n], b"\xD5iA");
+    ///
+    /// let other = ReverseIndex::from_cells(&[0; 256]);
+    /// let error = encoder.encode_indexed(&[0xAC00], &tables, &other, &mut room).unwrap_err();
+    /// assert_eq!(error.refusal, Refusal::WrongIndex);
+    /// ```
+    pub fn encode_indexed(
+        &mut self,
+        scalars: &[u32],
+        tables: &Tables<'_>,
+        index: &ReverseIndex<'_>,
+        room: &mut [u8],
+    ) -> Result<usize, Error> {
+        self.after(calls::encode_indexed(
+            self.encoding.0,
+            self.on_unwritable as u8,
+            self.state,
+            scalars,
+            tables.first,
+            tables.second,
+            &index.cells,
+            room,
+        ))
+    }
+
+    /// What a call answers, and the state that it left.
+    fn after(&mut self, answer: ffi::Written) -> Result<usize, Error> {
         self.state = answer.state;
         match answer.refusal {
             0 => Ok(answer.written),
@@ -825,10 +877,85 @@ pub fn encode(
 /// assert_eq!(index_line(b"1 0x00E9", &mut table).unwrap_err().refusal, Refusal::BadLine);
 /// ```
 pub fn index_line(line: &[u8], table: &mut [u32]) -> Result<Option<u32>, Error> {
-    let answer = calls::index_line(line, table);
+    entered(calls::index_line(line, table))
+}
+
+/// What an index line answers.
+fn entered(answer: ffi::Line) -> Result<Option<u32>, Error> {
     match answer.refusal {
         0 => Ok((answer.entry == 1).then_some(answer.pointer)),
         n => Err(refused(n)),
+    }
+}
+
+/// The cells of a reverse index of a table of so many cells: twice as many; 0 for a table of 2^32 cells or more, which has
+/// no index.
+#[inline]
+pub fn index_size(cells: usize) -> usize {
+    calls::index_size(cells)
+}
+
+/// Builds the reverse index of an encoding's first table, of [`index_size`] cells, and writes each of them. The index is
+/// true as long as the table is changed by [`index_line_indexed`] alone.
+///
+/// ```
+/// use hamvukile::{build_index, index_line_indexed, index_size, Encoding};
+///
+/// let mut table = vec![0; 128];
+/// let mut index = vec![0; index_size(table.len())];
+/// let koi8_r = Encoding::from_number(15).unwrap();
+/// build_index(koi8_r, &table, &mut index).unwrap();
+/// assert_eq!(index_line_indexed(b"3\t0x2502", &mut table, &mut index), Ok(Some(3)));
+/// assert_eq!(index[0x2502 / 2 % 128], 4);
+/// ```
+pub fn build_index(encoding: Encoding, first: &[u32], index: &mut [u32]) -> Result<(), Error> {
+    match calls::build_index(encoding.0, first, index) {
+        0 => Ok(()),
+        n => Err(refused(n)),
+    }
+}
+
+/// Enters a line as [`index_line`] does, and keeps the reverse index of the table true.
+pub fn index_line_indexed(
+    line: &[u8],
+    table: &mut [u32],
+    index: &mut [u32],
+) -> Result<Option<u32>, Error> {
+    entered(calls::index_line_indexed(line, table, index))
+}
+
+/// A reverse index of an encoding's first table, for [`Encoder::encode_indexed`]: cells that it owns, or cells of the caller's.
+///
+/// ```
+/// use hamvukile::{Encoding, ReverseIndex};
+///
+/// let table = [0; 128];
+/// let koi8_r = Encoding::from_number(15).unwrap();
+/// let built = ReverseIndex::build(koi8_r, &table).unwrap();
+/// assert_eq!(ReverseIndex::from_cells(&[0; 256]), built);
+/// ```
+#[derive(Clone, Debug, PartialEq, Eq)]
+pub struct ReverseIndex<'a> {
+    cells: Cow<'a, [u32]>,
+}
+
+impl<'a> ReverseIndex<'a> {
+    /// The true index of a table, built by [`build_index`]. Refused with [`Refusal::WrongTable`] where the table has not the
+    /// length of the encoding's first table.
+    pub fn build(encoding: Encoding, first: &[u32]) -> Result<ReverseIndex<'static>, Error> {
+        let mut cells = vec![0; index_size(first.len())];
+        build_index(encoding, first, &mut cells)?;
+        Ok(ReverseIndex {
+            cells: Cow::Owned(cells),
+        })
+    }
+
+    /// Cells of the caller's, which [`build_index`] or [`index_line_indexed`] wrote. Any others will do, too: see
+    /// [`Encoder::encode_indexed`].
+    pub const fn from_cells(cells: &'a [u32]) -> ReverseIndex<'a> {
+        ReverseIndex {
+            cells: Cow::Borrowed(cells),
+        }
     }
 }
 
@@ -1107,6 +1234,54 @@ mod tests {
             let c = encoder.finish(&mut last);
             assert_eq!([&room[..a + b], &last[..c]].concat(), whole);
         }
+    }
+
+    #[test]
+    fn pieces_with_and_without_an_index_are_one_text() {
+        let mut jis0208 = vec![0; 11_280];
+        jis0208[283] = 0x3042;
+        jis0208[285] = 0x3044;
+        let tables = Tables::iso_2022_jp_encoder(jis0208.as_slice().try_into().unwrap(), &[0; 63]);
+        let index = ReverseIndex::build(Encoding::ISO_2022_JP, &jis0208).unwrap();
+        let text = [0x3042, 0x41, 0x3044, 0x3042, 0x1F4A9, 0x3044];
+        let mut whole = [0; 64];
+        let n = encode(
+            Encoding::ISO_2022_JP,
+            OnUnwritable::Html,
+            &text,
+            &tables,
+            &mut whole,
+        )
+        .unwrap();
+        for cut in 0..=text.len() {
+            let mut encoder = Encoder::new(Encoding::ISO_2022_JP, OnUnwritable::Html);
+            let mut room = [0; 64];
+            let (one, other) = text.split_at(cut);
+            let mut at = encoder
+                .encode_indexed(one, &tables, &index, &mut room)
+                .unwrap();
+            at += encoder.encode(other, &tables, &mut room[at..]).unwrap();
+            let mut last = [0; MAX_FINISH];
+            let end = encoder.finish(&mut last);
+            room[at..at + end].copy_from_slice(&last[..end]);
+            assert_eq!(room[..at + end], whole[..n]);
+        }
+    }
+
+    #[test]
+    fn an_index_of_another_table_is_refused() {
+        let index = ReverseIndex::build(Encoding::EUC_KR, &vec![0; 23_940]).unwrap();
+        let mut encoder = Encoder::new(Encoding::WINDOWS_1252, OnUnwritable::Refuse);
+        let error = encoder
+            .encode_indexed(&[0x41], &Tables::none(), &index, &mut [0; 1])
+            .unwrap_err();
+        assert_eq!(error.refusal, Refusal::WrongIndex);
+        assert_eq!(
+            ReverseIndex::build(Encoding::EUC_KR, &[0; 128])
+                .unwrap_err()
+                .refusal,
+            Refusal::WrongTable
+        );
     }
 
     #[test]

@@ -11,13 +11,14 @@ use lib.Seq.{sets, sets-eq}
 use borrow.Author.Tests.{ltb-false, leb-true, leb-false, eqb-true, eqb-false, lt-ltb, le-ltb, le-leb, eq-eqb, ne-eqb}
 use Rattle.standard.specs.Base.{_then_else_, scalars}
 use Rattle.standard.specs.Encodings.{Family, family, traits, secondFits, Tables, lent, fits}
+use Rattle.standard.specs.Search.{Lookup}
 use Rattle.standard.specs.Writers.{writerOf}
 use Rattle.standard.proofs.Families.{family-single-byte}
 use Rattle.standard.specs.Ones.{finishBytes}
 use Rattle.standard.proofs.Tests.{split, choose, or-case, or-none, and-left, out-above}
 use Rattle.pair_writers.specs.Pairs.{pairEncode, cellsOf}
 use Rattle.encoder_spec.specs.Writing.{Writing}
-use Rattle.encoder_spec.specs.Writer.{Outcome, refuse, write, writeAccepted, writeBy, writerCall, writerFinish}
+use Rattle.encoder_spec.specs.Writer.{Outcome, refuse, write, writeAccepted, writeBy, callBy, writerFinish}
 use Rattle.encoder_spec.specs.declared.Written.{Written}
 use Rattle.encoder.specs.WriterCode.{pairs, writes, encoderOf, lentOf, Tabled, tablesFit, lentWriting, Space, Wrote}
 use Rattle.encoder.specs.WriterCode.{textRefusal, refusalOf}
@@ -58,19 +59,20 @@ no-writer e w =
     b = or-none (pairs e) (eqb e 39) (a .1)
 
 -- what an encoding number writes, by the tests of the code
-written-by : (e m s : ℕ) (t : Tables) (cs room : List ℕ) →
-    writeBy (writerOf e) m s t cs room ≡
-    (writes e then (tablesFit e t then writeAccepted (lentOf e t) m s cs room else refuse 4 s room) else refuse 9 s room)
+written-by : (look : Lookup) (right : Bool) (e m s : ℕ) (t : Tables) (cs room : List ℕ) →
+    writeBy look right (writerOf e) m s t cs room ≡
+    (writes e then (tablesFit e t then (right then writeAccepted (lentOf look e t) m s cs room else refuse 15 s room) else refuse 4 s room) else
+    refuse 9 s room)
 unfolding writerOf family lentOf encoderOf pairEncode
-written-by e m s t cs room = split (writes e)
+written-by look right e m s t cs room = split (writes e)
     (λ w. by-writer e w
     (λ h. rw h) (λ h. rw h)
     (λ f g h. rw (no-pairs e h, ne-eqb e 0 f, ne-eqb e 21 g, le-leb e 28 h, ne-eqb e 33 (λ z. omega arith)))
     (λ p. by-pairs e p
-    (λ h. rw (h, pair-plain 29 (t .first) (t .second) refl)) (λ h. rw (h, pair-plain 30 (t .first) (t .second) refl))
-    (λ h. rw (h, pair-plain 31 (t .first) (t .second) refl)) (λ h. rw (h, pair-plain 32 (t .first) (t .second) refl))
+    (λ h. rw (h, pair-plain 29 look (t .second) refl)) (λ h. rw (h, pair-plain 30 look (t .second) refl))
+    (λ h. rw (h, pair-plain 31 look (t .second) refl)) (λ h. rw (h, pair-plain 32 look (t .second) refl))
     (λ h. rw h)
-    (λ h. rw (h, pair-plain 34 (t .first) (t .second) refl)) (λ h. rw (h, pair-plain 35 (t .first) (t .second) refl)))
+    (λ h. rw (h, pair-plain 34 look (t .second) refl)) (λ h. rw (h, pair-plain 35 look (t .second) refl)))
     (λ h. rw h))
     (λ w. rw (no-writer e w, w))
 
@@ -116,39 +118,40 @@ module _ (t1 t2 : List ℕ) (e : ℕ) where
   no-katakana h l = rw (h, ne-eqb (length t2) 63 l) (sym (and-false (fits (family 33) (lent t1 []))))
 
 -- The call, by its refusal.
-module _ (e m s : ℕ) (t : Tables) (cs room : List ℕ) where
+module _ (look : Lookup) (right : Bool) (e m s : ℕ) (t : Tables) (cs room : List ℕ) where
   -- the bytes, and the refusal
   abbrev w : Writing
-  w = lentWriting e m s t cs
+  w = lentWriting look e m s t cs
 
   abbrev refused : ℕ
-  refused = refusalOf e m s t cs (length room)
+  refused = refusalOf look right e m s t cs (length room)
 
   -- what the call leaves where its refusal is n
   by-refusal : ℕ → Outcome
   by-refusal n = eqb n 0 then write w room else refuse n s room
 
-  call : writerCall e m s t cs room ≡ by-refusal refused
-  unfolding writerCall refusalOf textRefusal by-refusal
-  call = rw (written-by e m s t cs room)
-      (tests (ltb 39 e) (ltb 1 m) (ltb 2 s) (writes e) (tablesFit e t) (ltb 16384 (length cs)) (scalars cs)
+  call : callBy look right e m s t cs room ≡ by-refusal refused
+  unfolding callBy refusalOf textRefusal by-refusal
+  call = rw (written-by look right e m s t cs room)
+      (tests (ltb 39 e) (ltb 1 m) (ltb 2 s) (writes e) (tablesFit e t) right (ltb 16384 (length cs)) (scalars cs)
       (ltb (length room) (length (w .bytes))))
     where
-      tests : (a b d k f l c r : Bool) →
+      tests : (a b d k f g l c r : Bool) →
           (a then refuse 2 s room else b then refuse 3 s room else d then refuse 5 s room else
-          k then (f then (l then refuse 8 s room else not c then refuse 10 s room else r then refuse 7 s room else write w room) else
-          refuse 4 s room) else refuse 9 s room) ≡
-          by-refusal (a then 2 else b then 3 else d then 5 else not k then 9 else not f then 4 else
+          k then (f then (g then (l then refuse 8 s room else not c then refuse 10 s room else r then refuse 7 s room else write w room) else
+          refuse 15 s room) else refuse 4 s room) else refuse 9 s room) ≡
+          by-refusal (a then 2 else b then 3 else d then 5 else not k then 9 else not f then 4 else not g then 15 else
           l then 8 else not c then 10 else r then 7 else 0)
-      tests true b d k f l c r = refl
-      tests false true d k f l c r = refl
-      tests false false true k f l c r = refl
-      tests false false false false f l c r = refl
-      tests false false false true false l c r = refl
-      tests false false false true true true c r = refl
-      tests false false false true true false false r = refl
-      tests false false false true true false true true = refl
-      tests false false false true true false true false = refl
+      tests true b d k f g l c r = refl
+      tests false true d k f g l c r = refl
+      tests false false true k f g l c r = refl
+      tests false false false false f g l c r = refl
+      tests false false false true false g l c r = refl
+      tests false false false true true false l c r = refl
+      tests false false false true true true true c r = refl
+      tests false false false true true true false false r = refl
+      tests false false false true true true false true true = refl
+      tests false false false true true true false true false = refl
 
   -- what is known of an accepted call
   pub record Accepted : Type 0 where
@@ -160,7 +163,7 @@ module _ (e m s : ℕ) (t : Tables) (cs room : List ℕ) where
   pub accepted : refused ≡ 0 → Accepted
   unfolding refusalOf textRefusal
   accepted h =
-      let a = go (ltb 39 e) (ltb 1 m) (ltb 2 s) (writes e) (tablesFit e t) (ltb 16384 (length cs)) (scalars cs)
+      let a = go (ltb 39 e) (ltb 1 m) (ltb 2 s) (writes e) (tablesFit e t) right (ltb 16384 (length cs)) (scalars cs)
       (ltb (length room) (length (w .bytes))) h in
       record {
         tabled = table-fits e t (a .0) (a .1);
@@ -169,25 +172,26 @@ module _ (e m s : ℕ) (t : Tables) (cs room : List ℕ) where
         space = ltb-false (length room) (length (w .bytes)) (a .4);
       }
     where
-      go : (a b d w f l c r : Bool) →
-          _≡_ {A = ℕ} (a then 2 else b then 3 else d then 5 else not w then 9 else not f then 4 else
+      go : (a b d w f g l c r : Bool) →
+          _≡_ {A = ℕ} (a then 2 else b then 3 else d then 5 else not w then 9 else not f then 4 else not g then 15 else
           l then 8 else not c then 10 else r then 7 else 0) 0 →
           (w ≡ true) × (f ≡ true) × (c ≡ true) × (l ≡ false) × (r ≡ false)
-      go true b d w f l c r h = absurd (omega arith)
-      go false true d w f l c r h = absurd (omega arith)
-      go false false true w f l c r h = absurd (omega arith)
-      go false false false false f l c r h = absurd (omega arith)
-      go false false false true false l c r h = absurd (omega arith)
-      go false false false true true true c r h = absurd (omega arith)
-      go false false false true true false false r h = absurd (omega arith)
-      go false false false true true false true true h = absurd (omega arith)
-      go false false false true true false true false h = (refl, refl, refl, refl, refl)
+      go true b d w f g l c r h = absurd (omega arith)
+      go false true d w f g l c r h = absurd (omega arith)
+      go false false true w f g l c r h = absurd (omega arith)
+      go false false false false f g l c r h = absurd (omega arith)
+      go false false false true false g l c r h = absurd (omega arith)
+      go false false false true true false l c r h = absurd (omega arith)
+      go false false false true true true true c r h = absurd (omega arith)
+      go false false false true true true false false r h = absurd (omega arith)
+      go false false false true true true false true true h = absurd (omega arith)
+      go false false false true true true false true false h = (refl, refl, refl, refl, refl)
 
   -- what the call leaves, part by part
   abbrev Leaves : Written → List ℕ → Type 0
-  Leaves answer after = (answer ≡ writerCall e m s t cs room .answer) × (after ≡ writerCall e m s t cs room .room)
+  Leaves answer after = (answer ≡ callBy look right e m s t cs room .answer) × (after ≡ callBy look right e m s t cs room .room)
 
-  leaves : {o : Outcome} → writerCall e m s t cs room ≡ o → Leaves (o .answer) (o .room)
+  leaves : {o : Outcome} → callBy look right e m s t cs room ≡ o → Leaves (o .answer) (o .room)
   leaves q = (ap (λ (o : Outcome). o .answer) (sym q), ap (λ (o : Outcome). o .room) (sym q))
 
   module _ (r : ℕ) (p : r ≡ refused) where
@@ -202,48 +206,53 @@ module _ (e m s : ℕ) (t : Tables) (cs room : List ℕ) where
         (wrote .answers ∙ l .0, wrote .leaves ∙ l .1)
 
 -- The refusals, one after the other.
-module _ (e m s : ℕ) (t : Tables) (cs : List ℕ) (n : ℕ) where
-  pub refused-2 : 39 < e → 2 ≡ refusalOf e m s t cs n
+module _ (look : Lookup) (right : Bool) (e m s : ℕ) (t : Tables) (cs : List ℕ) (n : ℕ) where
+  pub refused-2 : 39 < e → 2 ≡ refusalOf look right e m s t cs n
   unfolding refusalOf
   refused-2 h = rw (lt-ltb 39 e h)
 
   module _ (h2 : e ≤ 39) where
-    pub refused-3 : 1 < m → 3 ≡ refusalOf e m s t cs n
+    pub refused-3 : 1 < m → 3 ≡ refusalOf look right e m s t cs n
     unfolding refusalOf
     refused-3 h = rw (le-ltb 39 e h2, lt-ltb 1 m h)
 
     module _ (h3 : m ≤ 1) where
-      pub refused-5 : 2 < s → 5 ≡ refusalOf e m s t cs n
+      pub refused-5 : 2 < s → 5 ≡ refusalOf look right e m s t cs n
       unfolding refusalOf
       refused-5 h = rw (le-ltb 39 e h2, le-ltb 1 m h3, lt-ltb 2 s h)
 
       module _ (h5 : s ≤ 2) where
-        pub refused-9 : writes e ≡ false → 9 ≡ refusalOf e m s t cs n
+        pub refused-9 : writes e ≡ false → 9 ≡ refusalOf look right e m s t cs n
         unfolding refusalOf
         refused-9 h = rw (le-ltb 39 e h2, le-ltb 1 m h3, le-ltb 2 s h5, h)
 
         module _ (h9 : writes e ≡ true) where
-          pub refused-4 : tablesFit e t ≡ false → 4 ≡ refusalOf e m s t cs n
+          pub refused-4 : tablesFit e t ≡ false → 4 ≡ refusalOf look right e m s t cs n
           unfolding refusalOf
           refused-4 h = rw (le-ltb 39 e h2, le-ltb 1 m h3, le-ltb 2 s h5, h9, h)
 
-          pub refused-text : tablesFit e t ≡ true → textRefusal e m s t cs n ≡ refusalOf e m s t cs n
-          unfolding refusalOf
-          refused-text h = rw (le-ltb 39 e h2, le-ltb 1 m h3, le-ltb 2 s h5, h9, h)
+          module _ (h4 : tablesFit e t ≡ true) where
+            pub refused-15 : right ≡ false → 15 ≡ refusalOf look right e m s t cs n
+            unfolding refusalOf
+            refused-15 h = rw (le-ltb 39 e h2, le-ltb 1 m h3, le-ltb 2 s h5, h9, h4, h)
+
+            pub refused-text : right ≡ true → textRefusal look e m s t cs n ≡ refusalOf look right e m s t cs n
+            unfolding refusalOf
+            refused-text h = rw (le-ltb 39 e h2, le-ltb 1 m h3, le-ltb 2 s h5, h9, h4, h)
 
 -- Those that depend on the scalars.
-module _ (e m s : ℕ) (t : Tables) (cs : List ℕ) (n : ℕ) where
-  pub refused-8 : 16384 < length cs → 8 ≡ textRefusal e m s t cs n
+module _ (look : Lookup) (e m s : ℕ) (t : Tables) (cs : List ℕ) (n : ℕ) where
+  pub refused-8 : 16384 < length cs → 8 ≡ textRefusal look e m s t cs n
   unfolding textRefusal
   refused-8 h = rw (lt-ltb 16384 (length cs) h)
 
   module _ (h8 : length cs ≤ 16384) where
-    pub refused-10 : scalars cs ≡ false → 10 ≡ textRefusal e m s t cs n
+    pub refused-10 : scalars cs ≡ false → 10 ≡ textRefusal look e m s t cs n
     unfolding textRefusal
     refused-10 h = rw (le-ltb 16384 (length cs) h8, h)
 
-    pub refused-7 : scalars cs ≡ true → (r : Bool) → r ≡ ltb n (length (lentWriting e m s t cs .bytes)) →
-        (r then 7 else 0) ≡ textRefusal e m s t cs n
+    pub refused-7 : scalars cs ≡ true → (r : Bool) → r ≡ ltb n (length (lentWriting look e m s t cs .bytes)) →
+        (r then 7 else 0) ≡ textRefusal look e m s t cs n
     unfolding textRefusal
     refused-7 h r z = rw (le-ltb 16384 (length cs) h8, h, z)
 

@@ -12,7 +12,7 @@ use borrow.Author.Tests.{leb-true, eqb-true, eqb-false, lt-ltb, le-ltb, eq-eqb, 
 use Rattle.standard.specs.Base.{_then_else_, within, isScalar, mapped}
 use Rattle.standard.specs.Indexes.{irregular, windows1252}
 use Rattle.standard.specs.Machine.{Result, tokens, error-with}
-use Rattle.standard.specs.Search.{first, either, searchFrom, searching, pointerFrom}
+use Rattle.standard.specs.Search.{first, either, searchFrom, Lookup, searching, pointerFrom}
 use Rattle.standard.specs.Encoders.Utf8.{utf8Encode}
 use Rattle.standard.specs.Encoders.SingleByte.{singleByteEncode}
 use Rattle.standard.specs.Encoders.UserDefined.{userDefinedEncode}
@@ -24,7 +24,9 @@ use Rattle.standard.specs.Encoders.EucKr.{eucKrEncode}
 use Rattle.standard.specs.Encoders.Iso2022Jp.{control}
 use Rattle.standard.specs.Ones.{iso2022JpEncode}
 use Rattle.standard.proofs.Tests.{split, and-left, and-right}
-use Rattle.pair_writers.specs.Pairs.{pairEncode}
+use Rattle.reverse_index_spec.specs.ReverseIndex.{lookUp}
+use Rattle.reverse_index_spec.proofs.LookUp.{no-index}
+use Rattle.pair_writers.specs.Pairs.{pairEncode, Ready}
 use Rattle.encoder.specs.WriterCode.{given, encoderOf, Slots, entered}
 use Rattle.encoder.proofs.Scalars.{windows-self, windows-more}
 
@@ -146,14 +148,14 @@ regular-on slots c l h g s = slots-set (singleByteEncode (searching windows1252)
     (let d : (c * 256 + c) / 256 ≡ c = omega arith in let m : (c * 256 + c) % 256 ≡ c = omega arith in rw (d, m) (sym (windows-self c h (omega arith))))
 
 -- ASCII is its own byte in the encodings that write pairs, but for the controls of ISO-2022-JP
-pub pair-80 : (e : ℕ) (table second : List ℕ) (c : ℕ) → c < 0x80 →
-    (eqb e 33 && control c then error-with 0xFFFD else tokens (c ∷ [])) ≡ pairEncode e table second c
+pub pair-80 : (e : ℕ) (look : Lookup) (second : List ℕ) (c : ℕ) → c < 0x80 →
+    (eqb e 33 && control c then error-with 0xFFFD else tokens (c ∷ [])) ≡ pairEncode e look second c
 unfolding pairEncode gb18030Encode big5Encode eucJpEncode iso2022JpEncode shiftJisEncode eucKrEncode
-pair-80 e table second c h = split (eqb e 33) (λ z. rw (eqb-true e 33 z, lt-ltb c 0x80 h)) (λ z. rw z (go (leb e 30) (eqb e 31) (eqb e 32) (eqb e 34)))
+pair-80 e look second c h = split (eqb e 33) (λ z. rw (eqb-true e 33 z, lt-ltb c 0x80 h)) (λ z. rw z (go (leb e 30) (eqb e 31) (eqb e 32) (eqb e 34)))
   where
-    go : (g b j s : Bool) → tokens (c ∷ []) ≡ (g then gb18030Encode (eqb e 29) (searching table) second else
-        b then big5Encode (searching table) else j then eucJpEncode (searching table) else
-        s then shiftJisEncode (searching table) else eucKrEncode (searching table)) c
+    go : (g b j s : Bool) → tokens (c ∷ []) ≡ (g then gb18030Encode (eqb e 29) look second else
+        b then big5Encode look else j then eucJpEncode look else
+        s then shiftJisEncode look else eucKrEncode look) c
     go true b j s = rw (lt-ltb c 0x80 h)
     go false true j s = rw (lt-ltb c 0x80 h)
     go false false true s = rw (lt-ltb c 0x80 h)
@@ -161,28 +163,40 @@ pair-80 e table second c h = split (eqb e 33) (λ z. rw (eqb-true e 33 z, lt-ltb
     go false false false false = rw (lt-ltb c 0x80 h)
 
 -- by the encoding's number
-module _ (e : ℕ) (table : List ℕ) where
-  pub below-80 : (c : ℕ) → c < 0x80 → tokens (c ∷ []) ≡ encoderOf e table c
+module _ (e : ℕ) (look : Lookup) where
+  pub below-80 : (c : ℕ) → c < 0x80 → tokens (c ∷ []) ≡ encoderOf e look c
   unfolding encoderOf utf8Encode singleByteEncode userDefinedEncode
   below-80 c h = go (eqb e 0) (eqb e 21) (leb e 28)
     where
       go : (u w s : Bool) → tokens (c ∷ []) ≡ (u then utf8Encode else w then singleByteEncode (searching windows1252) else
-          s then singleByteEncode (searching table) else userDefinedEncode) c
+          s then singleByteEncode look else userDefinedEncode) c
       go true w s = rw (lt-ltb c 0x80 h)
       go false true s = rw (lt-ltb c 0x80 h)
       go false false true = rw (lt-ltb c 0x80 h)
       go false false false = rw (lt-ltb c 0x80 h)
 
-  pub given-80 : (c : ℕ) → c < 0x80 → given c c ≡ encoderOf e table c
+  pub given-80 : (c : ℕ) → c < 0x80 → given c c ≡ encoderOf e look c
   given-80 c h = rw (lt-ltb c 256 (omega arith)) (below-80 c h)
 
   -- empty slots, or none
-  pub empty-slots : (slots : List ℕ) → ((k : ℕ) → getD slots k 0 ≡ 0) → Slots (encoderOf e table) slots
+  pub empty-slots : (slots : List ℕ) → ((k : ℕ) → getD slots k 0 ≡ 0) → Slots (encoderOf e look) slots
   empty-slots slots z = record { right = λ k. rw (z k) (sym (below-80 0 (omega arith))) }
 
-  pub zero-slots : (slots : List ℕ) → slots ≡ replicate 2048 0 → Slots (encoderOf e table) slots
+  pub zero-slots : (slots : List ℕ) → slots ≡ replicate 2048 0 → Slots (encoderOf e look) slots
   zero-slots slots q = empty-slots slots (λ k. ap (λ (l : List ℕ). getD l k 0) q ∙ zeros 2048 k)
 
-  pub by-slot : (slots : List ℕ) → Slots (encoderOf e table) slots → (k c : ℕ) → getD slots k 0 / 256 ≡ c →
-      given c (getD slots k 0 % 256) ≡ encoderOf e table c
-  by-slot slots s k c q = rw (lt-ltb (getD slots k 0 % 256) 256 (omega arith)) (sym (s .right k) ∙ ap (encoderOf e table) q)
+  pub by-slot : (slots : List ℕ) → Slots (encoderOf e look) slots → (k c : ℕ) → getD slots k 0 / 256 ≡ c →
+      given c (getD slots k 0 % 256) ≡ encoderOf e look c
+  by-slot slots s k c q = rw (lt-ltb (getD slots k 0 % 256) 256 (omega arith)) (sym (s .right k) ∙ ap (encoderOf e look) q)
+
+-- Where there is no reverse index, a look-up is the search.
+pub nothing-lent : (links : List ℕ) → length links ≡ 0 → links ≡ []
+nothing-lent [] e = refl
+nothing-lent (l ∷ links) e = absurd (omega arith)
+
+pub slots-lent : (e : ℕ) (table links slots : List ℕ) → links ≡ [] → Slots (encoderOf e (searching table)) slots →
+    Slots (encoderOf e (lookUp table links)) slots
+slots-lent e table links slots q s = rw (q, no-index table) s
+
+pub ready-lent : (e : ℕ) (table links slots : List ℕ) → links ≡ [] → Ready e table [] slots → Ready e table links slots
+ready-lent e table links slots q r = rw q r

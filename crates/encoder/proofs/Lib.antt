@@ -2,6 +2,7 @@ pub mod Scalars
 pub mod Rooms
 pub mod Shifts
 pub mod Filling
+pub mod Memory
 pub mod Counting
 pub mod Most
 pub mod Ones

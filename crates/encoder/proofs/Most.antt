@@ -76,18 +76,18 @@ module _ (encode : ℕ → Result) (m s : ℕ) where
       go Result.error ih = by-mode (eqb m 1) 0 ih
 
 -- what an encoding writes from a state: by UTF-8, by pairs, or by one byte a scalar
-module _ (e m s : ℕ) (t : Tables) (cs : List ℕ) where
-  pub utf8-writing : e ≡ 0 → handed s (writing (plain utf8Encode) 0 0 cs) ≡ lentWriting e m s t cs
+module _ (look : Lookup) (e m s : ℕ) (t : Tables) (cs : List ℕ) where
+  pub utf8-writing : e ≡ 0 → handed s (writing (plain utf8Encode) 0 0 cs) ≡ lentWriting look e m s t cs
   unfolding lentOf encoderOf
   utf8-writing h = ap (handed s) (utf8-modes m cs) ∙ hands-back utf8Encode m s cs ∙ rw h
 
-  pub pairs-writing : pairs e ≡ true → pairWriting e m s (t .first) (t .second) cs ≡ lentWriting e m s t cs
+  pub pairs-writing : pairs e ≡ true → pairWriting look e m s (t .second) cs ≡ lentWriting look e m s t cs
   unfolding lentOf
   pairs-writing p = rw p
 
-  pub bytes-writing : pairs e ≡ false → handed s (writingOf e m (t .first) cs) ≡ lentWriting e m s t cs
+  pub bytes-writing : pairs e ≡ false → handed s (writingOf look e m cs) ≡ lentWriting look e m s t cs
   unfolding lentOf
-  bytes-writing p = hands-back (encoderOf e (t .first)) m s cs ∙ rw p
+  bytes-writing p = hands-back (encoderOf e look) m s cs ∙ rw p
 
 -- the same in a room
 pub wrote-as : {v w : Writing} → v ≡ w → (room : List ℕ) {a : Written} {after : List ℕ} → Wrote v room a after → Wrote w room a after
@@ -103,10 +103,10 @@ wrote-handed {v} {w} s e room {a} {after} k = wrote-as e room (record { answers 
     go (some f) = refl
 
 -- but for ISO-2022-JP, the writers of pairs have no state
-pub pair-plain : (e : ℕ) (table second : List ℕ) → eqb e 33 ≡ false → pairOf e table second ≡ plain (pairEncode e table second)
-pair-plain e table second h = λ i s c. go s c i
+pub pair-plain : (e : ℕ) (look : Lookup) (second : List ℕ) → eqb e 33 ≡ false → pairOf e look second ≡ plain (pairEncode e look second)
+pair-plain e look second h = λ i s c. go s c i
   where
-    go : (s c : ℕ) → pairOf e table second s c ≡ plain (pairEncode e table second) s c
+    go : (s c : ℕ) → pairOf e look second s c ≡ plain (pairEncode e look second) s c
     go s c = rw (h, eq-eqb s s refl)
 
 -- What an encoder answers for a scalar: at most k bytes, or an error that names a number as small as a scalar.
@@ -289,19 +289,19 @@ iso-2022-jp-most look katakana m s cs h = split (eqb m 1)
         (λ s c. shiftTo s (isoAfter look katakana s c)) (isoAfter look katakana) (iso2022JpEncode look katakana)
         (λ s c. refl) (λ s c. shift-few s (isoAfter look katakana s c)) (λ c l. iso-2022-jp-few c l look katakana) n f r s cs h
 
-at-most : (e m s : ℕ) (t : Tables) (cs : List ℕ) → scalars cs ≡ true → length (lentWriting e m s t cs .bytes) ≤ length cs * mostOf e m
+at-most : (look : Lookup) (e m s : ℕ) (t : Tables) (cs : List ℕ) → scalars cs ≡ true → length (lentWriting look e m s t cs .bytes) ≤ length cs * mostOf e m
 unfolding lentOf encoderOf pairEncode
-at-most e m s t cs h = split (pairs e)
+at-most look e m s t cs h = split (pairs e)
     (λ p. by-pairs e p
-    (λ z. rw (z, pair-plain 29 (t .first) second refl) (few-most (gb18030Encode true look second) 2 (omega arith)
+    (λ z. rw (z, pair-plain 29 look second refl) (few-most (gb18030Encode true look second) 2 (omega arith)
     (λ c l. gb18030-few c l (omega arith) true look second (names c l)) m s cs h))
-    (λ z. rw (z, pair-plain 30 (t .first) second refl) (few-most (gb18030Encode false look second) 4 (omega arith)
+    (λ z. rw (z, pair-plain 30 look second refl) (few-most (gb18030Encode false look second) 4 (omega arith)
     (λ c l. gb18030-few c l (omega arith) false look second (by-four c l second (rangesPointer second c))) m s cs h))
-    (λ z. rw (z, pair-plain 31 (t .first) second refl) (few-most (big5Encode look) 2 (omega arith) (λ c l. big5-few c l look) m s cs h))
-    (λ z. rw (z, pair-plain 32 (t .first) second refl) (few-most (eucJpEncode look) 2 (omega arith) (λ c l. euc-jp-few c l look) m s cs h))
+    (λ z. rw (z, pair-plain 31 look second refl) (few-most (big5Encode look) 2 (omega arith) (λ c l. big5-few c l look) m s cs h))
+    (λ z. rw (z, pair-plain 32 look second refl) (few-most (eucJpEncode look) 2 (omega arith) (λ c l. euc-jp-few c l look) m s cs h))
     (λ z. rw z (iso-2022-jp-most look second m s cs h))
-    (λ z. rw (z, pair-plain 34 (t .first) second refl) (few-most (shiftJisEncode look) 2 (omega arith) (λ c l. shift-jis-few c l look) m s cs h))
-    (λ z. rw (z, pair-plain 35 (t .first) second refl) (few-most (eucKrEncode look) 2 (omega arith) (λ c l. euc-kr-few c l look) m s cs h)))
+    (λ z. rw (z, pair-plain 34 look second refl) (few-most (shiftJisEncode look) 2 (omega arith) (λ c l. shift-jis-few c l look) m s cs h))
+    (λ z. rw (z, pair-plain 35 look second refl) (few-most (eucKrEncode look) 2 (omega arith) (λ c l. euc-kr-few c l look) m s cs h)))
     (λ p.
     split (eqb e 0) (λ z. rw (eqb-true e 0 z) (utf8-most m s cs h)) (λ z.
     split (eqb e 21) (λ y. rw (eqb-true e 21 y) (few-most (singleByteEncode (searching windows1252)) 1 (omega arith) (λ c l. single-few c l _) m s cs h)) (λ y.
@@ -309,9 +309,6 @@ at-most e m s t cs h = split (pairs e)
     (λ x. rw (p, z, y, x, not-of 30 refl p, not-of 33 refl p) (few-most (singleByteEncode look) 1 (omega arith) (λ c l. single-few c l _) m s cs h))
     (λ x. rw (p, z, y, x, not-of 30 refl p, not-of 33 refl p) (few-most userDefinedEncode 1 (omega arith) user-few m s cs h)))))
   where
-    look : Lookup
-    look = searching (t .first)
-
     second : List ℕ
     second = t .second
 
@@ -319,7 +316,7 @@ at-most e m s t cs h = split (pairs e)
     not-of n k p = ne-eqb e n (λ q. let z : _≡_ {A = ℕ} 0 1 = cc (rw q at p) in absurd (omega arith))
 
 -- A room for the most bytes of each scalar has space for all.
-pub room-for-most : (e m s : ℕ) (t : Tables) (cs : List ℕ) (n : ℕ) → scalars cs ≡ true → (k : ℕ) → k ≡ mostOf e m → length cs * k ≤ n →
-    false ≡ ltb n (length (lentWriting e m s t cs .bytes))
-room-for-most e m s t cs n h k z l =
-    sym (le-ltb n (length (lentWriting e m s t cs .bytes)) (omega (arith, l, ap (λ (k : ℕ). length cs * k) z, at-most e m s t cs h)))
+pub room-for-most : (look : Lookup) (e m s : ℕ) (t : Tables) (cs : List ℕ) (n : ℕ) → scalars cs ≡ true → (k : ℕ) → k ≡ mostOf e m → length cs * k ≤ n →
+    false ≡ ltb n (length (lentWriting look e m s t cs .bytes))
+room-for-most look e m s t cs n h k z l =
+    sym (le-ltb n (length (lentWriting look e m s t cs .bytes)) (omega (arith, l, ap (λ (k : ℕ). length cs * k) z, at-most look e m s t cs h)))

@@ -13,6 +13,7 @@ use Rattle.pair_writers.specs.Pairs.{bytesOf, told, byCount, pairEncode, pairSt
 use Rattle.pair_writers.specs.declared.One.{One}
 use Rattle.standard.specs.Machine.{Result, tokens, error-with}
 use Rattle.standard.specs.Base.{_then_else_}
+use Rattle.standard.specs.Search.{Lookup}
 use Rattle.standard.specs.Ones.{wrote, cannot, shiftTo, answered, stateFor}
 use Rattle.encoder.specs.WriterCode.{pairOf}
 use Rattle.encoder.proofs.Filling.{pair-80}
@@ -73,29 +74,29 @@ module _ (o : One) where
       go false b = refl
 
   -- what is written of a scalar from a state, by the answer and the state that it is written in
-  module _ (e : ℕ) (table second : List ℕ) (s c : ℕ) (t : told o ≡ pairEncode e table second c) (s′ : ℕ) (z : s′ ≡ pairState e s c (byCount (o .count))) where
+  module _ (e : ℕ) (look : Lookup) (second : List ℕ) (s c : ℕ) (t : told o ≡ pairEncode e look second c) (s′ : ℕ) (z : s′ ≡ pairState e s c (byCount (o .count))) where
     abbrev result : Result
-    result = pairEncode e table second c
+    result = pairEncode e look second c
 
     -- with the way to that state in front
-    pub pair-answered : pairOf e table second s c ≡ answered (shiftTo s s′) s′ result
+    pub pair-answered : pairOf e look second s c ≡ answered (shiftTo s s′) s′ result
     pair-answered =
         let q : pairState e s c result ≡ s′ = ap (pairState e s c) (sym t) ∙ by-count e s c ∙ sym z in
         ap (λ (n : ℕ). answered (shiftTo s n) n result) q
 
-    pub pair-bytes : (o .count ≡ 0 → ⊥) → pairOf e table second s c ≡ wrote (shiftTo s s′ ++ bytesOf o) s′
+    pub pair-bytes : (o .count ≡ 0 → ⊥) → pairOf e look second s c ≡ wrote (shiftTo s s′ ++ bytesOf o) s′
     pair-bytes h =
         let q : result ≡ tokens (bytesOf o) = sym t ∙ rw (ne-eqb (o .count) 0 h) in
         pair-answered ∙ ap (answered (shiftTo s s′) s′) q
 
-    pub pair-named : o .count ≡ 0 → pairOf e table second s c ≡ cannot (shiftTo s s′) (o .named) s′
+    pub pair-named : o .count ≡ 0 → pairOf e look second s c ≡ cannot (shiftTo s s′) (o .named) s′
     pair-named h =
         let q : result ≡ error-with (o .named) = sym t ∙ rw (eq-eqb (o .count) 0 h) in
         pair-answered ∙ ap (answered (shiftTo s s′) s′) q
 
 -- ASCII that leaves the state as it is
-pub plain-byte : (e : ℕ) (table second : List ℕ) (s c : ℕ) → Plain e s c → pairOf e table second s c ≡ wrote (c ∷ []) s
-plain-byte e table second s c p =
-    let r : pairEncode e table second c ≡ tokens (c ∷ []) = sym (pair-80 e table second c (p .is-ascii)) ∙ rw (p .no-control) in
+pub plain-byte : (e : ℕ) (look : Lookup) (second : List ℕ) (s c : ℕ) → Plain e s c → pairOf e look second s c ≡ wrote (c ∷ []) s
+plain-byte e look second s c p =
+    let r : pairEncode e look second c ≡ tokens (c ∷ []) = sym (pair-80 e look second c (p .is-ascii)) ∙ rw (p .no-control) in
     ap (λ (q : Result). answered (shiftTo s (pairState e s c q)) (pairState e s c q) q) r ∙
     ap (λ (n : ℕ). answered (shiftTo s n) n (tokens (c ∷ []))) (p .stays) ∙ rw (eq-eqb s s refl)

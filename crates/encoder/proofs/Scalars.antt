@@ -11,12 +11,17 @@ use borrow.Author.Tests.{ltb-true, ltb-false, lt-ltb, le-ltb, le-leb, lt-leb, eq
 use Rattle.standard.specs.Base.{_then_else_, within, every, mapped}
 use Rattle.standard.specs.Indexes.{irregular, countFrom, windows1252}
 use Rattle.standard.specs.Machine.{Result, tokens, error-with}
-use Rattle.standard.specs.Search.{noneOver, first, either, searchFrom, searching, indexPointer, pointerFrom}
+use Rattle.standard.specs.Search.{noneOver, passOver, first, either, searchFrom, Lookup, searching, indexPointer, pointerFrom}
 use Rattle.standard.specs.Encoders.Utf8.{utf8-following, utf8-bytes, utf8Encode}
 use Rattle.standard.specs.Encoders.SingleByte.{orErrorWith, singleByteEncode}
 use Rattle.standard.specs.Encoders.UserDefined.{userDefinedEncode}
 use Rattle.standard.proofs.Search.{search-rule}
 use Rattle.standard.proofs.Tests.{split, and-left, and-right, within-low, within-high, under, above}
+use Rattle.index.specs.IndexCode.{pointerOf}
+use Rattle.index.specs.declared.Found.{Found}
+use Rattle.index.specs.declared.Found.the-variants.{At, Missing}
+use Rattle.reverse_index_spec.specs.ReverseIndex.{lookUp}
+use Rattle.reverse_index_spec.proofs.LookUp.{look-up-sound}
 use Rattle.encoder.specs.WriterCode.{given, utf8Of, pairs, encoderOf}
 
 -- the byte of an answer, or an error that names the scalar
@@ -91,18 +96,30 @@ module _ (c : ℕ) where
       omega (arith, utf8-four-length (omega arith), test-from 0x80 s l e, test-from 0x800 t m d, test-from 0x10000 u n k))))
 
 -- single-byte
-module _ (table : List ℕ) (c : ℕ) where
-  pub single-one : c < 0x80 → tokens (c ∷ []) ≡ singleByteEncode (searching table) c
+module _ (look : Lookup) (c : ℕ) where
+  pub single-one : c < 0x80 → tokens (c ∷ []) ≡ singleByteEncode look c
   unfolding singleByteEncode
   single-one h = rw (lt-ltb c 0x80 h)
 
-  pub single-by : 0x80 ≤ c → {o : Option ℕ} → o ≡ indexPointer table c → orErrorWith o c ≡ singleByteEncode (searching table) c
+  pub single-by : 0x80 ≤ c → {o : Option ℕ} → o ≡ look first noneOver c → {r : Result} → r ≡ orErrorWith o c → r ≡ singleByteEncode look c
   unfolding singleByteEncode
-  single-by h e = rw (le-ltb c 0x80 h, e)
+  single-by h e q = q ∙ rw (le-ltb c 0x80 h, e)
 
-  -- a pointer is below the table's length
-  pub pointer-below : {p : ℕ} → some p ≡ indexPointer table c → p < length table
-  pointer-below {p} e = search-rule first noneOver table c .found p (sym e) .inside
+-- by the pointer that is found
+module _ (found : Found) (c : ℕ) where
+  pub by-at : (p : ℕ) → found ≡ At p → p < 128 → given c (p + 0x80) ≡ orErrorWith (pointerOf found) c
+  by-at p e h = rw e (given-byte c (p + 0x80) (omega arith) refl)
+
+  pub by-missing : found ≡ Missing → given c 256 ≡ orErrorWith (pointerOf found) c
+  by-missing e = rw e
+
+-- a pointer is below the table's length, by a search and by an index
+pub pointer-below : (table : List ℕ) (c : ℕ) {o : Option ℕ} → o ≡ indexPointer table c → length table ≤ 128 → (p : ℕ) → o ≡ some p → p < 128
+pointer-below table c e h p q = omega (arith, search-rule first noneOver table c .found p (sym e ∙ q) .inside, h)
+
+pub looked-below : (table links : List ℕ) (c : ℕ) {o : Option ℕ} → o ≡ lookUp table links first (passOver 1 0) c → length table ≤ 128 →
+    (p : ℕ) → o ≡ some p → p < 128
+looked-below table links c e h p q = omega (arith, look-up-sound table links first (passOver 1 0) c p (sym e ∙ q) .inside, h)
 
 -- windows-1252: the search goes on behind the irregular ones
 pointer-append : (p : ℕ) (xs ys : List ℕ) (c : ℕ) → pointerFrom p (xs ++ ys) c ≡ either first (pointerFrom p xs c) (pointerFrom (length xs + p) ys c)
@@ -233,19 +250,19 @@ pub no-pairs : (e : ℕ) → e ≤ 28 → pairs e ≡ false
 no-pairs e l = under 29 e 35 (omega arith)
 
 -- by the encoding's number
-module _ (e : ℕ) (table : List ℕ) (c : ℕ) where
-  pub of-utf8 : e ≡ 0 → utf8Encode c ≡ encoderOf e table c
+module _ (e : ℕ) (look : Lookup) (c : ℕ) where
+  pub of-utf8 : e ≡ 0 → utf8Encode c ≡ encoderOf e look c
   unfolding encoderOf
   of-utf8 h = rw (eq-eqb e 0 h)
 
-  pub of-windows-1252 : e ≡ 21 → singleByteEncode (searching windows1252) c ≡ encoderOf e table c
+  pub of-windows-1252 : e ≡ 21 → singleByteEncode (searching windows1252) c ≡ encoderOf e look c
   unfolding encoderOf
   of-windows-1252 h = rw h
 
-  pub of-single-byte : (e ≡ 0 → ⊥) → (e ≡ 21 → ⊥) → e ≤ 28 → singleByteEncode (searching table) c ≡ encoderOf e table c
+  pub of-single-byte : (e ≡ 0 → ⊥) → (e ≡ 21 → ⊥) → e ≤ 28 → singleByteEncode look c ≡ encoderOf e look c
   unfolding encoderOf
   of-single-byte h g k = rw (ne-eqb e 0 h, ne-eqb e 21 g, le-leb e 28 k)
 
-  pub of-user-defined : 28 < e → userDefinedEncode c ≡ encoderOf e table c
+  pub of-user-defined : 28 < e → userDefinedEncode c ≡ encoderOf e look c
   unfolding encoderOf
   of-user-defined h = rw (ne-eqb e 0 (omega arith), ne-eqb e 21 (omega arith), lt-leb e 28 h)

@@ -3,19 +3,23 @@
 use mathlib.Core.Path.{_≡_}
 use mathlib.Core.Bool.{Bool, true, false, not, _&&_, _||_}
 use mathlib.Core.List.{List, [], _∷_}
-use Prim.Native.Nat.{ℕ, _+_, _*_, _/_, _%_, _≤_}
+use mathlib.Core.Option.{some}
+use Prim.Native.Nat.{ℕ, _+_, _*_, _/_, _%_, _≤_, _<_}
 use lib.Dec.{ltb, leb, eqb}
 use lib.ListN.{length, getD, set}
 use Rattle.standard.specs.Base.{_then_else_, within, isScalar, scalars, mapped}
 use Rattle.standard.specs.Encodings.{family, Tables, lent, fits}
 use Rattle.standard.specs.Indexes.{windows1252}
 use Rattle.standard.specs.Machine.{Result, tokens, error-with}
-use Rattle.standard.specs.Search.{searching}
+use Rattle.standard.specs.Search.{Lookup, searching}
 use Rattle.standard.specs.Encoders.Utf8.{utf8-bytes, utf8Encode}
 use Rattle.standard.specs.Encoders.SingleByte.{singleByteEncode}
 use Rattle.standard.specs.Encoders.UserDefined.{userDefinedEncode}
 use Rattle.standard.specs.Writers.{stateless}
 use Rattle.standard.specs.Ones.{One, shiftTo, answered, encodeOne}
+use Rattle.index.specs.IndexCode.{pointerOf}
+use Rattle.index.specs.declared.Found.{Found}
+use Rattle.reverse_index_spec.specs.ReverseIndex.{lookUp}
 use Rattle.pair_writers.specs.Pairs.{pairEncode, pairState, cellsOf}
 use Rattle.encoder_spec.specs.Writing.{Writing, writing}
 use Rattle.encoder_spec.specs.Writer.{write}
@@ -44,12 +48,12 @@ pairs e = within 29 e 35
 abbrev pub writes : ℕ → Bool
 writes e = leb e 28 || (pairs e || eqb e 39)
 
--- The encoder of UTF-8 and of the encodings of one byte a scalar, with their table.
-unfoldable pub encoderOf : ℕ → List ℕ → ℕ → Result
-encoderOf e table =
+-- The encoder of UTF-8 and of the encodings of one byte a scalar, with a look-up in their table.
+unfoldable pub encoderOf : ℕ → Lookup → ℕ → Result
+encoderOf e look =
     eqb e 0 then utf8Encode else
     eqb e 21 then singleByteEncode (searching windows1252) else
-    leb e 28 then singleByteEncode (searching table) else
+    leb e 28 then singleByteEncode look else
     userDefinedEncode
 
 -- Its first table: of so many cells where it writes pairs, else of 128 or none.
@@ -65,42 +69,54 @@ tablesFit e t = eqb e 33 then fits (family e) (lent (t .first) []) && eqb (lengt
 abbrev pub plain : (ℕ → Result) → ℕ → ℕ → One
 plain encode = encodeOne (stateless encode)
 
-abbrev pub oneOf : ℕ → List ℕ → ℕ → ℕ → One
-oneOf e table = plain (encoderOf e table)
+abbrev pub oneOf : ℕ → Lookup → ℕ → ℕ → One
+oneOf e look = plain (encoderOf e look)
 
-abbrev pub pairOf : ℕ → List ℕ → List ℕ → ℕ → ℕ → One
-pairOf e table second s c =
-    let r = pairEncode e table second c in
+abbrev pub pairOf : ℕ → Lookup → List ℕ → ℕ → ℕ → One
+pairOf e look second s c =
+    let r = pairEncode e look second c in
     answered (shiftTo s (pairState e s c r)) (pairState e s c r) r
 
-unfoldable pub lentOf : ℕ → Tables → ℕ → ℕ → One
-lentOf e t = pairs e then pairOf e (t .first) (t .second) else oneOf e (t .first)
+unfoldable pub lentOf : Lookup → ℕ → Tables → ℕ → ℕ → One
+lentOf look e t = pairs e then pairOf e look (t .second) else oneOf e look
 
 -- Every slot holds a scalar, times 256, and its byte.
 pub record Slots (encode : ℕ → Result) (slots : List ℕ) : Type 0 where
   pub right : (k : ℕ) → encode (getD slots k 0 / 256) ≡ tokens (getD slots k 0 % 256 ∷ [])
 
+-- A memory of pairs: each number in it is 0, or a scalar of at least 0x80 that the encoder gives two bytes, times 65,536, and those bytes.
+abbrev pub entry : ℕ → ℕ → ℕ → ℕ
+entry c lead trail = c * 65536 + lead * 256 + trail
+
+pub record Recalls (encode : ℕ → Result) (memory : List ℕ) : Type 0 where
+  pub right : (k : ℕ) → (getD memory k 0 ≡ 0 → ⊥) →
+      encode (getD memory k 0 / 65536) ≡ tokens (getD memory k 0 / 256 % 256 ∷ getD memory k 0 % 256 ∷ [])
+
 -- An encoding of one byte a scalar, with its table.
 abbrev pub OneByte : ℕ → List ℕ → Type 0
 OneByte e table = (1 ≤ e) × (length table ≤ 128)
 
--- What a loop of such an encoding is lent: its table, and slots.
-abbrev pub BySlots : ℕ → List ℕ → List ℕ → Type 0
-BySlots e table slots = OneByte e table × Slots (encoderOf e table) slots
+-- What a loop of such an encoding is lent: its table, a reverse index or none, and slots.
+abbrev pub BySlots : ℕ → List ℕ → List ℕ → List ℕ → Type 0
+BySlots e table links slots = OneByte e table × Slots (encoderOf e (lookUp table links)) slots
+
+-- A pointer that is found in a table of 128 cells or fewer.
+abbrev pub Found128 : Found → Type 0
+Found128 found = (p : ℕ) → pointerOf found ≡ some p → p < 128
 
 -- The cell at a pointer put into its slot, where it counts as mapped.
 abbrev pub entered : List ℕ → ℕ → ℕ → List ℕ
 entered slots c p = mapped c then set slots (c % 2048) (c * 256 + (p + 0x80)) else slots
 
 -- What an encoding writes of some scalars: one of one byte a scalar, one of pairs, and any.
-abbrev pub writingOf : ℕ → ℕ → List ℕ → List ℕ → Writing
-writingOf e m table cs = writing (oneOf e table) m 0 cs
+abbrev pub writingOf : Lookup → ℕ → ℕ → List ℕ → Writing
+writingOf look e m cs = writing (oneOf e look) m 0 cs
 
-abbrev pub pairWriting : ℕ → ℕ → ℕ → List ℕ → List ℕ → List ℕ → Writing
-pairWriting e m s table second cs = writing (pairOf e table second) m s cs
+abbrev pub pairWriting : Lookup → ℕ → ℕ → ℕ → List ℕ → List ℕ → Writing
+pairWriting look e m s second cs = writing (pairOf e look second) m s cs
 
-abbrev pub lentWriting : ℕ → ℕ → ℕ → Tables → List ℕ → Writing
-lentWriting e m s t cs = writing (lentOf e t) m s cs
+abbrev pub lentWriting : Lookup → ℕ → ℕ → ℕ → Tables → List ℕ → Writing
+lentWriting look e m s t cs = writing (lentOf look e t) m s cs
 
 -- The bytes that may stand in front of those of one scalar; and the most bytes that it writes of one.
 abbrev pub frontOf : ℕ → ℕ
@@ -133,19 +149,20 @@ pub record Wrote (w : Writing) (room : List ℕ) (answer : Written) (after : Lis
   pub leaves : after ≡ write w room .room
 
 -- The refusal that depends on the scalars, with so many bytes of room, or 0: 8, 10, 7.
-unfoldable pub textRefusal : ℕ → ℕ → ℕ → Tables → List ℕ → ℕ → ℕ
-textRefusal e m s t cs n =
+unfoldable pub textRefusal : Lookup → ℕ → ℕ → ℕ → Tables → List ℕ → ℕ → ℕ
+textRefusal look e m s t cs n =
     ltb 16384 (length cs) then 8 else
     not (scalars cs) then 10 else
-    ltb n (length (lentWriting e m s t cs .bytes)) then 7 else
+    ltb n (length (lentWriting look e m s t cs .bytes)) then 7 else
     0
 
--- The refusal of a call: 2, 3, 5, 9, 4, then those.
-unfoldable pub refusalOf : ℕ → ℕ → ℕ → Tables → List ℕ → ℕ → ℕ
-refusalOf e m s t cs n =
+-- The refusal of a call: 2, 3, 5, 9, 4, 15, then those.
+unfoldable pub refusalOf : Lookup → Bool → ℕ → ℕ → ℕ → Tables → List ℕ → ℕ → ℕ
+refusalOf look right e m s t cs n =
     ltb 39 e then 2 else
     ltb 1 m then 3 else
     ltb 2 s then 5 else
     not (writes e) then 9 else
     not (tablesFit e t) then 4 else
-    textRefusal e m s t cs n
+    not right then 15 else
+    textRefusal look e m s t cs n

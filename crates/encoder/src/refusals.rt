@@ -1,4 +1,4 @@
-// The refusals of the writer's call, in document 01's order: 2, 3, 5, 9, 4, 8, 10, 7.
+// The refusals of the writer's call, in the papers' order: 2, 3, 5, 9, 4, 15, 8, 10, 7.
 
 use crate::writers::count;
 use crate::writers::most;
@@ -10,6 +10,7 @@ ghost use lib.Dec.{ltb};
 ghost use lib.ListN.{length};
 ghost use Rattle.standard.specs.Base.{isScalar, scalars as areScalars};
 ghost use Rattle.standard.specs.Encodings.{lent};
+ghost use Rattle.reverse_index_spec.specs.ReverseIndex.{lookUp};
 ghost use Rattle.encoder.specs.WriterCode.{noScalar, Tabled, tablesFit, lentWriting, textRefusal, refusalOf};
 
 fn is_scalar(c: u32) -> bool
@@ -56,16 +57,18 @@ fn lacks(
     scalars: &[u32],
     t1: &[u32],
     t2: &[u32],
+    links: &[u32],
     room: usize,
 ) -> bool
     requires { ⌜ (areScalars (now scalars) ≡ true) × (length (now scalars) ≤ 16384) × Tabled encoding (now t1) ⌝ }
     ensures { λ r. ⌜ r ≡
-        ltb room (length (lentWriting encoding mode state (lent (now (t1 .entry)) (now (t2 .entry))) (now (scalars .entry)) .bytes)) ⌝ }
+        ltb room (length (lentWriting (lookUp (now (t1 .entry)) (now (links .entry)))
+        encoding mode state (lent (now (t1 .entry)) (now (t2 .entry))) (now (scalars .entry)) .bytes)) ⌝ }
 {
     if scalars.len() * most(encoding, mode) <= room {
         return false;
     }
-    room < count(encoding, mode, state, scalars, t1, t2)
+    room < count(encoding, mode, state, scalars, t1, t2, links)
 }
 
 // The refusal that depends on the scalars, or 0: 8, 10, 7.
@@ -76,10 +79,12 @@ fn text_refusal(
     scalars: &[u32],
     t1: &[u32],
     t2: &[u32],
+    links: &[u32],
     room: usize,
 ) -> u8
     requires { ⌜ Tabled encoding (now t1) ⌝ }
-    ensures { λ r. ⌜ r ≡ textRefusal encoding mode state (lent (now (t1 .entry)) (now (t2 .entry))) (now (scalars .entry)) room ⌝ }
+    ensures { λ r. ⌜ r ≡ textRefusal (lookUp (now (t1 .entry)) (now (links .entry)))
+        encoding mode state (lent (now (t1 .entry)) (now (t2 .entry))) (now (scalars .entry)) room ⌝ }
 {
     if 16384 < scalars.len() {
         return 8;
@@ -87,7 +92,7 @@ fn text_refusal(
     if !all_scalars(scalars) {
         return 10;
     }
-    if lacks(encoding, mode, state, scalars, t1, t2, room) {
+    if lacks(encoding, mode, state, scalars, t1, t2, links, room) {
         return 7;
     }
     0
@@ -106,7 +111,7 @@ fn tables_fit(encoding: u8, t1: &[u32], t2: &[u32]) -> bool
     index::tables_fit(33, t1, &t2[0..0])
 }
 
-// The refusal of a call with so many bytes of room, or 0.
+// The refusal of a call with so many bytes of room, or 0. An index that is lent has the right length, or not.
 pub(crate) fn refusal(
     encoding: u8,
     mode: u8,
@@ -114,9 +119,12 @@ pub(crate) fn refusal(
     scalars: &[u32],
     t1: &[u32],
     t2: &[u32],
+    links: &[u32],
+    right: bool,
     room: usize,
 ) -> u8
-    ensures { λ r. ⌜ r ≡ refusalOf encoding mode state (lent (now (t1 .entry)) (now (t2 .entry))) (now (scalars .entry)) room ⌝ }
+    ensures { λ r. ⌜ r ≡ refusalOf (lookUp (now (t1 .entry)) (now (links .entry))) right
+        encoding mode state (lent (now (t1 .entry)) (now (t2 .entry))) (now (scalars .entry)) room ⌝ }
 {
     if 39 < encoding {
         return 2;
@@ -133,5 +141,8 @@ pub(crate) fn refusal(
     if !tables_fit(encoding, t1, t2) {
         return 4;
     }
-    text_refusal(encoding, mode, state, scalars, t1, t2, room)
+    if !right {
+        return 15;
+    }
+    text_refusal(encoding, mode, state, scalars, t1, t2, links, room)
 }

@@ -6,21 +6,42 @@ ghost use Prim.Native.Nat.{_≤_};
 ghost use lib.ListN.{length};
 ghost use Rattle.standard.specs.Indexes.{windows1252};
 ghost use Rattle.standard.specs.Search.{searching};
-ghost use Rattle.standard.specs.Encoders.SingleByte.{singleByteEncode};
-ghost use Rattle.encoder.specs.WriterCode.{given};
+ghost use Rattle.standard.specs.Encoders.SingleByte.{orErrorWith, singleByteEncode};
+ghost use Rattle.index.specs.IndexCode.{pointerOf};
+ghost use Rattle.reverse_index_spec.specs.ReverseIndex.{lookUp};
+ghost use Rattle.encoder.specs.WriterCode.{given, Found128};
 
-// By a table of 128 cells or fewer: the first cell that counts as mapped and equals the scalar.
-pub(crate) fn byte_of(table: &[u32], c: u32) -> u32
+// The byte of a pointer that is found.
+fn at(found: Found, c: u32) -> u32
+    requires { ⌜ Found128 found ⌝ }
+    ensures { λ r. ⌜ given c r ≡ orErrorWith (pointerOf found) c ⌝ }
+{
+    match found {
+        Found::At(p) => p as u32 + 0x80,
+        Found::Missing => 256,
+    }
+}
+
+// By a table of 128 cells or fewer and a reverse index of any cells, or of none.
+pub(crate) fn byte_of(table: &[u32], links: &[u32], c: u32) -> u32
+    requires { ⌜ length (now table) ≤ 128 ⌝ }
+    ensures { λ r. ⌜ given c r ≡ singleByteEncode (lookUp (now (table .entry)) (now (links .entry))) c ⌝ }
+{
+    if c < 0x80 {
+        return c;
+    }
+    at(reverse_index::pointer_outside(table, links, 1, 0, c), c)
+}
+
+// By a search of a table of 128 cells or fewer: the first cell that counts as mapped and equals the scalar.
+fn searched(table: &[u32], c: u32) -> u32
     requires { ⌜ length (now table) ≤ 128 ⌝ }
     ensures { λ r. ⌜ given c r ≡ singleByteEncode (searching (now (table .entry))) c ⌝ }
 {
     if c < 0x80 {
         return c;
     }
-    match index::pointer(table, c) {
-        Found::At(p) => p as u32 + 0x80,
-        Found::Missing => 256,
-    }
+    at(index::pointer(table, c), c)
 }
 
 // windows-1252: A0 to FF stand for themselves, the others are searched for.
@@ -28,10 +49,10 @@ pub(crate) fn windows_1252(c: u32) -> u32
     ensures { λ r. ⌜ given c r ≡ singleByteEncode (searching windows1252) c ⌝ }
 {
     if c < 0xA0 {
-        return byte_of(&index::IRREGULAR, c);
+        return searched(&index::IRREGULAR, c);
     }
     if c <= 0xFF {
         return c;
     }
-    byte_of(&index::IRREGULAR, c)
+    searched(&index::IRREGULAR, c)
 }

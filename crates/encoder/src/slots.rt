@@ -6,6 +6,7 @@ ghost use lib.ListN.{length, replicate};
 ghost use Rattle.standard.specs.Indexes.{windows1252};
 ghost use Rattle.standard.specs.Search.{searching};
 ghost use Rattle.standard.specs.Encoders.SingleByte.{singleByteEncode};
+ghost use Rattle.reverse_index_spec.specs.ReverseIndex.{lookUp};
 ghost use Rattle.encoder.specs.WriterCode.{given, encoderOf, Slots, OneByte, BySlots, entered};
 
 // The cell at a pointer, put into its slot where it counts as mapped.
@@ -59,7 +60,7 @@ pub(crate) fn least(encoding: u8) -> usize
 // The slots of an encoding, from empty ones.
 pub(crate) fn fill(encoding: u8, table: &[u32], slots: &mut [u32])
     requires { ⌜ OneByte encoding (now table) × (now slots ≡ replicate 2048 0) ⌝ }
-    ensures { λ r. ⌜ Slots (encoderOf encoding (now (table .entry))) (now (slots .exit)) ⌝ }
+    ensures { λ r. ⌜ Slots (encoderOf encoding (searching (now (table .entry)))) (now (slots .exit)) ⌝ }
 {
     if 28 < encoding {
         return;
@@ -72,20 +73,20 @@ pub(crate) fn fill(encoding: u8, table: &[u32], slots: &mut [u32])
     fill_table(table, slots);
 }
 
-// The byte of a scalar in an encoding of one byte a scalar, by its slot or by a search; 256 stands for an unwritable scalar.
-pub(crate) fn byte_of(encoding: u8, table: &[u32], slots: &[u32], c: u32) -> u32
-    requires { ⌜ BySlots encoding (now table) (now slots) ⌝ }
-    ensures { λ r. ⌜ given c r ≡ encoderOf encoding (now (table .entry)) c ⌝ }
+// The byte of a scalar in an encoding of one byte a scalar, by its slot or looked up; 256 stands for an unwritable scalar.
+pub(crate) fn byte_of(encoding: u8, table: &[u32], links: &[u32], slots: &[u32], c: u32) -> u32
+    requires { ⌜ BySlots encoding (now table) (now links) (now slots) ⌝ }
+    ensures { λ r. ⌜ given c r ≡ encoderOf encoding (lookUp (now (table .entry)) (now (links .entry))) c ⌝ }
 {
     if c < 0x80 {
         return c;
     }
     if slots.len() != 2048 {
-        return crate::one_byte::byte_of(encoding, table, c);
+        return crate::one_byte::byte_of(encoding, table, links, c);
     }
     let s = slots[(c % 2048) as usize];
     if s / 256 == c {
         return s % 256;
     }
-    crate::one_byte::byte_of(encoding, table, c)
+    crate::one_byte::byte_of(encoding, table, links, c)
 }

@@ -7,6 +7,7 @@ ghost use Prim.Native.Nat.{_≤_};
 ghost use lib.ListN.{length};
 ghost use Rattle.standard.specs.Base.{scalars as areScalars};
 ghost use Rattle.standard.specs.Encodings.{lent};
+ghost use Rattle.reverse_index_spec.specs.ReverseIndex.{lookUp};
 ghost use Rattle.encoder.specs.WriterCode.{pairs, writes, Tabled, lentWriting, frontOf, mostOf, handedBack, Space, Wrote};
 
 // Does this encoding write pairs?
@@ -72,17 +73,19 @@ pub(crate) fn count(
     scalars: &[u32],
     t1: &[u32],
     t2: &[u32],
+    links: &[u32],
 ) -> usize
     requires { ⌜ (areScalars (now scalars) ≡ true) × (length (now scalars) ≤ 16384) × Tabled encoding (now t1) ⌝ }
-    ensures { λ r. ⌜ r ≡ length (lentWriting encoding mode state (lent (now (t1 .entry)) (now (t2 .entry))) (now (scalars .entry)) .bytes) ⌝ }
+    ensures { λ r. ⌜ r ≡ length (lentWriting (lookUp (now (t1 .entry)) (now (links .entry)))
+        encoding mode state (lent (now (t1 .entry)) (now (t2 .entry))) (now (scalars .entry)) .bytes) ⌝ }
 {
     if encoding == 0 {
         return crate::utf8::count(scalars);
     }
     if pairs(encoding) {
-        return crate::pairs::count(encoding, mode, state, scalars, t1, t2);
+        return crate::pairs::count(encoding, mode, state, scalars, t1, links, t2);
     }
-    crate::one_byte::count(encoding, mode, scalars, t1)
+    crate::one_byte::count(encoding, mode, scalars, t1, links)
 }
 
 // An answer of a writer without a state, which hands it back.
@@ -105,11 +108,13 @@ pub(crate) fn write(
     scalars: &[u32],
     t1: &[u32],
     t2: &[u32],
+    links: &[u32],
     room: &mut [u8],
 ) -> Written
     requires { ⌜ (areScalars (now scalars) ≡ true) × (length (now scalars) ≤ 16384) × Tabled encoding (now t1) ⌝ }
-    requires { ⌜ Space (lentWriting encoding mode state (lent (now t1) (now t2)) (now scalars)) (now room) ⌝ }
-    ensures { λ r. ⌜ Wrote (lentWriting encoding mode state (lent (now (t1 .entry)) (now (t2 .entry))) (now (scalars .entry)))
+    requires { ⌜ Space (lentWriting (lookUp (now t1) (now links)) encoding mode state (lent (now t1) (now t2)) (now scalars)) (now room) ⌝ }
+    ensures { λ r. ⌜ Wrote (lentWriting (lookUp (now (t1 .entry)) (now (links .entry)))
+        encoding mode state (lent (now (t1 .entry)) (now (t2 .entry))) (now (scalars .entry)))
         (now (room .entry)) r (now (room .exit)) ⌝ }
 {
     if encoding == 0 {
@@ -122,8 +127,8 @@ pub(crate) fn write(
         };
     }
     if pairs(encoding) {
-        return crate::pairs::write(encoding, mode, state, scalars, t1, t2, room);
+        return crate::pairs::write(encoding, mode, state, scalars, t1, links, t2, room);
     }
-    let w = crate::one_byte::write(encoding, mode, scalars, t1, room);
+    let w = crate::one_byte::write(encoding, mode, scalars, t1, links, room);
     handed_back(w, state)
 }

@@ -11,14 +11,15 @@ use lib.Seq.{take-append-seam}
 use borrow.Author.Tests.{not-false}
 use Rattle.standard.specs.Base.{every, isScalar, scalars}
 use Rattle.standard.specs.Encodings.{Tables}
+use Rattle.standard.specs.Search.{Lookup, searching}
 use Rattle.standard.specs.Writers.{Writer, writerOf, writerFits}
 use Rattle.standard.specs.Ones.{One}
 use Rattle.standard.proofs.Tests.{choose, and-both}
 use Rattle.encoder_spec.specs.Writing.{Fault, Writing, later, writing}
 use Rattle.encoder_spec.specs.Pieces.{follow}
-use Rattle.encoder_spec.specs.Writer.{Outcome, refuse, write, lentOne, writerCall}
-use Rattle.encoder_spec.specs.Calls.{Piece, Calling, callsOf, allScalars, Account, counted, andThen, account, accepted}
-use Rattle.encoder_spec.specs.Calls.{indexOf, onePiece, CutCalls}
+use Rattle.encoder_spec.specs.Writer.{Outcome, refuse, write, oneBy, callBy, writerCall}
+use Rattle.encoder_spec.specs.Calls.{Piece, Calling, callsBy, callsOf, allScalars, Account, counted, andThen, account, accepted}
+use Rattle.encoder_spec.specs.Calls.{indexOf, onePiece, CutBy, CutCalls}
 use Rattle.encoder_spec.proofs.Pieces.{cut}
 
 -- A call is refused, or it writes; w is what would be written. A call that writes has tables that fit, and scalars.
@@ -26,23 +27,25 @@ pub data Called (fit : Bool) (cs : List ℕ) (w : Writing) (room : List ℕ) (s 
   refused : (n : ℕ) → eqb n 11 ≡ false → eqb n 0 ≡ false → Called fit cs w room s (refuse n s room)
   writes : fit ≡ true → scalars cs ≡ true → Called fit cs w room s (write w room)
 
-module _ (e m s : ℕ) (t : Tables) (w : Writer) (cs room : List ℕ) (known : writerOf e ≡ some w) where
+module _ (look : Lookup) (right : Bool) (e m s : ℕ) (t : Tables) (w : Writer) (cs room : List ℕ) (known : writerOf e ≡ some w) where
   abbrev W : Writing
-  W = writing (lentOne w t) m s cs
+  W = writing (oneBy w look t) m s cs
 
   abbrev C : Outcome → Type 0
   C = Called (writerFits w t) cs W room s
 
-  pub called : C (writerCall e m s t cs room)
-  unfolding writerCall
+  pub called : C (callBy look right e m s t cs room)
+  unfolding callBy
   called =
       choose C (ltb 39 e) (λ _. refused 2 refl refl) (λ _.
       choose C (ltb 1 m) (λ _. refused 3 refl refl) (λ _.
       choose C (ltb 2 s) (λ _. refused 5 refl refl) (λ _.
       rw known (choose C (writerFits w t) (λ f.
+      choose C right (λ _.
       choose C (ltb 16384 (length cs)) (λ _. refused 8 refl refl) (λ _.
       choose C (not (scalars cs)) (λ _. refused 10 refl refl) (λ v.
       choose C (ltb (length room) (length (W .bytes))) (λ _. refused 7 refl refl) (λ _. writes f (not-false (scalars cs) v)))))
+      (λ _. refused 15 refl refl))
       (λ _. refused 4 refl refl)))))
 
 -- one call, and those after it
@@ -91,18 +94,18 @@ step n w room v acc r ih h = go (w .unwritable) h
 none-refused : {A : Type 0} (acc : ℕ → Bool) (n s : ℕ) (room : List ℕ) → eqb n 11 ≡ false → eqb n 0 ≡ false → Goes acc (refuse n s room) → A
 none-refused acc n s room a b h = let f : false ≡ true = rw (a, b) at h in let z : _≡_ {A = ℕ} 0 1 = cc in absurd (omega arith)
 
-module _ (w : Writer) (e m : ℕ) (t : Tables) (known : writerOf e ≡ some w) where
+module _ (look : Lookup) (right : Bool) (w : Writer) (e m : ℕ) (t : Tables) (known : writerOf e ≡ some w) where
   abbrev call : Calling
-  call = callsOf e m t
+  call = callsBy look right e m t
 
   abbrev one : ℕ → ℕ → One
-  one = lentOne w t
+  one = oneBy w look t
 
   pub as-one-piece : (s : ℕ) (ps : List Piece) → accepted call s ps ≡ true → account call s ps ≡ onePiece (writing one m s (allScalars ps))
   unfolding account accepted allScalars writing
   as-one-piece s [] h = refl
   as-one-piece s (p ∷ ps) h =
-      go (call s p) (called e m s t w (p .scalars) (p .room) known) h (λ s′ a. as-one-piece s′ ps a) ∙
+      go (call s p) (called look right e m s t w (p .scalars) (p .room) known) h (λ s′ a. as-one-piece s′ ps a) ∙
       ap onePiece (sym (cut one m s (p .scalars) (allScalars ps)))
     where
       go : (o : Outcome) → Called (writerFits w t) (p .scalars) (writing one m s (p .scalars)) (p .room) s o →
@@ -115,8 +118,8 @@ module _ (w : Writer) (e m : ℕ) (t : Tables) (known : writerOf e ≡ some w) w
           step (length (p .scalars)) (writing one m s (p .scalars)) (p .room) (λ s′. writing one m s′ (allScalars ps))
           (λ s′. accepted call s′ ps) (λ s′. account call s′ ps) ih h
 
-  pub cut-calls : (s : ℕ) (ps : List Piece) → accepted call s ps ≡ true → CutCalls w e m t s ps
-  cut-calls s ps h = record {
+  pub cut-by : (s : ℕ) (ps : List Piece) → accepted call s ps ≡ true → CutBy call one m s ps
+  cut-by s ps h = record {
     as-one-piece = as-one-piece s ps h;
     as-another = λ qs q a. as-one-piece s qs a ∙ ap (λ (cs : List ℕ). onePiece (writing one m s cs)) q ∙ sym (as-one-piece s ps h);
   }
@@ -139,7 +142,7 @@ module _ (w : Writer) (e m : ℕ) (t : Tables) (known : writerOf e ≡ some w) w
   unfolding account accepted allScalars every
   all-scalars s [] h u = refl
   all-scalars s (p ∷ ps) h u =
-      go (call s p) (called e m s t w (p .scalars) (p .room) known) h u (λ s′ a b. all-scalars s′ ps a b)
+      go (call s p) (called look right e m s t w (p .scalars) (p .room) known) h u (λ s′ a b. all-scalars s′ ps a b)
     where
       wrote : (v : Writing) (o : Option Fault) → scalars (p .scalars) ≡ true →
           Goes (λ s′. accepted call s′ ps) (write (record { bytes = v .bytes; state = v .state; unwritable = o }) (p .room)) →
@@ -156,3 +159,9 @@ module _ (w : Writer) (e m : ℕ) (t : Tables) (known : writerOf e ≡ some w) w
           Rest ps → scalars (p .scalars ++ allScalars ps) ≡ true
       go o (refused n a b) h u ih = none-refused (λ s′. accepted call s′ ps) n s (p .room) a b h
       go o (writes f c) h u ih = wrote (writing one m s (p .scalars)) (writing one m s (p .scalars) .unwritable) c h u ih
+
+-- by a search
+pub cut-calls : (w : Writer) (e m : ℕ) (t : Tables) → writerOf e ≡ some w → (s : ℕ) (ps : List Piece) →
+    accepted (callsOf e m t) s ps ≡ true → CutCalls w e m t s ps
+unfolding writerCall
+cut-calls w e m t known s ps h = cut-by (searching (t .first)) true w e m t known s ps h

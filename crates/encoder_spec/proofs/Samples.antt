@@ -15,12 +15,12 @@ use Rattle.standard.specs.Encoders.EucKr.{eucKrEncode}
 use Rattle.standard.specs.Writers.{writerOf}
 use Rattle.standard.specs.Ones.{iso2022JpEncode}
 use Rattle.encoder_spec.specs.Writing.{writing}
-use Rattle.encoder_spec.specs.Writer.{writerCall, writerFinish}
+use Rattle.encoder_spec.specs.Writer.{callBy, writerCall, writerFinish}
 use Rattle.encoder_spec.specs.Samples.{Samples, JapaneseSamples, ChineseSamples, IsoSamples}
 
 pub samples : Samples
 unfolding every traits fits irregular countFrom windows1252 digits reference searchFrom utf8-following utf8-bytes utf8Encode
-    singleByteEncode writerOf writing writerCall
+    singleByteEncode writerOf writing callBy writerCall
 samples = record {
   sample-15-html = refl;
   sample-15-refusing = refl;
@@ -44,11 +44,14 @@ samples = record {
   16384-pass-8 = refl;
   10-before-7 = refl;
   10-before-11 = refl;
+  9-before-15 = refl;
+  4-before-15 = refl;
+  15-before-8 = refl;
   7-before-11 = refl;
 }
 
 pub japanese-samples : JapaneseSamples
-unfolding every traits fits digits reference searchFrom eucJpEncode shiftJisEncode writerOf writing writerCall
+unfolding every traits fits digits reference searchFrom eucJpEncode shiftJisEncode writerOf writing callBy writerCall
 japanese-samples = record {
   shift-jis-writes = refl;
   euc-jp-writes = refl;
@@ -63,7 +66,7 @@ japanese-samples = record {
 
 pub chinese-samples : ChineseSamples
 unfolding every traits fits lastPair rangesCodePoint rangesPointer searchFrom gb18030Encode big5Encode eucKrEncode writerOf writing
-    writerCall
+    callBy writerCall
 chinese-samples = record {
   gbk-writes = refl;
   gb18030-writes = refl;
@@ -79,7 +82,7 @@ chinese-samples = record {
 }
 
 pub iso-samples : IsoSamples
-unfolding every traits fits digits reference indexCodePoint searchFrom iso2022JpEncode writerOf writing writerCall writerFinish
+unfolding every traits fits digits reference indexCodePoint searchFrom iso2022JpEncode writerOf writing callBy writerCall writerFinish
 iso-samples = record {
   iso-writes = refl;
   no-katakana = refl;

@@ -8,9 +8,11 @@ use lib.Dec.{eqb}
 use lib.ListN.{length, take}
 use Rattle.standard.specs.Base.{_then_else_}
 use Rattle.standard.specs.Encodings.{Tables}
+use Rattle.standard.specs.Search.{Lookup}
 use Rattle.standard.specs.Writers.{Writer}
+use Rattle.standard.specs.Ones.{One}
 use Rattle.encoder_spec.specs.Writing.{Fault, Writing, writing}
-use Rattle.encoder_spec.specs.Writer.{Outcome, lentOne, writerCall}
+use Rattle.encoder_spec.specs.Writer.{Outcome, lentOne, callBy, writerCall}
 
 -- A call of a list: its scalars, and its room. The list has one encoding, one mode and the same tables throughout: what such a call
 -- leaves, from a state, is a function of these two.
@@ -20,6 +22,10 @@ pub record Piece : Type 0 where
 
 abbrev pub Calling : Type 0
 Calling = ℕ → Piece → Outcome
+
+-- by a look-up, and by a search of the first table
+abbrev pub callsBy : Lookup → Bool → ℕ → ℕ → Tables → Calling
+callsBy look right e m t s p = callBy look right e m s t (p .scalars) (p .room)
 
 abbrev pub callsOf : ℕ → ℕ → Tables → Calling
 callsOf e m t s p = writerCall e m s t (p .scalars) (p .room)
@@ -68,10 +74,13 @@ indexOf (some f) = some (f .index)
 abbrev pub onePiece : Writing → Account
 onePiece w = record { output = w .bytes; state = w .state; report = indexOf (w .unwritable) }
 
--- Over any cutting of the scalars into accepted calls, for every writer, from any state:
-pub record CutCalls (w : Writer) (e m : ℕ) (t : Tables) (s : ℕ) (ps : List Piece) : Type 0 where
+-- Over any cutting of the scalars into accepted calls, for every writer of single scalars, from any state:
+pub record CutBy (call : Calling) (one : ℕ → ℕ → One) (m s : ℕ) (ps : List Piece) : Type 0 where
   -- joined output, state and report are those of the scalars written in one piece
-  pub as-one-piece : account (callsOf e m t) s ps ≡ onePiece (writing (lentOne w t) m s (allScalars ps))
+  pub as-one-piece : account call s ps ≡ onePiece (writing one m s (allScalars ps))
   -- and so those of any other cutting
-  pub as-another : (qs : List Piece) → allScalars qs ≡ allScalars ps → accepted (callsOf e m t) s qs ≡ true →
-      account (callsOf e m t) s qs ≡ account (callsOf e m t) s ps
+  pub as-another : (qs : List Piece) → allScalars qs ≡ allScalars ps → accepted call s qs ≡ true → account call s qs ≡ account call s ps
+
+-- The writer's calls, for every writer.
+abbrev pub CutCalls : Writer → ℕ → ℕ → Tables → ℕ → List Piece → Type 0
+CutCalls w e m t s ps = CutBy (callsOf e m t) (lentOne w t) m s ps

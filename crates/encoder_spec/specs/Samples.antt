@@ -1,12 +1,14 @@
 -- Samples of the writer's call: sample 15 of document 01, the order of the refusals, and what document 02 says of Shift_JIS and EUC-JP, of
 -- the tables of the Chinese and Korean encodings, and of ISO-2022-JP with its state and finish. Assumes nothing.
 use mathlib.Core.Path.{_≡_}
+use mathlib.Core.Bool.{false}
 use mathlib.Core.List.{List, [], _∷_, _++_}
 use Prim.Native.Nat.{ℕ}
 use lib.ListN.{length, drop, replicate}
 use Rattle.standard.specs.Encodings.{lent, noTables}
+use Rattle.standard.specs.Search.{searching}
 use Rattle.standard.specs.Encoders.Samples.{table, jis0208}
-use Rattle.encoder_spec.specs.Writer.{Outcome, writerCall, writerFinish}
+use Rattle.encoder_spec.specs.Writer.{Outcome, callBy, writerCall, writerFinish}
 
 -- a lent room of eight cells, and what a call leaves of it, in a state and in state 0
 abbrev pub eight : List ℕ
@@ -60,6 +62,10 @@ pub record Samples : Type 0 where
   pub 16384-pass-8 : writerCall 0 0 0 noTables (replicate 16384 0xD800) [] ≡ leaves 0 0 10 []
   pub 10-before-7 : writerCall 0 0 0 noTables (0x41 ∷ 0xD800 ∷ []) [] ≡ leaves 0 0 10 []
   pub 10-before-11 : writerCall 21 1 0 noTables (0x4E00 ∷ 0xD800 ∷ []) [] ≡ leaves 0 0 10 []
+  -- (02) an index of the wrong length: 9 and 4 come before it, 8, 10 and 7 behind it
+  pub 9-before-15 : callBy (searching []) false 36 0 0 noTables [] [] ≡ leaves 0 0 9 []
+  pub 4-before-15 : callBy (searching []) false 1 0 0 noTables [] [] ≡ leaves 0 0 4 []
+  pub 15-before-8 : callBy (searching []) false 0 0 1 noTables (replicate 16385 0xD800) [] ≡ leavesIn 1 0 0 15 []
   pub 7-before-11 : writerCall 21 1 0 noTables (0x41 ∷ 0x4E00 ∷ []) [] ≡ leaves 0 0 7 []
 
 -- Document 02, Ask 5; the cells that each encoder finds are sampled beside it, in `standard/specs/Encoders/Samples.antt`.

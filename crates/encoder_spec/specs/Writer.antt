@@ -1,6 +1,6 @@
--- Document 01, "Writing rules", and 02, Ask 6: what the writer and its finish answer: refusal, bytes written, the unwritable scalar's index,
+-- Document 01, "Writing rules", and 02, Asks 6 and 8: what the writer and its finish answer: refusal, bytes written, the unwritable scalar's index,
 -- the state, and the room afterwards. Assumes nothing.
-use mathlib.Core.Bool.{not}
+use mathlib.Core.Bool.{Bool, true, not}
 use mathlib.Core.List.{List, _++_}
 use mathlib.Core.Option.{Option, some, none}
 use Prim.Native.Nat.{ℕ}
@@ -8,7 +8,7 @@ use lib.Dec.{ltb}
 use lib.ListN.{length, drop}
 use Rattle.standard.specs.Base.{_then_else_, scalars}
 use Rattle.standard.specs.Encodings.{Tables}
-use Rattle.standard.specs.Search.{searching}
+use Rattle.standard.specs.Search.{Lookup, searching}
 use Rattle.standard.specs.Writers.{Writer, writerOf, coding, writerFits}
 use Rattle.standard.specs.Ones.{One, encodeOne, finishBytes}
 use Rattle.encoder_spec.specs.Writing.{Fault, Writing, writing}
@@ -42,22 +42,30 @@ writeAccepted one m s cs room =
     ltb (length room) (length (writing one m s cs .bytes)) then refuse 7 s room else
     write (writing one m s cs) room
 
--- one scalar in a state, by a search of the first table that is lent
+-- one scalar in a state, by a look-up in the first table that is lent; and by a search of it
+abbrev pub oneBy : Writer → Lookup → Tables → ℕ → ℕ → One
+oneBy w look t = encodeOne (coding w look (t .second))
+
 abbrev pub lentOne : Writer → Tables → ℕ → ℕ → One
-lentOne w t = encodeOne (coding w (searching (t .first)) (t .second))
+lentOne w t = oneBy w (searching (t .first)) t
 
--- 9, 4, then those
-abbrev pub writeBy : Option Writer → ℕ → ℕ → Tables → List ℕ → List ℕ → Outcome
-writeBy none m s t cs room = refuse 9 s room
-writeBy (some w) m s t cs room = writerFits w t then writeAccepted (lentOne w t) m s cs room else refuse 4 s room
+-- 9, 4, (02) 15 where an index of the wrong length is lent, then those
+abbrev pub writeBy : Lookup → Bool → Option Writer → ℕ → ℕ → Tables → List ℕ → List ℕ → Outcome
+writeBy look right none m s t cs room = refuse 9 s room
+writeBy look right (some w) m s t cs room =
+    writerFits w t then (right then writeAccepted (oneBy w look t) m s cs room else refuse 15 s room) else refuse 4 s room
 
--- Writing from a state: 2, 3, (02) 5 for every encoding, then those.
-unfoldable pub writerCall : ℕ → ℕ → ℕ → Tables → List ℕ → List ℕ → Outcome
-writerCall e m s t cs room =
+-- Writing from a state, by a look-up in the first table: 2, 3, (02) 5 for every encoding, then those.
+unfoldable pub callBy : Lookup → Bool → ℕ → ℕ → ℕ → Tables → List ℕ → List ℕ → Outcome
+callBy look right e m s t cs room =
     ltb 39 e then refuse 2 s room else
     ltb 1 m then refuse 3 s room else
     ltb 2 s then refuse 5 s room else
-    writeBy (writerOf e) m s t cs room
+    writeBy look right (writerOf e) m s t cs room
+
+-- The writer's call: by a search, with no index to refuse.
+unfoldable pub writerCall : ℕ → ℕ → ℕ → Tables → List ℕ → List ℕ → Outcome
+writerCall e m s t cs room = callBy (searching (t .first)) true e m s t cs room
 
 -- (02) A finish returns to ASCII, whatever the encoding: it sees the state only. 5, 7.
 unfoldable pub writerFinish : ℕ → List ℕ → Outcome

@@ -4,10 +4,12 @@ ghost use mathlib.Core.Path.{_≡_};
 ghost use Rattle.standard.specs.Encodings.{lent};
 ghost use Rattle.labels_spec.specs.Labels.{label, naming};
 ghost use Rattle.index_spec.specs.IndexCall.{indexLine};
+ghost use Rattle.reverse_index_spec.specs.Calls.{indexSize, building, indexedLine};
 ghost use Rattle.decoder.specs.Calls.{opening, feeding, finishing};
 ghost use Rattle.in_place.specs.Replies.{Leaves};
 ghost use Rattle.clean.specs.Checking.{checking};
 ghost use Rattle.encoder_spec.specs.Writer.{writerCall, writerFinish};
+ghost use Rattle.indexed_writing.specs.Call.{indexedCall};
 ghost use Rattle.list_spec.specs.ListCall.{listCall};
 use clean::Checked;
 use decoder::Answer;
@@ -19,12 +21,12 @@ use labels_spec::Found;
 use labels_spec::Named;
 use list_spec::Listed;
 
-// The version of the library, 0.8.0: 10,000 times major, 100 times minor, and patch.
+// The version of the library, 0.9.0: 10,000 times major, 100 times minor, and patch.
 #[no_mangle]
 pub extern "C" fn hamvukile_version() -> u32
-    ensures { λ r. ⌜ r ≡ 800 ⌝ }
+    ensures { λ r. ⌜ r ≡ 900 ⌝ }
 {
-    800
+    900
 }
 
 // The label call.
@@ -51,6 +53,37 @@ pub extern "C" fn hamvukile_index_line(line: &[u8], table: &mut [u32]) -> Line
         (now (table .exit) ≡ indexLine (now (line .entry)) (now (table .entry)) .table) ⌝ }
 {
     index::index_line(line, table)
+}
+
+// The cells of an index.
+#[no_mangle]
+pub extern "C" fn hamvukile_index_size(cells: usize) -> usize
+    ensures { λ r. ⌜ r ≡ indexSize cells ⌝ }
+{
+    reverse_index::size(cells)
+}
+
+// Building an index.
+#[no_mangle]
+pub extern "C" fn hamvukile_build_index(encoding: u8, first: &[u32], index: &mut [u32]) -> u8
+    ensures { λ r. ⌜ (r ≡ building encoding (now (first .entry)) (now (index .entry)) .refusal) ×
+        (now (index .exit) ≡ building encoding (now (first .entry)) (now (index .entry)) .index) ⌝ }
+{
+    reverse_index::build(encoding, first, index)
+}
+
+// The index line call with an index.
+#[no_mangle]
+pub extern "C" fn hamvukile_index_line_indexed(
+    line: &[u8],
+    table: &mut [u32],
+    index: &mut [u32],
+) -> Line
+    ensures { λ r. ⌜ (r ≡ indexedLine (now (line .entry)) (now (table .entry)) (now (index .entry)) .answer) ×
+        (now (table .exit) ≡ indexedLine (now (line .entry)) (now (table .entry)) (now (index .entry)) .table) ×
+        (now (index .exit) ≡ indexedLine (now (line .entry)) (now (table .entry)) (now (index .entry)) .index) ⌝ }
+{
+    reverse_index::index_line(line, table, index)
 }
 
 // Opening.
@@ -152,6 +185,26 @@ pub extern "C" fn hamvukile_encode(
         (now (scalars .entry)) (now (room .entry)) .room) ⌝ }
 {
     encoder::encode(encoding, mode, state, scalars, first, second, room)
+}
+
+// Writing with an index.
+#[no_mangle]
+pub extern "C" fn hamvukile_encode_indexed(
+    encoding: u8,
+    mode: u8,
+    state: u8,
+    scalars: &[u32],
+    first: &[u32],
+    second: &[u32],
+    index: &[u32],
+    room: &mut [u8],
+) -> Written
+    ensures { λ r. ⌜ (r ≡ indexedCall encoding mode state (lent (now (first .entry)) (now (second .entry)))
+        (now (index .entry)) (now (scalars .entry)) (now (room .entry)) .answer) ×
+        (now (room .exit) ≡ indexedCall encoding mode state (lent (now (first .entry)) (now (second .entry)))
+        (now (index .entry)) (now (scalars .entry)) (now (room .entry)) .room) ⌝ }
+{
+    encoder::encode_indexed(encoding, mode, state, scalars, first, second, index, room)
 }
 
 // The finish of a writing.

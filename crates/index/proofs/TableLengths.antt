@@ -1,11 +1,11 @@
 -- The lengths of lent tables, by the tests of an encoding number. Assumes nothing.
 use mathlib.Core.Path.{_≡_, refl}
-use mathlib.Core.Bool.{false}
+use mathlib.Core.Bool.{true, false}
 use Prim.Native.Nat.{ℕ, _≤_, _<_}
 use native.Mathlib.Omega.{arith}
 use lib.Dec.{eqb}
 use lib.ListN.{length}
-use borrow.Author.Tests.{eqb-true, eqb-false, eq-eqb, ne-eqb}
+use borrow.Author.Tests.{eqb-true, eqb-false}
 use Rattle.standard.specs.Encodings.{family, traits, secondFits, Tables, fits}
 use Rattle.standard.proofs.Families.{by-family, family-single-byte, family-gb18030}
 use Rattle.standard.proofs.Tests.{split}
@@ -74,10 +74,10 @@ module _ (e : ℕ) where
 
   -- both
   module _ (t : Tables) where
-    pub fits-first : length (t .first) ≡ traits (family e) .first → secondFits (traits (family e) .second) (length (t .second)) ≡ fits (family e) t
+    pub fits-first : eqb (length (t .first)) (traits (family e) .first) ≡ true → secondFits (traits (family e) .second) (length (t .second)) ≡ fits (family e) t
     unfolding fits
-    fits-first h = rw (eq-eqb (length (t .first)) (traits (family e) .first) h)
+    fits-first h = rw h
 
-    pub fits-not : (length (t .first) ≡ traits (family e) .first → ⊥) → false ≡ fits (family e) t
+    pub fits-not : eqb (length (t .first)) (traits (family e) .first) ≡ false → false ≡ fits (family e) t
     unfolding fits
-    fits-not h = rw (ne-eqb (length (t .first)) (traits (family e) .first) h)
+    fits-not h = rw h

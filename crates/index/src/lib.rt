@@ -51,7 +51,7 @@ pub enum Found {
 ghost use mathlib.Core.Path.{_≡_};
 ghost use mathlib.Core.Bool.{true, not, _&&_};
 ghost use Rattle.standard.specs.Base.{_then_else_, within, mapped};
-ghost use Rattle.standard.specs.Encodings.{family, fits, lent};
+ghost use Rattle.standard.specs.Encodings.{family, traits, fits, lent};
 ghost use Rattle.standard.specs.Sequence.{cell};
 ghost use Rattle.standard.specs.Search.{passOver, first, last, search, indexPointer, pointerFrom};
 ghost use Rattle.index_spec.specs.IndexRead.{entry};
@@ -180,7 +180,7 @@ pub fn pointer_outside(table: &[u32], low: u32, high: u32, c: u32) -> Found
 }
 
 // Is a cell the code point, counting as mapped, and its pointer not from low to high?
-fn hits(low: usize, high: usize, p: usize, x: u32, c: u32) -> bool
+pub fn hits(low: usize, high: usize, p: usize, x: u32, c: u32) -> bool
     ensures { λ r. ⌜ r ≡ (not (within low p high) && (mapped x && eqb x c)) ⌝ }
 {
     if x != c {
@@ -209,11 +209,18 @@ pub fn last_outside(table: &[u32], low: u32, high: u32, c: u32) -> Found
     Found::Missing
 }
 
+// Is the first table's length as it must be for an encoding?
+pub fn first_fits(encoding: u8, first: &[u32]) -> bool
+    ensures { λ r. ⌜ r ≡ eqb (length (now (first .entry))) (traits (family encoding) .first) ⌝ }
+{
+    first.len() == lengths::first_cells(encoding)
+}
+
 // Are the lent tables' lengths as they must be for an encoding?
 pub fn tables_fit(encoding: u8, first: &[u32], second: &[u32]) -> bool
     ensures { λ r. ⌜ r ≡ fits (family encoding) (lent (now (first .entry)) (now (second .entry))) ⌝ }
 {
-    if first.len() == lengths::first_cells(encoding) {
+    if first_fits(encoding, first) {
         return lengths::second_fits(encoding, second.len());
     }
     false

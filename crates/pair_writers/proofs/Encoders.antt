@@ -3,15 +3,15 @@ use mathlib.Core.Path.{_≡_, refl, sym, ap, _∙_}
 use mathlib.Core.Bool.{Bool, true, false, not, _&&_, _||_, and-false}
 use mathlib.Core.List.{List, [], _∷_}
 use mathlib.Core.Option.{Option, some, none}
-use Prim.Native.Nat.{ℕ, suc, _+_, _-_, _≤_, _<_}
+use Prim.Native.Nat.{ℕ, _+_, _-_, _≤_, _<_}
 use native.Mathlib.Omega.{arith}
-use lib.Dec.{ltb, leb, eqb}
+use lib.Dec.{leb, eqb}
 use lib.ListN.{length}
-use borrow.Author.Tests.{ltb-true, ltb-false, lt-ltb, le-ltb, le-leb, lt-leb, eqb-true, eqb-false, eq-eqb, ne-eqb}
+use borrow.Author.Tests.{lt-ltb, le-ltb, le-leb, lt-leb, eqb-true, eqb-false, eq-eqb, ne-eqb}
 use Rattle.standard.specs.Base.{_then_else_, within}
 use Rattle.standard.specs.Machine.{Result, tokens, error-with}
 use Rattle.standard.specs.Layouts.{Layout}
-use Rattle.standard.specs.Search.{noneOver, passOver, Side, first, last, Lookup, searchFrom, search, searching}
+use Rattle.standard.specs.Search.{PassedOver, passOver, Side, first, last, search, Lookup}
 use Rattle.standard.specs.Encoders.Pairs.{pairOrErrorWith, minus}
 use Rattle.standard.specs.Encoders.Gb18030.{gb18030Encode}
 use Rattle.standard.specs.Encoders.Big5.{big5Over, big5Encode}
@@ -23,14 +23,15 @@ use Rattle.standard.specs.Ones.{changedPair, iso2022JpEncode}
 use Rattle.standard.specs.Sequence.{cell}
 use Rattle.standard.proofs.AgreementsLeaves.{index-null}
 use Rattle.standard.proofs.ReadsBackPairs.{jis0208-row}
-use Rattle.standard.proofs.Search.{search-rule}
-use Rattle.standard.proofs.Tests.{split, choose, within-low, under, above}
+use Rattle.standard.proofs.Tests.{split, choose, within-low}
 use Rattle.layouts.specs.Rows.{cells, layoutOf, TheBytes}
 use Rattle.layouts.specs.declared.Pair.{Pair}
 use Rattle.layouts.proofs.Rows.{layout-gb18030, layout-big5, layout-euc-jp, layout-iso-2022-jp, layout-shift-jis}
 use Rattle.index.specs.IndexCode.{pointerOf}
 use Rattle.index.specs.declared.Found.{Found}
 use Rattle.index.specs.declared.Found.the-variants.{At, Missing}
+use Rattle.reverse_index_spec.specs.ReverseIndex.{lookUp}
+use Rattle.reverse_index_spec.proofs.LookUp.{look-up-sound, no-cells, none-passed}
 use Rattle.pair_writers.specs.Pairs.{orNone, pairEncode, Plain, cellsOf, InRows, Inside}
 
 -- past 0x80
@@ -167,11 +168,16 @@ pub euc-kr-rows : (table : List ℕ) → length table ≡ 23940 → InRows 1 0 t
 unfolding layoutOf
 euc-kr-rows table e p h s = omega arith
 
--- A pointer that is found by a search stands in the rows.
-pub in-rows : (side : Side) (y : Layout) (low high : ℕ) (table : List ℕ) (c : ℕ) → InRows low high table y →
-    (f : Found) → pointerOf f ≡ search side (passOver low high) table c → Inside y f
-in-rows side y low high table c i f e p q =
-    let k = search-rule side (passOver low high) table c .found p (sym e ∙ q) in
+-- The pointer of the search is that of the look-up where there is no reverse index.
+pub without-index : (table links : List ℕ) (side : Side) (over : PassedOver) (c : ℕ) → links ≡ [] →
+    search side over table c ≡ lookUp table links side over c
+without-index table links side over c e = rw e (sym (no-cells table side over c))
+
+-- A pointer that is looked up stands in the rows.
+pub in-rows : (side : Side) (y : Layout) (low high : ℕ) (table links : List ℕ) (c : ℕ) → InRows low high table y →
+    (f : Found) → pointerOf f ≡ lookUp table links side (passOver low high) c → Inside y f
+in-rows side y low high table links c i f e p q =
+    let k = look-up-sound table links side (passOver low high) c p (sym e ∙ q) in
     i p (k .inside) (k .searched)
 
 -- By the pointer of a code point.
@@ -185,61 +191,51 @@ module _ (y : Layout) (c : ℕ) where
   pub by-none : (f : Found) → f ≡ Missing → error-with c ≡ pairOrErrorWith y (pointerOf f) c
   by-none f e = rw e
 
--- From 1 to 0 no pointer is passed over.
-pub none-passed : (side : Side) (p : ℕ) (table : List ℕ) (c : ℕ) →
-    searchFrom side (passOver 1 0) p table c ≡ searchFrom side noneOver p table c
-unfolding searchFrom
-none-passed side p [] c = refl
-none-passed side p (x ∷ table) c = rw (no-one, none-passed side (suc p) table c)
-  where
-    no-one : within 1 p 0 ≡ false
-    no-one = split (ltb p 1) (λ t. under 1 p 0 (ltb-true p 1 t)) (λ t. above 1 p 0 (omega (arith, ltb-false p 1 t)))
-
 -- the encoders of Ask 7
 module _ (c : ℕ) where
   pub euc-kr-self : (look : Lookup) → c < 0x80 → tokens (c ∷ []) ≡ eucKrEncode look c
   unfolding eucKrEncode
   euc-kr-self look h = rw (lt-ltb c 0x80 h)
 
-  pub euc-kr-pair : (table : List ℕ) → 0x80 ≤ c →
-      pairOrErrorWith (layoutOf 35) (search first (passOver 1 0) table c) c ≡ eucKrEncode (searching table) c
+  pub euc-kr-pair : (table links : List ℕ) → 0x80 ≤ c →
+      pairOrErrorWith (layoutOf 35) (lookUp table links first (passOver 1 0) c) c ≡ eucKrEncode (lookUp table links) c
   unfolding eucKrEncode layoutOf
-  euc-kr-pair table h = rw (le-ltb c 0x80 h, none-passed first 0 table c)
+  euc-kr-pair table links h = rw (le-ltb c 0x80 h, none-passed table links first c)
 
   pub big5-self : (look : Lookup) → c < 0x80 → tokens (c ∷ []) ≡ big5Encode look c
   unfolding big5Encode
   big5-self look h = rw (lt-ltb c 0x80 h)
 
   -- the side is `last` or `first` by the test
-  pub big5-pair : (table : List ℕ) → 0x80 ≤ c → (t : Bool) →
+  pub big5-pair : (look : Lookup) → 0x80 ≤ c → (t : Bool) →
       t ≡ (eqb c 0x2550 || eqb c 0x255E || eqb c 0x2561 || eqb c 0x256A || eqb c 0x5341 || eqb c 0x5345) →
-      pairOrErrorWith (layoutOf 31) (search (t then last else first) big5Over table c) c ≡ big5Encode (searching table) c
+      pairOrErrorWith (layoutOf 31) (look (t then last else first) big5Over c) c ≡ big5Encode look c
   unfolding big5Encode
-  big5-pair table h t e = rw (layout-big5 31 refl, le-ltb c 0x80 h, ← e)
+  big5-pair look h t e = rw (layout-big5 31 refl, le-ltb c 0x80 h, ← e)
 
 -- by the encoding's number
-module _ (e : ℕ) (table second : List ℕ) (c : ℕ) where
-  pub of-gb18030 : e ≤ 30 → gb18030Encode (eqb e 29) (searching table) second c ≡ pairEncode e table second c
+module _ (e : ℕ) (look : Lookup) (second : List ℕ) (c : ℕ) where
+  pub of-gb18030 : e ≤ 30 → gb18030Encode (eqb e 29) look second c ≡ pairEncode e look second c
   unfolding pairEncode
   of-gb18030 h = rw (le-leb e 30 h)
 
-  pub of-big5 : e ≡ 31 → big5Encode (searching table) c ≡ pairEncode e table second c
+  pub of-big5 : e ≡ 31 → big5Encode look c ≡ pairEncode e look second c
   unfolding pairEncode
   of-big5 h = rw h
 
-  pub of-euc-jp : e ≡ 32 → eucJpEncode (searching table) c ≡ pairEncode e table second c
+  pub of-euc-jp : e ≡ 32 → eucJpEncode look c ≡ pairEncode e look second c
   unfolding pairEncode
   of-euc-jp h = rw h
 
-  pub of-iso-2022-jp : e ≡ 33 → iso2022JpEncode (searching table) second c ≡ pairEncode e table second c
+  pub of-iso-2022-jp : e ≡ 33 → iso2022JpEncode look second c ≡ pairEncode e look second c
   unfolding pairEncode
   of-iso-2022-jp h = rw h
 
-  pub of-shift-jis : e ≡ 34 → shiftJisEncode (searching table) c ≡ pairEncode e table second c
+  pub of-shift-jis : e ≡ 34 → shiftJisEncode look c ≡ pairEncode e look second c
   unfolding pairEncode
   of-shift-jis h = rw h
 
-  pub of-euc-kr : 34 < e → eucKrEncode (searching table) c ≡ pairEncode e table second c
+  pub of-euc-kr : 34 < e → eucKrEncode look c ≡ pairEncode e look second c
   unfolding pairEncode
   of-euc-kr h =
       rw (

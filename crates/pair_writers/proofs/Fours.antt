@@ -13,7 +13,7 @@ use Rattle.standard.specs.Base.{_then_else_, within, mapped}
 use Rattle.standard.specs.Indexes.{Range, lastPair, lastRange, rangeSum, rangesCodePoint, lastCodePoint, pointerSum, rangesPointer}
 use Rattle.standard.specs.Machine.{Result, tokens, error-with}
 use Rattle.standard.specs.Layouts.{Layout, twoBytes}
-use Rattle.standard.specs.Search.{passOver, first, search, searching}
+use Rattle.standard.specs.Search.{passOver, first}
 use Rattle.standard.specs.Encoders.Pairs.{pairOr, pairOrErrorWith}
 use Rattle.standard.specs.Encoders.Gb18030.{fourBytes, givesBack, fourOrErrorWith, gb18030Encode}
 use Rattle.standard.proofs.Tests.{split}
@@ -22,7 +22,8 @@ use Rattle.layouts.proofs.Rows.{layout-gb18030}
 use Rattle.pair_writers.specs.Pairs.{bytesOf, told}
 use Rattle.pair_writers.specs.Fours.{notAbove, total, onward, lastSum}
 use Rattle.pair_writers.specs.declared.One.{One}
-use Rattle.pair_writers.proofs.Encoders.{none-passed}
+use Rattle.reverse_index_spec.specs.ReverseIndex.{lookUp}
+use Rattle.reverse_index_spec.proofs.LookUp.{none-passed}
 
 -- the ranges, pair after pair
 module _ (back : Bool) (ranges : List ℕ) (x : ℕ) where
@@ -139,9 +140,9 @@ module _ (o : One) (y : Layout) (c : ℕ) (other : Result) where
       let z : _≡_ {A = ℕ} 0 1 = cc in absurd (omega arith)
 
 -- The encoder of GBK and gb18030, by its tests.
-module _ (gbk : Bool) (table ranges : List ℕ) (c : ℕ) where
+module _ (gbk : Bool) (table links ranges : List ℕ) (c : ℕ) where
   abbrev Encoded : Result → Type 0
-  Encoded r = r ≡ gb18030Encode gbk (searching table) ranges c
+  Encoded r = r ≡ gb18030Encode gbk (lookUp table links) ranges c
 
   pub gb-self : c < 0x80 → Encoded (tokens (c ∷ []))
   unfolding gb18030Encode
@@ -157,25 +158,25 @@ module _ (gbk : Bool) (table ranges : List ℕ) (c : ℕ) where
     gb-euro h = rw (le-ltb c 0x80 l, ne-eqb c 0xE5E5 n, h)
 
     module _ (m : gbk && eqb c 0x20AC ≡ false) (o : One)
-        (t : told o ≡ pairOrErrorWith (layoutOf 30) (search first (passOver 1 0) table c) c) where
+        (t : told o ≡ pairOrErrorWith (layoutOf 30) (lookUp table links first (passOver 1 0) c) c) where
       behind : Result
       behind = gbk then error-with c else fourOrErrorWith ranges (rangesPointer ranges c) c
 
-      by-table : Encoded (pairOr (layoutOf 30) (search first (passOver 1 0) table c) behind)
+      by-table : Encoded (pairOr (layoutOf 30) (lookUp table links first (passOver 1 0) c) behind)
       unfolding gb18030Encode behind
-      by-table = rw (layout-gb18030 30 (omega arith), le-ltb c 0x80 l, ne-eqb c 0xE5E5 n, m, none-passed first 0 table c)
+      by-table = rw (layout-gb18030 30 (omega arith), le-ltb c 0x80 l, ne-eqb c 0xE5E5 n, m, none-passed table links first c)
 
       pub gb-pair : (o .count ≡ 0 → ⊥) → Encoded (told o)
-      gb-pair h = from-table o (layoutOf 30) c behind (search first (passOver 1 0) table c) t h ∙ by-table
+      gb-pair h = from-table o (layoutOf 30) c behind (lookUp table links first (passOver 1 0) c) t h ∙ by-table
 
       pub gb-gbk : gbk ≡ true → Encoded (told o)
       unfolding behind
       gb-gbk h =
           let b : behind ≡ error-with c = rw h in
-          t ∙ ap (pairOr (layoutOf 30) (search first (passOver 1 0) table c)) (sym b) ∙ by-table
+          t ∙ ap (pairOr (layoutOf 30) (lookUp table links first (passOver 1 0) c)) (sym b) ∙ by-table
 
       pub gb-four : o .count ≡ 0 → gbk ≡ false → Encoded (fourOrErrorWith ranges (rangesPointer ranges c) c)
       unfolding behind
       gb-four z h =
           let b : behind ≡ fourOrErrorWith ranges (rangesPointer ranges c) c = rw h in
-          sym b ∙ not-in-table o (layoutOf 30) c behind (search first (passOver 1 0) table c) t z ∙ by-table
+          sym b ∙ not-in-table o (layoutOf 30) c behind (lookUp table links first (passOver 1 0) c) t z ∙ by-table

@@ -1,4 +1,4 @@
--- What the code's values stand for: the answer for one scalar, slots, and what a search by slots is given. Contracts of functions inside the
+-- What the code's values stand for: the answer for one scalar, slots, and what a look-up is given. Contracts of functions inside the
 -- library cite this. Assumes nothing.
 use mathlib.Core.Path.{_≡_}
 use mathlib.Core.Bool.{true, false, _&&_}
@@ -10,7 +10,7 @@ use lib.ListN.{length, getD, set, replicate}
 use Rattle.standard.specs.Base.{_then_else_, mapped}
 use Rattle.standard.specs.Machine.{Result, tokens, error-with}
 use Rattle.standard.specs.Layouts.{Layout}
-use Rattle.standard.specs.Search.{PassedOver, passed, passOver, searching}
+use Rattle.standard.specs.Search.{PassedOver, passed, passOver, Lookup}
 use Rattle.standard.specs.Encoders.Gb18030.{gb18030Encode}
 use Rattle.standard.specs.Encoders.Big5.{big5Encode}
 use Rattle.standard.specs.Encoders.EucJp.{eucJpEncode}
@@ -41,15 +41,15 @@ byCount n = eqb n 0 then error-with 0 else tokens []
 abbrev pub orNone : ℕ → Option ℕ
 orNone d = eqb d 0 then none else some d
 
--- The encoder of an encoding number, of those that write pairs, with its tables.
-unfoldable pub pairEncode : ℕ → List ℕ → List ℕ → ℕ → Result
-pairEncode e table second =
-    leb e 30 then gb18030Encode (eqb e 29) (searching table) second else
-    eqb e 31 then big5Encode (searching table) else
-    eqb e 32 then eucJpEncode (searching table) else
-    eqb e 33 then iso2022JpEncode (searching table) second else
-    eqb e 34 then shiftJisEncode (searching table) else
-    eucKrEncode (searching table)
+-- The encoder of an encoding number, of those that write pairs, with a look-up in its first table, and its second table.
+unfoldable pub pairEncode : ℕ → Lookup → List ℕ → ℕ → Result
+pairEncode e look second =
+    leb e 30 then gb18030Encode (eqb e 29) look second else
+    eqb e 31 then big5Encode look else
+    eqb e 32 then eucJpEncode look else
+    eqb e 33 then iso2022JpEncode look second else
+    eqb e 34 then shiftJisEncode look else
+    eucKrEncode look
 
 -- The state after a scalar, from a state, by what the encoder answers: it stays but in ISO-2022-JP.
 abbrev pub pairState : ℕ → ℕ → ℕ → Result → ℕ
@@ -91,16 +91,16 @@ pub record Filled (over : PassedOver) (table : List ℕ) (p : ℕ) (slots : List
 abbrev pub entered : PassedOver → List ℕ → ℕ → ℕ → List ℕ
 entered over slots c p = passed over p then slots else mapped c then set slots (c % 16384) (p + 1) else slots
 
--- Slots that are filled; or there are none.
-abbrev pub Aids : PassedOver → List ℕ → List ℕ → Type 0
-Aids over table slots = length slots ≡ 16384 → Filled over table 0 slots
+-- Slots that are filled, where there is no reverse index; or there are none.
+abbrev pub Aids : PassedOver → List ℕ → List ℕ → List ℕ → Type 0
+Aids over table links slots = length slots ≡ 16384 → Filled over table 0 slots × (links ≡ [])
 
--- What a search is lent: a table of n cells, and slots; by the encoding number.
-abbrev pub Helped : ℕ → PassedOver → List ℕ → List ℕ → Type 0
-Helped n over table slots = (length table ≡ n) × Aids over table slots
+-- What a look-up is lent: a table of n cells, a reverse index or none, and slots; by the encoding number.
+abbrev pub Helped : ℕ → PassedOver → List ℕ → List ℕ → List ℕ → Type 0
+Helped n over table links slots = (length table ≡ n) × Aids over table links slots
 
-abbrev pub Ready : ℕ → List ℕ → List ℕ → Type 0
-Ready e table slots = Helped (cellsOf e) (passOver (lowOf e) (highOf e)) table slots
+abbrev pub Ready : ℕ → List ℕ → List ℕ → List ℕ → Type 0
+Ready e table links slots = Helped (cellsOf e) (passOver (lowOf e) (highOf e)) table links slots
 
 -- its first table, and empty slots
 abbrev pub Fillable : ℕ → List ℕ → List ℕ → Type 0

@@ -5,8 +5,8 @@ use crate::pairs;
 ghost use mathlib.Core.Path.{_≡_};
 ghost use mathlib.Core.Bool.{_||_};
 ghost use lib.Dec.{eqb};
-ghost use Rattle.standard.specs.Search.{searching};
 ghost use Rattle.standard.specs.Encoders.Big5.{big5Over, big5Encode};
+ghost use Rattle.reverse_index_spec.specs.ReverseIndex.{lookUp};
 ghost use Rattle.pair_writers.specs.Pairs.{told, Helped};
 
 // Six code points have their last pointer.
@@ -32,15 +32,15 @@ fn by_last(c: u32) -> bool
 }
 
 // The pointers below 5,024 are passed over.
-pub(crate) fn bytes_of(table: &[u32], slots: &[u16], c: u32) -> One
-    ensures { λ r. ⌜ (Helped 19782 big5Over (now (table .entry)) (now (slots .entry)) →
-        told r ≡ big5Encode (searching (now (table .entry))) c) ⌝ }
+pub(crate) fn bytes_of(table: &[u32], links: &[u32], slots: &[u16], c: u32) -> One
+    ensures { λ r. ⌜ (Helped 19782 big5Over (now (table .entry)) (now (links .entry)) (now (slots .entry)) →
+        told r ≡ big5Encode (lookUp (now (table .entry)) (now (links .entry))) c) ⌝ }
 {
     if c < 0x80 {
         return pairs::one_byte(c as u8);
     }
     if by_last(c) {
-        return pairs::at(31, index::last_outside(table, 0, 5023, c), c);
+        return pairs::at(31, reverse_index::last_outside(table, links, 0, 5023, c), c);
     }
-    pairs::pair(31, table, slots, 0, 5023, c)
+    pairs::pair(31, table, links, slots, 0, 5023, c)
 }

@@ -3,14 +3,14 @@
 use crate::One;
 use crate::pairs;
 ghost use mathlib.Core.Path.{_≡_};
-ghost use Rattle.standard.specs.Search.{searching};
 ghost use Rattle.standard.specs.Encoders.EucJp.{jis0208Over, eucJpEncode};
+ghost use Rattle.reverse_index_spec.specs.ReverseIndex.{lookUp};
 ghost use Rattle.pair_writers.specs.Pairs.{told, Helped};
 
 // The pointers behind the 94 rows are passed over.
-pub(crate) fn bytes_of(table: &[u32], slots: &[u16], c: u32) -> One
-    ensures { λ r. ⌜ (Helped 11280 jis0208Over (now (table .entry)) (now (slots .entry)) →
-        told r ≡ eucJpEncode (searching (now (table .entry))) c) ⌝ }
+pub(crate) fn bytes_of(table: &[u32], links: &[u32], slots: &[u16], c: u32) -> One
+    ensures { λ r. ⌜ (Helped 11280 jis0208Over (now (table .entry)) (now (links .entry)) (now (slots .entry)) →
+        told r ≡ eucJpEncode (lookUp (now (table .entry)) (now (links .entry))) c) ⌝ }
 {
     if c < 0x80 {
         return pairs::one_byte(c as u8);
@@ -24,5 +24,5 @@ pub(crate) fn bytes_of(table: &[u32], slots: &[u16], c: u32) -> One
     if pairs::katakana(c) {
         return pairs::two_bytes(0x8E, (c - 0xFF61 + 0xA1) as u8);
     }
-    pairs::pair(32, table, slots, 8836, 11279, pairs::minus(c))
+    pairs::pair(32, table, links, slots, 8836, 11279, pairs::minus(c))
 }

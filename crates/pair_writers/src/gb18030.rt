@@ -11,8 +11,9 @@ ghost use lib.Dec.{leb, eqb};
 ghost use Rattle.standard.specs.Base.{_then_else_};
 ghost use Rattle.standard.specs.Indexes.{rangesCodePoint, rangesPointer};
 ghost use Rattle.standard.specs.Machine.{tokens};
-ghost use Rattle.standard.specs.Search.{passOver, searching};
+ghost use Rattle.standard.specs.Search.{passOver};
 ghost use Rattle.standard.specs.Encoders.Gb18030.{fourBytes, givesBack, fourOrErrorWith, gb18030Encode};
+ghost use Rattle.reverse_index_spec.specs.ReverseIndex.{lookUp};
 ghost use Rattle.pair_writers.specs.Pairs.{told, Helped};
 ghost use Rattle.pair_writers.specs.Fours.{onward, lastSum};
 
@@ -109,9 +110,16 @@ fn euro(gbk: bool, c: u32) -> bool
 }
 
 // The table goes first; what it has not goes by the ranges in gb18030.
-pub(crate) fn bytes_of(gbk: bool, table: &[u32], ranges: &[u32], slots: &[u16], c: u32) -> One
-    ensures { λ r. ⌜ (Helped 23940 (passOver 1 0) (now (table .entry)) (now (slots .entry)) →
-        told r ≡ gb18030Encode gbk (searching (now (table .entry))) (now (ranges .entry)) c) ⌝ }
+pub(crate) fn bytes_of(
+    gbk: bool,
+    table: &[u32],
+    links: &[u32],
+    ranges: &[u32],
+    slots: &[u16],
+    c: u32,
+) -> One
+    ensures { λ r. ⌜ (Helped 23940 (passOver 1 0) (now (table .entry)) (now (links .entry)) (now (slots .entry)) →
+        told r ≡ gb18030Encode gbk (lookUp (now (table .entry)) (now (links .entry))) (now (ranges .entry)) c) ⌝ }
 {
     if c < 0x80 {
         return pairs::one_byte(c as u8);
@@ -122,7 +130,7 @@ pub(crate) fn bytes_of(gbk: bool, table: &[u32], ranges: &[u32], slots: &[u16], 
     if euro(gbk, c) {
         return pairs::one_byte(0x80);
     }
-    let one = pairs::pair(30, table, slots, 1, 0, c);
+    let one = pairs::pair(30, table, links, slots, 1, 0, c);
     if one.count != 0 {
         return one;
     }

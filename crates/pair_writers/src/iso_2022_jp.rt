@@ -8,10 +8,10 @@ ghost use mathlib.Core.List.{[], _∷_};
 ghost use lib.Dec.{eqb};
 ghost use Rattle.standard.specs.Base.{_then_else_};
 ghost use Rattle.standard.specs.Machine.{tokens, error-with};
-ghost use Rattle.standard.specs.Search.{searching};
 ghost use Rattle.standard.specs.Encoders.EucJp.{jis0208Over};
 ghost use Rattle.standard.specs.Encoders.Iso2022Jp.{control, romanLacks, changed};
 ghost use Rattle.standard.specs.Ones.{iso2022JpEncode, writtenIn, stateFor};
+ghost use Rattle.reverse_index_spec.specs.ReverseIndex.{lookUp};
 ghost use Rattle.pair_writers.specs.Pairs.{told, byCount, orNone, Helped};
 
 // U+000E, U+000F and U+001B are errors.
@@ -47,9 +47,9 @@ fn changed(katakana: &[u32], c: u32) -> u32
 }
 
 // The pointers behind the 94 rows are passed over.
-pub(crate) fn bytes_of(table: &[u32], katakana: &[u32], slots: &[u16], c: u32) -> One
-    ensures { λ r. ⌜ (Helped 11280 jis0208Over (now (table .entry)) (now (slots .entry)) →
-        told r ≡ iso2022JpEncode (searching (now (table .entry))) (now (katakana .entry)) c) ⌝ }
+pub(crate) fn bytes_of(table: &[u32], links: &[u32], katakana: &[u32], slots: &[u16], c: u32) -> One
+    ensures { λ r. ⌜ (Helped 11280 jis0208Over (now (table .entry)) (now (links .entry)) (now (slots .entry)) →
+        told r ≡ iso2022JpEncode (lookUp (now (table .entry)) (now (links .entry))) (now (katakana .entry)) c) ⌝ }
 {
     if c < 0x80 {
         return ascii(c as u8);
@@ -64,7 +64,7 @@ pub(crate) fn bytes_of(table: &[u32], katakana: &[u32], slots: &[u16], c: u32) -
     if d == 0 {
         return pairs::unwritable(c);
     }
-    pairs::pair(33, table, slots, 8836, 11279, d)
+    pairs::pair(33, table, links, slots, 8836, 11279, d)
 }
 
 // Roman has ASCII but for U+005C and U+007E.

@@ -1,4 +1,5 @@
-// The bytes of one scalar in the encodings that write pairs: document 02, Asks 5, 6 and 7. Slots help the search where a text is long.
+// The bytes of one scalar in the encodings that write pairs: document 02, Asks 5 to 8. Slots help the search where a text is long and no
+// reverse index is lent.
 
 mod big5;
 mod euc_jp;
@@ -16,6 +17,7 @@ ghost use lib.Dec.{eqb};
 ghost use Rattle.standard.specs.Base.{_then_else_};
 ghost use Rattle.standard.specs.Machine.{tokens, error-with};
 ghost use Rattle.standard.specs.Encoders.Iso2022Jp.{control};
+ghost use Rattle.reverse_index_spec.specs.ReverseIndex.{lookUp};
 ghost use Rattle.pair_writers.specs.Pairs.{told, byCount, pairEncode, pairState, Plain, lowOf, highOf, Ready, Fillable};
 
 // One, two or four bytes; or none, where the scalar is unwritable and an error names a code point.
@@ -28,27 +30,35 @@ pub struct One {
     pub fourth: u8,
 }
 
-// GBK (29) and gb18030, Big5 (31), EUC-JP (32), ISO-2022-JP (33) in the state that it is written in, Shift_JIS (34) and EUC-KR.
-pub fn bytes_of(encoding: u8, table: &[u32], second: &[u32], slots: &[u16], c: u32) -> One
-    ensures { λ r. ⌜ (Ready encoding (now (table .entry)) (now (slots .entry)) →
-        told r ≡ pairEncode encoding (now (table .entry)) (now (second .entry)) c) ⌝ }
+// GBK (29) and gb18030, Big5 (31), EUC-JP (32), ISO-2022-JP (33) in the state that it is written in, Shift_JIS (34) and EUC-KR; by a
+// reverse index of any cells, or of none.
+pub fn bytes_of(
+    encoding: u8,
+    table: &[u32],
+    links: &[u32],
+    second: &[u32],
+    slots: &[u16],
+    c: u32,
+) -> One
+    ensures { λ r. ⌜ (Ready encoding (now (table .entry)) (now (links .entry)) (now (slots .entry)) →
+        told r ≡ pairEncode encoding (lookUp (now (table .entry)) (now (links .entry))) (now (second .entry)) c) ⌝ }
 {
     if encoding <= 30 {
-        return gb18030::bytes_of(encoding == 29, table, second, slots, c);
+        return gb18030::bytes_of(encoding == 29, table, links, second, slots, c);
     }
     if encoding == 31 {
-        return big5::bytes_of(table, slots, c);
+        return big5::bytes_of(table, links, slots, c);
     }
     if encoding == 32 {
-        return euc_jp::bytes_of(table, slots, c);
+        return euc_jp::bytes_of(table, links, slots, c);
     }
     if encoding == 33 {
-        return iso_2022_jp::bytes_of(table, second, slots, c);
+        return iso_2022_jp::bytes_of(table, links, second, slots, c);
     }
     if encoding == 34 {
-        return shift_jis::bytes_of(table, slots, c);
+        return shift_jis::bytes_of(table, links, slots, c);
     }
-    euc_kr::bytes_of(table, slots, c)
+    euc_kr::bytes_of(table, links, slots, c)
 }
 
 // ASCII: its own byte, but for the controls of ISO-2022-JP.
@@ -124,10 +134,10 @@ fn high(encoding: u8) -> usize
     0
 }
 
-// Slots, from empty ones.
+// Slots, from empty ones; where there is no reverse index.
 pub fn fill(encoding: u8, table: &[u32], slots: &mut [u16])
     ensures { λ r. ⌜ (Fillable encoding (now (table .entry)) (now (slots .entry)) →
-        Ready encoding (now (table .entry)) (now (slots .exit))) ⌝ }
+        Ready encoding (now (table .entry)) [] (now (slots .exit))) ⌝ }
 {
     if 65535 < table.len() {
         return;

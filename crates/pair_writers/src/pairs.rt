@@ -7,10 +7,11 @@ ghost use mathlib.Core.Path.{_≡_};
 ghost use mathlib.Core.List.{[], _∷_};
 ghost use Rattle.standard.specs.Base.{within};
 ghost use Rattle.standard.specs.Machine.{tokens, error-with};
-ghost use Rattle.standard.specs.Search.{passOver, first, search};
+ghost use Rattle.standard.specs.Search.{passOver, first};
 ghost use Rattle.standard.specs.Encoders.Pairs.{pairOrErrorWith, minus};
 ghost use Rattle.index.specs.IndexCode.{pointerOf};
 ghost use Rattle.layouts.specs.Rows.{layoutOf};
+ghost use Rattle.reverse_index_spec.specs.ReverseIndex.{lookUp};
 ghost use Rattle.pair_writers.specs.Pairs.{told, Aids, InRows, Inside};
 
 pub(crate) fn one_byte(b: u8) -> One
@@ -86,10 +87,22 @@ pub(crate) fn at(encoding: u8, found: Found, c: u32) -> One
 }
 
 // The same of a code point's first pointer, with the pointers from low to high passed over.
-pub(crate) fn pair(encoding: u8, table: &[u32], slots: &[u16], low: u32, high: u32, c: u32) -> One
+pub(crate) fn pair(
+    encoding: u8,
+    table: &[u32],
+    links: &[u32],
+    slots: &[u16],
+    low: u32,
+    high: u32,
+    c: u32,
+) -> One
     ensures { λ r. ⌜ (InRows low high (now (table .entry)) (layoutOf encoding) →
-        Aids (passOver low high) (now (table .entry)) (now (slots .entry)) →
-        told r ≡ pairOrErrorWith (layoutOf encoding) (search first (passOver low high) (now (table .entry)) c) c) ⌝ }
+        Aids (passOver low high) (now (table .entry)) (now (links .entry)) (now (slots .entry)) → told r ≡ pairOrErrorWith
+        (layoutOf encoding) (lookUp (now (table .entry)) (now (links .entry)) first (passOver low high) c) c) ⌝ }
 {
-    at(encoding, slots::pointer(table, slots, low, high, c), c)
+    at(
+        encoding,
+        slots::pointer(table, links, slots, low, high, c),
+        c,
+    )
 }

@@ -3,11 +3,12 @@
 
 use index::Found;
 ghost use mathlib.Core.Path.{_≡_};
-ghost use Prim.Native.Nat.{_%_, _≤_, _<_};
+ghost use Prim.Native.Nat.{_%_, _<_};
 ghost use mathlib.Core.Bool.{true};
 ghost use lib.ListN.{length, getD, replicate};
 ghost use Rattle.standard.specs.Search.{passed, passOver, first, search};
 ghost use Rattle.index.specs.IndexCode.{pointerOf};
+ghost use Rattle.reverse_index_spec.specs.ReverseIndex.{lookUp};
 ghost use Rattle.pair_writers.specs.Pairs.{Slot, Filled, entered, Aids};
 
 fn passed(low: usize, high: usize, p: usize) -> bool
@@ -70,13 +71,20 @@ fn by_slot(table: &[u32], slot: u16, low: u32, high: u32, c: u32) -> Found
     index::pointer_outside(table, low, high, c)
 }
 
-// The pointer of a code point, by its slot where there are slots.
-pub(crate) fn pointer(table: &[u32], slots: &[u16], low: u32, high: u32, c: u32) -> Found
-    ensures { λ r. ⌜ (Aids (passOver low high) (now (table .entry)) (now (slots .entry)) →
-        pointerOf r ≡ search first (passOver low high) (now (table .entry)) c) ⌝ }
+// The pointer of a code point: by its slot where there are slots, else by the reverse index.
+pub(crate) fn pointer(
+    table: &[u32],
+    links: &[u32],
+    slots: &[u16],
+    low: u32,
+    high: u32,
+    c: u32,
+) -> Found
+    ensures { λ r. ⌜ (Aids (passOver low high) (now (table .entry)) (now (links .entry)) (now (slots .entry)) →
+        pointerOf r ≡ lookUp (now (table .entry)) (now (links .entry)) first (passOver low high) c) ⌝ }
 {
     if slots.len() != 16384 {
-        return index::pointer_outside(table, low, high, c);
+        return reverse_index::pointer_outside(table, links, low, high, c);
     }
     by_slot(table, slots[(c % 16384) as usize], low, high, c)
 }

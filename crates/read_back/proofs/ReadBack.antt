@@ -11,11 +11,11 @@ use lib.Seq.{take-append-seam}
 use borrow.Author.Tests.{ltb-true, ltb-false, le-ltb, lt-leb, ne-eqb, not-true}
 use Rattle.standard.specs.Base.{every, lineFeeds}
 use Rattle.standard.specs.Encodings.{family, Tables}
-use Rattle.standard.specs.Search.{searching}
+use Rattle.standard.specs.Search.{Lookup, searching, Sound}
 use Rattle.standard.specs.Sequence.{Shift, shift, plain}
 use Rattle.standard.specs.Next.{next}
-use Rattle.standard.specs.Decode.{Item, Read, decode, ending, shown, everything}
-use Rattle.standard.specs.Writers.{Writer, writerOf, reader, readerTables, writerFits}
+use Rattle.standard.specs.Decode.{Item, Read, ending, shown, everything}
+use Rattle.standard.specs.Writers.{Writer, writerOf, readerTables, writerFits}
 use Rattle.standard.specs.Ones.{finishBytes}
 use Rattle.standard.specs.Images.{image, leavesOut}
 use Rattle.standard.proofs.Tests.{split, choose, and-both}
@@ -34,11 +34,14 @@ use Rattle.demands.specs.Whole.{dealt, wholeAccount}
 use Rattle.demands.proofs.Steps.{kept-new}
 use Rattle.demands.proofs.Cutting.{cut-is-whole, feeds-give}
 use Rattle.encoder_spec.specs.Writing.{Fault, Writing, writing}
-use Rattle.encoder_spec.specs.Writer.{Outcome, lentOne, writerFinish}
-use Rattle.encoder_spec.specs.Calls.{callsOf, allScalars, written, accepted, indexOf, onePiece}
+use Rattle.encoder_spec.specs.Writer.{Outcome, oneBy, writerCall, writerFinish}
+use Rattle.encoder_spec.specs.Calls.{Calling, callsBy, allScalars, written, accepted, indexOf, onePiece}
 use Rattle.encoder_spec.specs.Calls.{Piece as WriterPiece, Account as WriterAccount, account as writerAccount}
 use Rattle.encoder_spec.proofs.Calls.{Called, refused, writes, called, as-one-piece, all-scalars}
-use Rattle.read_back.specs.Statements.{ReadBack, ReadsBack}
+use Rattle.reverse_index_spec.specs.ReverseIndex.{fits, lookUp}
+use Rattle.reverse_index_spec.proofs.Theorems.{looks-up}
+use Rattle.indexed_writing.specs.Call.{indexedCall}
+use Rattle.read_back.specs.Statements.{ReadBack, WrittenBack, ReadsBack}
 use Rattle.read_back.proofs.Decoding.{Reads, written-reads, none-reads, reads-whole}
 
 -- What the bytes bs, through a finish from the state s, are to the decoder of a number: they decode to the scalars cs without an error, and
@@ -81,13 +84,13 @@ finish-wrote s room =
     Wrote o = o .answer .refusal ≡ 0 → written o ≡ finishBytes s
 
 -- A call that is not refused was lent tables that fit.
-first-fits : (w : Writer) (e : ℕ) (t : Tables) (p : WriterPiece) (ps : List WriterPiece) → writerOf e ≡ some w →
-    accepted (callsOf e 1 t) 0 (p ∷ ps) ≡ true → writerFits w t ≡ true
+first-fits : (look : Lookup) (right : Bool) (w : Writer) (e : ℕ) (t : Tables) (p : WriterPiece) (ps : List WriterPiece) →
+    writerOf e ≡ some w → accepted (callsBy look right e 1 t) 0 (p ∷ ps) ≡ true → writerFits w t ≡ true
 unfolding accepted
-first-fits w e t p ps q = go (callsOf e 1 t 0 p) (called e 1 0 t w (p .scalars) (p .room) q)
+first-fits look right w e t p ps q = go (callsBy look right e 1 t 0 p) (called look right e 1 0 t w (p .scalars) (p .room) q)
   where
-    go : (o : Outcome) → Called (writerFits w t) (p .scalars) (writing (lentOne w t) 1 0 (p .scalars)) (p .room) 0 o →
-        eqb (o .answer .refusal) 11 || (eqb (o .answer .refusal) 0 && accepted (callsOf e 1 t) (o .answer .state) ps) ≡ true →
+    go : (o : Outcome) → Called (writerFits w t) (p .scalars) (writing (oneBy w look t) 1 0 (p .scalars)) (p .room) 0 o →
+        eqb (o .answer .refusal) 11 || (eqb (o .answer .refusal) 0 && accepted (callsBy look right e 1 t) (o .answer .state) ps) ≡ true →
         writerFits w t ≡ true
     go o (refused n a b) h = let f : false ≡ true = rw (a, b) at h in let z : _≡_ {A = ℕ} 0 1 = cc in absurd (omega arith)
     go o (writes f c) h = f
@@ -96,26 +99,29 @@ unreported : (o : Option Fault) → indexOf o ≡ none → o ≡ none
 unreported none e = refl
 unreported (some f) e = let z : _≡_ {A = ℕ} 0 1 = cc in absurd (omega arith)
 
--- What the calls and the finish wrote is good.
-calls-good : (w : Writer) (e : ℕ) (t : Tables) (ps : List WriterPiece) (room : List ℕ) → writerOf e ≡ some w →
-    accepted (callsOf e 1 t) 0 ps ≡ true →
-    let a = writerAccount (callsOf e 1 t) 0 ps in
-    a .report ≡ none → writerFinish (a .state) room .answer .refusal ≡ 0 →
-    Good e (readerTables w t) (a .state) (map (image w (t .second)) (allScalars ps)) (a .output ++ written (writerFinish (a .state) room))
-unfolding writerAccount allScalars
-calls-good w e t [] room q h u f = record { number = small e w q; read = rw (finish-wrote 0 room f) (none-reads (readerTables w t) (family e)) }
-calls-good w e t (p ∷ ps) room q h u f = record {
-  number = small e w q;
-  read = rw (finish-wrote (writerAccount (callsOf e 1 t) 0 (p ∷ ps) .state) room f, whole, reader-of e w q)
-      (written-reads w t (searching (t .first)) (first-fits w e t p ps q h) (plain-sound (t .first)) (allScalars (p ∷ ps))
-      (all-scalars w e 1 t q 0 (p ∷ ps) h u) (unreported (W .unwritable) (ap (λ (a : WriterAccount). a .report) (sym whole) ∙ u)));
-}
-  where
-    W : Writing
-    W = writing (lentOne w t) 1 0 (allScalars (p ∷ ps))
+-- What the calls and the finish wrote is good, by any sound look-up.
+module _ (look : Lookup) (right : Bool) (w : Writer) (e : ℕ) (t : Tables) (S : Sound look (t .first)) (q : writerOf e ≡ some w) where
+  abbrev call : Calling
+  call = callsBy look right e 1 t
 
-    whole : writerAccount (callsOf e 1 t) 0 (p ∷ ps) ≡ onePiece W
-    whole = as-one-piece w e 1 t q 0 (p ∷ ps) h
+  calls-good : (ps : List WriterPiece) (room : List ℕ) → accepted call 0 ps ≡ true →
+      let a = writerAccount call 0 ps in
+      a .report ≡ none → writerFinish (a .state) room .answer .refusal ≡ 0 →
+      Good e (readerTables w t) (a .state) (map (image w (t .second)) (allScalars ps)) (a .output ++ written (writerFinish (a .state) room))
+  unfolding writerAccount allScalars
+  calls-good [] room h u f = record { number = small e w q; read = rw (finish-wrote 0 room f) (none-reads (readerTables w t) (family e)) }
+  calls-good (p ∷ ps) room h u f = record {
+    number = small e w q;
+    read = rw (finish-wrote (writerAccount call 0 (p ∷ ps) .state) room f, whole, reader-of e w q)
+        (written-reads w t look (first-fits look right w e t p ps q h) S (allScalars (p ∷ ps))
+        (all-scalars look right w e 1 t q 0 (p ∷ ps) h u) (unreported (W .unwritable) (ap (λ (a : WriterAccount). a .report) (sym whole) ∙ u)));
+  }
+    where
+      W : Writing
+      W = writing (oneBy w look t) 1 0 (allScalars (p ∷ ps))
+
+      whole : writerAccount call 0 (p ∷ ps) ≡ onePiece W
+      whole = as-one-piece look right w e 1 t q 0 (p ∷ ps) h
 
 opens : (e m : ℕ) → e ≤ 39 → m ≤ 1 → openRefusal e m 1 ≡ 0
 unfolding openRefusal
@@ -168,10 +174,19 @@ selves w second (c ∷ cs) h =
     let e : image w second c ≡ c = own-image w second c (not-true (leavesOut w c) (l .0)) in
     rw e (ap (_∷_ c) (selves w second cs (l .1)))
 
-pub reads-back : ReadsBack
-reads-back w e m t ps room h q a u f =
+by-look : (look : Lookup) (right : Bool) (w : Writer) (e m : ℕ) (t : Tables) → Sound look (t .first) → m ≤ 1 → writerOf e ≡ some w →
+    WrittenBack w e m t (callsBy look right e 1 t)
+by-look look right w e m t S h q ps room a u f =
     let cs = allScalars ps in
-    let o = writerAccount (callsOf e 1 t) 0 ps in
+    let o = writerAccount (callsBy look right e 1 t) 0 ps in
     let bs = o .output ++ written (writerFinish (o .state) room) in
-    let images = back e m (readerTables w t) (o .state) (map (image w (t .second)) cs) bs h (calls-good w e t ps room q a u f) in
+    let images = back e m (readerTables w t) (o .state) (map (image w (t .second)) cs) bs h (calls-good look right w e t S q ps room a u f) in
     record { as-images = images; as-themselves = λ n. rw (selves w (t .second) cs n) at images }
+
+pub reads-back : (w : Writer) (e m : ℕ) (t : Tables) → m ≤ 1 → writerOf e ≡ some w → ReadsBack w e m t
+unfolding writerCall indexedCall
+reads-back w e m t h q = record {
+  by-search = by-look (searching (t .first)) true w e m t (plain-sound (t .first)) h q;
+  by-index = λ index.
+      by-look (lookUp (t .first) index) (fits (length (t .first)) (length index)) w e m t (looks-up (t .first) index .sound) h q;
+}

@@ -194,7 +194,31 @@ pub fn encode(
         tables.second,
         &mut cells[..room],
     );
-    let reference = reference::encode(encoding, mode, state, scalars, tables, room);
+    let reference = reference::encode(encoding, mode, state, scalars, tables, None, room);
+    written(library, &cells, reference)
+}
+
+pub fn encode_indexed(
+    encoding: u8,
+    mode: u8,
+    state: u8,
+    scalars: &[u32],
+    tables: Tables,
+    index: &[u32],
+    room: usize,
+) -> Result<Encoded, String> {
+    let mut cells: Vec<u8> = (0..room + BEHIND).map(byte_before).collect();
+    let library = calls::encode_indexed(
+        encoding,
+        mode,
+        state,
+        scalars,
+        tables.first,
+        tables.second,
+        index,
+        &mut cells[..room],
+    );
+    let reference = reference::encode(encoding, mode, state, scalars, tables, Some(index), room);
     written(library, &cells, reference)
 }
 
@@ -204,17 +228,44 @@ pub fn encode_finish(state: u8, room: usize) -> Result<Encoded, String> {
     written(library, &cells, reference::encode_finish(state, room))
 }
 
-pub fn index_line(line: &[u8], table: &mut Vec<u32>) -> Result<reference::Entered, String> {
-    let mut filled = table.clone();
-    let library = calls::index_line(line, table);
-    let reference = reference::index_line(line, &mut filled);
+fn entered(library: ffi::Line, reference: &reference::Entered) -> Result<(), String> {
     numbers("refusal", library.refusal.into(), reference.refusal.into())?;
     numbers("entry", library.entry.into(), reference.entry.into())?;
     numbers(
         "pointer",
         library.pointer as usize,
         reference.pointer as usize,
-    )?;
+    )
+}
+
+pub fn index_line(line: &[u8], table: &mut Vec<u32>) -> Result<reference::Entered, String> {
+    let mut filled = table.clone();
+    let library = calls::index_line(line, table);
+    let reference = reference::index_line(line, &mut filled);
+    entered(library, &reference)?;
     equal("table", &*table, &filled)?;
+    Ok(reference)
+}
+
+pub fn index_line_indexed(
+    line: &[u8],
+    table: &mut Vec<u32>,
+    index: &mut Vec<u32>,
+) -> Result<reference::Entered, String> {
+    let (mut filled, mut linked) = (table.clone(), index.clone());
+    let library = calls::index_line_indexed(line, table, index);
+    let reference = reference::index_line_indexed(line, &mut filled, &mut linked);
+    entered(library, &reference)?;
+    equal("table", &*table, &filled)?;
+    lists("index", index, &linked)?;
+    Ok(reference)
+}
+
+pub fn build_index(encoding: u8, first: &[u32], index: &mut Vec<u32>) -> Result<u8, String> {
+    let mut built = index.clone();
+    let library = calls::build_index(encoding, first, index);
+    let reference = reference::build_index(encoding, first, &mut built);
+    numbers("refusal", library.into(), reference.into())?;
+    lists("index", index, &built)?;
     Ok(reference)
 }

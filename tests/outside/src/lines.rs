@@ -39,7 +39,8 @@ const PIECES: &[&[u8]] = &[
     b"\xE9",
 ];
 
-fn line(random: &mut Random) -> Vec<u8> {
+/// A line whose pointer, if it has one, is mostly below 12.
+pub fn line(random: &mut Random) -> Vec<u8> {
     let mut line = Vec::new();
     if random.one_in(4) {
         for _ in 0..random.below(8) {

@@ -3,7 +3,8 @@
 //! Arguments, each with its default where it may be left out:
 //!
 //! - `[NUMBER [SEED]]`: every comparison; the number of random calls (1000000) and their seed (1).
-//! - `random [NUMBER [SEED]]`: long texts, fields, random calls, random index lines and random lists alone.
+//! - `random [NUMBER [SEED]]`: long texts, fields, random calls, random index lines, random reverse indexes, random writing
+//!   with an index and random lists alone.
 //! - `showtext PROGRAM [SEED]`: the program `showtext` beside the reference; the seed of its random inputs (1).
 
 mod compare;
@@ -11,6 +12,7 @@ mod data;
 mod differences;
 mod exhaustive;
 mod fields;
+mod indexed;
 mod labels;
 mod lines;
 mod list;
@@ -21,6 +23,7 @@ mod program;
 mod published;
 mod random;
 mod reference;
+mod reverse_index;
 mod showtext;
 mod stretches;
 
@@ -61,8 +64,12 @@ fn compare_all(number: usize, seed: u64) -> Result<(), String> {
     show("writers", || exhaustive::scalars(&tables))?;
     show("writers of pairs", || exhaustive::pair_writers(&tables))?;
     show("writer with a state", || exhaustive::iso_2022_jp(&tables))?;
+    show("writers with a true index", || indexed::plane(&tables))?;
     show("block borders", || long::borders(&tables))?;
     show("stretches of ASCII", || stretches::stretches(&tables))?;
+    show("reverse indexes", || {
+        reverse_index::published(&tables, seed)
+    })?;
     show("short lists", list::short_texts)?;
     compare_random(&tables, number, seed)
 }
@@ -73,6 +80,10 @@ fn compare_random(tables: &data::Published, number: usize, seed: u64) -> Result<
     show("fields", || fields::fields(tables, seed))?;
     show("random calls", || random::calls(tables, number, seed))?;
     show("random index lines", || lines::lines(seed))?;
+    show("random reverse indexes", || reverse_index::random(seed))?;
+    show("random writing with an index", || {
+        indexed::random(tables, seed)
+    })?;
     show("random lists", || list::random_lists(seed))?;
     show("long lists", || list::long_lists(seed))
 }

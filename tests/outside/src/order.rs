@@ -237,7 +237,7 @@ fn checks(published: &Published, calls: &mut Calls) {
 }
 
 fn encodes(published: &Published, calls: &mut Calls) {
-    let order = [2, 3, 5, 9, 4, 8, 10, 7, 11];
+    let order = [2, 3, 5, 9, 4, 15, 8, 10, 7, 11];
     for encoding in (0..=40).chain([255]) {
         for set in 0..1 << order.len() {
             let causes = causes(&order, set);
@@ -285,7 +285,20 @@ fn encodes(published: &Published, calls: &mut Calls) {
                     first.len(),
                     second.len()
                 );
-                let answer = compare::encode(encoding, mode, state, &scalars, tables, room);
+                let wrong = causes.contains(&15);
+                if !wrong {
+                    let answer = compare::encode(encoding, mode, state, &scalars, tables, room);
+                    calls.expect(&causes, call.clone(), answer.map(|answer| answer.refusal));
+                }
+                let cells = match (wrong, which) {
+                    (false, _) => 2 * first.len(),
+                    (true, 0) => 2 * first.len() + 1,
+                    (true, _) => (2 * first.len()).checked_sub(1).unwrap_or(2),
+                };
+                let index = vec![0; cells];
+                let call = format!("{call}, an index of {cells} cells");
+                let answer =
+                    compare::encode_indexed(encoding, mode, state, &scalars, tables, &index, room);
                 calls.expect(&causes, call, answer.map(|answer| answer.refusal));
             }
         }

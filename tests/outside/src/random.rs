@@ -272,7 +272,7 @@ impl Lists {
         self.lent[usize::from(encoding.min(39))][variant].with(flaw)
     }
 
-    fn writer_tables(&self, encoding: u8, variant: usize, flaw: usize) -> Tables<'_> {
+    pub fn writer_tables(&self, encoding: u8, variant: usize, flaw: usize) -> Tables<'_> {
         match encoding {
             33 => self.lent[40][variant].with(flaw),
             _ => self.tables(encoding, variant, flaw),
@@ -662,7 +662,8 @@ impl Place<'_> {
             } => {
                 let tables = self.lists.writer_tables(*encoding, *tables, *flaw);
                 let from = state.unwrap_or(self.state);
-                let whole = reference::encode(*encoding, *mode, from, scalars, tables, usize::MAX);
+                let whole =
+                    reference::encode(*encoding, *mode, from, scalars, tables, None, usize::MAX);
                 let room = room_of(whole.output.len(), *room);
                 let answer = compare::encode(*encoding, *mode, from, scalars, tables, room)?;
                 Ok(self.after_writing(answer))

@@ -1097,20 +1097,27 @@ fn refused(refusal: u8, record: Record) -> Answer {
     }
 }
 
+/// The cells of an encoding's first table.
+fn first_cells(encoding: u8) -> usize {
+    match encoding {
+        21 => 0,
+        1..=28 => 128,
+        29 | 30 | 35 => 23940,
+        31 => 19782,
+        32..=34 => 11280,
+        _ => 0,
+    }
+}
+
 /// Whether the lent tables have the lengths that an encoding asks for.
 fn fits(encoding: u8, tables: Tables) -> bool {
     let second = tables.second.len();
-    let lengths = match encoding {
-        21 => (0, 0),
-        1..=28 => (128, 0),
-        29 | 30 => return tables.first.len() == 23940 && second % 2 == 0 && second <= 414,
-        31 => (19782, 0),
-        32 => (11280, 8836),
-        33 | 34 => (11280, 0),
-        35 => (23940, 0),
-        _ => (0, 0),
+    let second_fits = match encoding {
+        29 | 30 => second % 2 == 0 && second <= 414,
+        32 => second == 8836,
+        _ => second == 0,
     };
-    (tables.first.len(), second) == lengths
+    tables.first.len() == first_cells(encoding) && second_fits
 }
 
 pub fn open(encoding: u8, mode: u8, rule: u8) -> Answer {
@@ -1229,10 +1236,63 @@ enum CodePoint {
     EndOfStream,
 }
 
+/// What a writer looks scalars up in: the tables, and the cells of an index beside the first where one is lent.
+#[derive(Clone, Copy)]
+struct Sources<'a> {
+    tables: Tables<'a>,
+    index: Option<&'a [u32]>,
+}
+
+impl Sources<'_> {
+    /// The pointer of a code point among those searched, the first or the last: by the index, and where that leads to none by a
+    /// search of the table.
+    fn pointer(
+        &self,
+        last: bool,
+        searched: impl Fn(usize) -> bool,
+        code_point: u32,
+    ) -> Option<usize> {
+        let table = self.tables.first;
+        let counts = |pointer: &usize| searched(*pointer) && table[*pointer] == code_point;
+        let followed = self.followed(last, &counts, code_point);
+        let mut pointers = (0..table.len()).filter(counts);
+        followed.or_else(|| match last {
+            true => pointers.next_back(),
+            false => pointers.next(),
+        })
+    }
+
+    /// The same along the links of the code point's bucket, up to one that leads out of the table, 64 at the most. Where 64 are
+    /// followed, the last pointer is not known.
+    fn followed(
+        &self,
+        last: bool,
+        counts: &impl Fn(&usize) -> bool,
+        code_point: u32,
+    ) -> Option<usize> {
+        let (index, cells) = (self.index?, self.tables.first.len());
+        let inside = |link: u32| (1..=cells).contains(&(link as usize));
+        let head = index.get(code_point as usize / 2 % cells.max(1));
+        let links = std::iter::successors(head.copied(), |&link| {
+            inside(link).then(|| index[cells + link as usize - 1])
+        });
+        let pointers: Vec<usize> = links
+            .take_while(|&link| inside(link))
+            .map(|link| link as usize - 1)
+            .take(64)
+            .collect();
+        let mut counted = pointers.iter().copied().filter(counts);
+        match last {
+            false => counted.next(),
+            true => counted.next_back().filter(|_| pointers.len() < 64),
+        }
+    }
+}
+
 /// 000's ISO-2022-JP encoder, with what document 02 changes; its state: 0 ASCII, 1 Roman, 2 jis0208.
 struct Iso2022JpEncoder<'a> {
     state: u8,
-    tables: Tables<'a>,
+    sources: Sources<'a>,
     stream: VecDeque<CodePoint>,
     output: &'a mut Vec<u8>,
 }
@@ -1277,7 +1337,7 @@ impl Iso2022JpEncoder<'_> {
             (_, 0xA5 | 0x203E) => self.switch(1, CodePoint::Scalar(scalar)),
             (_, 0x2212) => self.stream.push_front(CodePoint::Changed(0xFF0D)),
             (_, 0xFF61..=0xFF9F) => {
-                let cell = index_code_point(self.tables.second, (scalar - 0xFF61) as usize);
+                let cell = index_code_point(self.sources.tables.second, (scalar - 0xFF61) as usize);
                 self.stream
                     .push_front(cell.map_or(CodePoint::Unmapped(scalar), CodePoint::Changed));
             }
@@ -1288,7 +1348,9 @@ impl Iso2022JpEncoder<'_> {
 
     /// Steps 10 to 15.
     fn pointed(&mut self, code_point: u32) -> Result<(), u32> {
-        let found = (0..8836).find(|&pointer| self.tables.first[pointer] == code_point);
+        let found = self
+            .sources
+            .pointer(false, |pointer| pointer < 8836, code_point);
         let Some(pointer) = found else {
             return self.unwritable(code_point, CodePoint::Changed);
         };
@@ -1315,12 +1377,12 @@ impl Iso2022JpEncoder<'_> {
 fn encode_iso_2022_jp(
     state: &mut u8,
     code_point: CodePoint,
-    tables: Tables,
+    sources: Sources,
     output: &mut Vec<u8>,
 ) -> Result<(), u32> {
     let mut encoder = Iso2022JpEncoder {
         state: *state,
-        tables,
+        sources,
         stream: VecDeque::from([code_point]),
         output,
     };
@@ -1334,7 +1396,7 @@ fn encode_iso_2022_jp(
 fn encode_japanese(
     encoding: u8,
     scalar: u32,
-    table: &[u32],
+    sources: Sources,
     output: &mut Vec<u8>,
 ) -> Result<(), u32> {
     let shift_jis = encoding == 34;
@@ -1354,9 +1416,8 @@ fn encode_japanese(
                 true => !(8272..=10715).contains(&pointer),
                 false => pointer < 8836,
             };
-            let pointer = (0..table.len())
-                .filter(|&pointer| searched(pointer))
-                .find(|&pointer| table[pointer] == code_point)
+            let pointer = sources
+                .pointer(false, searched, code_point)
                 .ok_or(code_point)?;
             if shift_jis {
                 let (lead, trail) = (pointer / 188, pointer % 188);
@@ -1391,10 +1452,9 @@ fn ranges_pointer(ranges: &[u32], code_point: u32) -> Option<u32> {
 fn encode_chinese(
     encoding: u8,
     scalar: u32,
-    tables: Tables,
+    sources: Sources,
     output: &mut Vec<u8>,
 ) -> Result<(), u32> {
-    let pointers = || (0..tables.first.len()).filter(|&pointer| tables.first[pointer] == scalar);
     let pair = |pointer: usize, columns: usize, gap: usize, low: usize, high: usize| {
         let (lead, trail) = (pointer / columns, pointer % columns);
         let offset = if trail < gap { low } else { high };
@@ -1409,14 +1469,14 @@ fn encode_chinese(
                 output.push(0x80);
                 return Ok(());
             }
-            if let Some(pointer) = pointers().next() {
+            if let Some(pointer) = sources.pointer(false, |_| true, scalar) {
                 output.extend(pair(pointer, 190, 0x3F, 0x40, 0x41));
                 return Ok(());
             }
             if encoding == 29 {
                 return Err(scalar);
             }
-            let pointer = ranges_pointer(tables.second, scalar).ok_or(scalar)?;
+            let pointer = ranges_pointer(sources.tables.second, scalar).ok_or(scalar)?;
             output.extend([
                 (pointer / 12600 + 0x81) as u8,
                 (pointer / 1260 % 10 + 0x30) as u8,
@@ -1425,15 +1485,12 @@ fn encode_chinese(
             ]);
         }
         31 => {
-            let mut found = pointers().filter(|&pointer| pointer >= 5024);
-            let pointer = match scalar {
-                0x2550 | 0x255E | 0x2561 | 0x256A | 0x5341 | 0x5345 => found.last(),
-                _ => found.next(),
-            };
+            let last = matches!(scalar, 0x2550 | 0x255E | 0x2561 | 0x256A | 0x5341 | 0x5345);
+            let pointer = sources.pointer(last, |pointer| pointer >= 5024, scalar);
             output.extend(pair(pointer.ok_or(scalar)?, 157, 0x3F, 0x40, 0x62));
         }
         _ => {
-            let pointer = pointers().next().ok_or(scalar)?;
+            let pointer = sources.pointer(false, |_| true, scalar).ok_or(scalar)?;
             output.extend(pair(pointer, 190, 0, 0x41, 0x41));
         }
     }
@@ -1445,19 +1502,19 @@ fn encode_scalar(
     encoding: u8,
     state: &mut u8,
     scalar: u32,
-    tables: Tables,
+    sources: Sources,
     output: &mut Vec<u8>,
 ) -> Result<(), u32> {
     if encoding == 33 {
-        return encode_iso_2022_jp(state, CodePoint::Scalar(scalar), tables, output);
+        return encode_iso_2022_jp(state, CodePoint::Scalar(scalar), sources, output);
     }
     if scalar < 0x80 {
         output.push(scalar as u8);
         return Ok(());
     }
     match encoding {
-        32 | 34 => encode_japanese(encoding, scalar, tables.first, output)?,
-        29..=31 | 35 => encode_chinese(encoding, scalar, tables, output)?,
+        32 | 34 => encode_japanese(encoding, scalar, sources, output)?,
+        29..=31 | 35 => encode_chinese(encoding, scalar, sources, output)?,
         0 => {
             let (mut count, offset) = match scalar {
                 0x80..=0x7FF => (1, 0xC0),
@@ -1475,23 +1532,27 @@ fn encode_scalar(
             _ => return Err(scalar),
         },
         _ => {
-            let index = match encoding {
-                21 => WINDOWS_1252.get().expect("the index is read first"),
-                _ => tables.first,
+            let pointer = match encoding {
+                21 => {
+                    let index = WINDOWS_1252.get().expect("the index is read first");
+                    index.iter().position(|&cell| cell == scalar)
+                }
+                _ => sources.pointer(false, |_| true, scalar),
             };
-            let pointer = index.iter().position(|&cell| cell == scalar);
             output.push(pointer.ok_or(scalar)? as u8 + 0x80);
         }
     }
     Ok(())
 }
 
+/// The writer's call, with an index where one is lent.
 pub fn encode(
     encoding: u8,
     mode: u8,
     state: u8,
     scalars: &[u32],
     tables: Tables,
+    index: Option<&[u32]>,
     room: usize,
 ) -> Encoded {
     let refused = |refusal| Encoded {
@@ -1515,6 +1576,9 @@ pub fn encode(
     if !fits_writer(encoding, tables) {
         return refused(4);
     }
+    if index.is_some_and(|index| index.len() != 2 * tables.first.len()) {
+        return refused(15);
+    }
     if scalars.len() > 16384 {
         return refused(8);
     }
@@ -1524,8 +1588,9 @@ pub fn encode(
     let mut output = Vec::new();
     let mut error = None;
     let mut reached = state;
+    let sources = Sources { tables, index };
     for (index, &scalar) in scalars.iter().enumerate() {
-        let written = encode_scalar(encoding, &mut reached, scalar, tables, &mut output);
+        let written = encode_scalar(encoding, &mut reached, scalar, sources, &mut output);
         let Err(named) = written else {
             continue;
         };
@@ -1559,7 +1624,11 @@ pub fn encode_finish(state: u8, room: usize) -> Encoded {
     let mut output = Vec::new();
     let mut reached = state;
     let end = CodePoint::EndOfStream;
-    encode_iso_2022_jp(&mut reached, end, NO_TABLES, &mut output).expect("the end is no error");
+    let nothing = Sources {
+        tables: NO_TABLES,
+        index: None,
+    };
+    encode_iso_2022_jp(&mut reached, end, nothing, &mut output).expect("the end is no error");
     if room < output.len() {
         return answer(7, Vec::new(), state);
     }
@@ -1615,4 +1684,61 @@ fn line_parts(line: &[u8]) -> Option<(u32, u32)> {
         return None;
     }
     Some((number(pointer, 10)?, code_point))
+}
+
+/// The true reverse index of a table, each cell from what it is to hold.
+pub fn reverse_index(table: &[u32]) -> Vec<u32> {
+    let cells = table.len();
+    let buckets: Vec<Option<usize>> = (0..cells)
+        .map(|pointer| Some(index_code_point(table, pointer)? as usize / 2 % cells))
+        .collect();
+    let link = |from: usize, bucket: usize| {
+        let found = (from..cells).find(|&pointer| buckets[pointer] == Some(bucket));
+        found.map_or(0, |pointer| pointer as u32 + 1)
+    };
+    let next = |pointer: usize| buckets[pointer].map_or(0, |bucket| link(pointer + 1, bucket));
+    let heads = (0..cells).map(|bucket| link(0, bucket));
+    heads.chain((0..cells).map(next)).collect()
+}
+
+/// What building answers; the index is written.
+pub fn build_index(encoding: u8, table: &[u32], index: &mut Vec<u32>) -> u8 {
+    if encoding > 39 {
+        return 2;
+    }
+    if table.len() != first_cells(encoding) {
+        return 4;
+    }
+    if index.len() != 2 * table.len() {
+        return 15;
+    }
+    *index = reverse_index(table);
+    0
+}
+
+/// An index line with an index of any cells: the entry goes behind the links of its bucket that rise and lead to pointers
+/// before it.
+pub fn index_line_indexed(line: &[u8], table: &mut [u32], index: &mut [u32]) -> Entered {
+    let cells = table.len();
+    if index.len() != 2 * cells {
+        return Entered {
+            refusal: 15,
+            entry: 0,
+            pointer: 0,
+        };
+    }
+    let answer = index_line(line, table);
+    if answer.entry == 0 {
+        return answer;
+    }
+    let pointer = answer.pointer as usize;
+    let mut place = table[pointer] as usize / 2 % cells;
+    let mut passed = 0;
+    while index[place] > passed && index[place] as usize <= pointer {
+        passed = index[place];
+        place = cells + passed as usize - 1;
+    }
+    index[cells + pointer] = index[place];
+    index[place] = answer.pointer + 1;
+    answer
 }

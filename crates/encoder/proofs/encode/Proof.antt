@@ -1,40 +1,30 @@
--- `encode`: a refusal, or what is written. Assumes nothing.
-use Rattle.standard.specs.Encodings.{lent}
-use Rattle.encoder.proofs.Calls.{accepted, tells-refusal, tells-written}
-use mathlib.Core.Path.{sym, _∙_}
+-- `encode`: with no index a look-up is the search. Assumes nothing.
+use Rattle.reverse_index_spec.proofs.LookUp.{no-index}
+use Rattle.encoder_spec.specs.Writer.{writerCall}
 use borrow.Author.Needs.{needs}
 use Rattle.encoder.proofs.encode.Statement.{statement}
 use Rattle.encoder.proofs.encode.Tie as tie
 
--- the function's start
-abbrev start : tie.After-refusal → tie.Start
-start c = c .before .before .before .before .before
+sub-call : tie.Need-sub-call
+sub-call c = search needs
 
-refusal-requires : tie.Need-refusal-requires
-refusal-requires c κs = search needs
+part-call-start : tie.Need-part-call-start
+part-call-start c = search needs
 
-returns : tie.Need-returns
-returns c =
-    let args = start (c .before) .args in
-    tells-refusal _ _ _ (lent (args .t1 .now) (args .t2 .now)) _ _ _ (c .before .refusal .ensures) (c .if1 .taken)
+part-call-end : tie.Need-part-call-end
+part-call-end c = search needs
 
-write-requires : tie.Need-write-requires
-write-requires c κs =
-    let at-refusal = c .before .before in
-    let args = start at-refusal .args in
-    let k = accepted _ _ _ (lent (args .t1 .now) (args .t2 .now)) _ (args .room .now) (sym (at-refusal .refusal .ensures) ∙ c .before .if1 .left) in
-    ((k .are-scalars, k .few, k .tabled), k .space)
+call-requires : tie.Need-call-requires
+call-requires c κs = search needs
 
 same-length : tie.Need-same-length
 same-length c = search needs
 
-returns-2 : tie.Need-returns-2
-returns-2 c =
-    let at-write = c .before .before in
-    let at-if1 = at-write .before .before in
-    let at-refusal = at-if1 .before in
-    let args = start at-refusal .args in
-    tells-written _ _ _ (lent (args .t1 .now) (args .t2 .now)) _ _ _ (at-refusal .refusal .ensures) (at-if1 .if1 .left) (at-write .write .ensures)
+returns : tie.Need-returns
+unfolding writerCall
+returns c =
+    let at-call = c .before .before in
+    rw no-index at (at-call .call .ensures)
 
 pub encode-spec : {M : Type 1} → statement M
-encode-spec = tie.close (tie.spec refusal-requires returns write-requires same-length returns-2)
+encode-spec = tie.close (tie.spec sub-call part-call-start part-call-end call-requires same-length returns)

@@ -47,7 +47,7 @@ returns-6 c =
     let e = f .before in
     let d = e .before in
     let b = d .before in
-    let n = b .before .before .before .before .before .args .encoding in
+    let n = b .before .before .before .before .before .before .args .encoding in
     let past : 34 < n = omega (arith, b .before .if1 .left, b .if2 .left, d .if3 .left, e .if4 .left, f .if5 .left) in
     λ h. c .bytes-of6 .ensures
     (rw (lt-leb n 30 (omega arith), ne-eqb n 31 (λ z. omega arith), lt-leb n 33 (omega arith), lt-leb n 34 past, ne-eqb n 34 (λ z. omega arith)) at h) ∙

@@ -1,5 +1,5 @@
 -- `fill`: nothing to show where the lengths are others. Assumes nothing.
-use mathlib.Core.Path.{ap, _∙_}
+use mathlib.Core.Path.{refl, ap, _∙_}
 use Prim.Native.Nat.{ℕ}
 use lib.ListN.{length, length-replicate}
 use Rattle.pair_writers.proofs.Encoders.{cells-few}
@@ -30,7 +30,7 @@ returns-3 : tie.Need-returns-3
 returns-3 c =
     let at-fill = c .before .before in
     let at-high = at-fill .before .before in
-    λ h. (h .0, λ l. rw (at-high .before .low .ensures, at-high .high .ensures) at (at-fill .fill .ensures (h .1)))
+    λ h. (h .0, λ l. (rw (at-high .before .low .ensures, at-high .high .ensures) at (at-fill .fill .ensures (h .1)), refl))
 
 pub fill-spec : {M : Type 1} → statement M
 fill-spec =

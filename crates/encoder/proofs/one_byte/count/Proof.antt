@@ -1,15 +1,22 @@
 -- `one_byte::count`: empty slots and filled ones are right. Assumes nothing.
-use mathlib.Core.Path.{refl}
+use mathlib.Core.Path.{_≡_, refl}
+use mathlib.Core.List.{[]}
 use borrow.Author.Needs.{needs}
-use Rattle.encoder.proofs.Filling.{empty-slots}
+use borrow.Author.Tests.{not-false}
+use Rattle.reverse_index_spec.specs.ReverseIndex.{lookUp}
+use Rattle.encoder.proofs.Filling.{empty-slots, slots-lent}
 use Rattle.encoder.proofs.one_byte.count.Statement.{statement}
 use Rattle.encoder.proofs.one_byte.count.Tie as tie
 
-abbrev start : tie.After-least → tie.Start
-start c = c .before .before .before
+abbrev start : tie.After-pays → tie.Start
+start c = c .before .before .before .before
 
-least-requires : tie.Need-least-requires
-least-requires c κs = search needs
+-- with slots there is no reverse index
+none-lent : (c : tie.Else1) → start (c .before) .args .links .now ≡ []
+none-lent c = c .before .pays .ensures (not-false _ (c .if1 .left))
+
+pays-requires : tie.Need-pays-requires
+pays-requires c κs = search needs
 
 sub-count-by : tie.Need-sub-count-by
 sub-count-by c = search needs
@@ -23,7 +30,7 @@ part-count-by-end c = search needs
 count-by-requires : tie.Need-count-by-requires
 count-by-requires c κs =
     let s = start (c .before .before) in
-    ((s .pre .0, empty-slots (s .args .encoding) (s .args .table .now) _ (λ k. refl)), s .pre .1, s .pre .2)
+    ((s .pre .0, empty-slots (s .args .encoding) (lookUp (s .args .table .now) (s .args .links .now)) _ (λ k. refl)), s .pre .1, s .pre .2)
 
 returns : tie.Need-returns
 returns c = c .count-by .ensures
@@ -41,7 +48,7 @@ count-by-requires-2 : tie.Need-count-by-requires-2
 count-by-requires-2 c κs =
     let at-fill = c .before .before in
     let s = start (at-fill .before .before .before) in
-    ((s .pre .0, at-fill .fill .ensures), s .pre .1, s .pre .2)
+    ((s .pre .0, slots-lent _ _ _ _ (none-lent (at-fill .before .before)) (at-fill .fill .ensures)), s .pre .1, s .pre .2)
 
 returns-2 : tie.Need-returns-2
 returns-2 c = c .count-by2 .ensures
@@ -50,7 +57,7 @@ pub count-spec : {M : Type 1} → statement M
 count-spec =
     tie.close
     (tie.spec
-    least-requires
+    pays-requires
     sub-count-by
     part-count-by-start
     part-count-by-end

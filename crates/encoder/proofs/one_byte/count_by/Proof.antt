@@ -7,6 +7,7 @@ use native.Mathlib.Omega.{arith}
 use lib.ListN.{length, getD}
 use borrow.Author.Needs.{needs}
 use Rattle.standard.specs.Machine.{reference}
+use Rattle.reverse_index_spec.specs.ReverseIndex.{lookUp}
 use Rattle.encoder.specs.WriterCode.{encoderOf, oneOf}
 use Rattle.encoder.proofs.Counting.{Counted, counted-start, counted-here, counted-end, counted-on, here-bytes, here-reference, here-stop}
 use Rattle.encoder.proofs.Counting.{told-byte, told-none, scalar-at}
@@ -14,17 +15,17 @@ use Rattle.encoder.proofs.one_byte.count_by.Statement.{statement}
 use Rattle.encoder.proofs.one_byte.count_by.Tie as tie
 
 abbrev Inv-loop : tie.InvT-loop
-Inv-loop encoding mode scalars table slots n₀ i₀ n i = Counted (oneOf encoding table) mode 0 scalars n i 0
+Inv-loop encoding mode scalars table links slots n₀ i₀ n i = Counted (oneOf encoding (lookUp table links)) mode 0 scalars n i 0
 
 abbrev μ-loop : tie.MeasureT-loop
-μ-loop encoding mode scalars table slots n₀ i₀ n i = length scalars - i
+μ-loop encoding mode scalars table links slots n₀ i₀ n i = length scalars - i
 
 -- the turn that a byte is asked in, and the function's start
 abbrev turn : tie.After-byte-of Inv-loop μ-loop → tie.In-loop Inv-loop μ-loop
 turn c = c .before .before
 
 abbrev start : tie.In-loop Inv-loop μ-loop → tie.Start Inv-loop μ-loop
-start c = c .before .before .before .before .before
+start c = c .before .before .before .before .before .before
 
 loop-holds : tie.Need-loop-holds Inv-loop μ-loop
 loop-holds c = counted-start _ _ _ _

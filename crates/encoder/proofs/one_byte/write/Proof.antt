@@ -1,15 +1,22 @@
 -- `one_byte::write`: empty slots and filled ones are right. Assumes nothing.
-use mathlib.Core.Path.{refl}
+use mathlib.Core.Path.{_≡_, refl}
+use mathlib.Core.List.{[]}
 use borrow.Author.Needs.{needs}
-use Rattle.encoder.proofs.Filling.{empty-slots}
+use borrow.Author.Tests.{not-false}
+use Rattle.reverse_index_spec.specs.ReverseIndex.{lookUp}
+use Rattle.encoder.proofs.Filling.{empty-slots, slots-lent}
 use Rattle.encoder.proofs.one_byte.write.Statement.{statement}
 use Rattle.encoder.proofs.one_byte.write.Tie as tie
 
-abbrev start : tie.After-least → tie.Start
-start c = c .before .before .before .before
+abbrev start : tie.After-pays → tie.Start
+start c = c .before .before .before .before .before
 
-least-requires : tie.Need-least-requires
-least-requires c κs = search needs
+-- with slots there is no reverse index
+none-lent : (c : tie.Else1) → start (c .before) .args .links .now ≡ []
+none-lent c = c .before .pays .ensures (not-false _ (c .if1 .left))
+
+pays-requires : tie.Need-pays-requires
+pays-requires c κs = search needs
 
 sub-write-by : tie.Need-sub-write-by
 sub-write-by c = search needs
@@ -23,7 +30,7 @@ part-write-by-end c = search needs
 write-by-requires : tie.Need-write-by-requires
 write-by-requires c κs =
     let s = start (c .before .before .before) in
-    ((s .pre .0, empty-slots (s .args .encoding) (s .args .table .now) _ (λ k. refl)), s .pre .1)
+    ((s .pre .0, empty-slots (s .args .encoding) (lookUp (s .args .table .now) (s .args .links .now)) _ (λ k. refl)), s .pre .1)
 
 same-length : tie.Need-same-length
 same-length c = search needs
@@ -44,7 +51,7 @@ write-by-requires-2 : tie.Need-write-by-requires-2
 write-by-requires-2 c κs =
     let at-fill = c .before .before .before in
     let s = start (at-fill .before .before .before) in
-    ((s .pre .0, at-fill .fill .ensures), s .pre .1)
+    ((s .pre .0, slots-lent _ _ _ _ (none-lent (at-fill .before .before)) (at-fill .fill .ensures)), s .pre .1)
 
 same-length-2 : tie.Need-same-length-2
 same-length-2 c = search needs
@@ -56,7 +63,7 @@ pub write-spec : {M : Type 1} → statement M
 write-spec =
     tie.close
     (tie.spec
-    least-requires
+    pays-requires
     sub-write-by
     part-write-by-start
     part-write-by-end

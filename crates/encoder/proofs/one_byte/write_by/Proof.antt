@@ -7,6 +7,7 @@ use native.Mathlib.Omega.{arith}
 use lib.ListN.{length, getD}
 use borrow.Author.Needs.{needs}
 use Rattle.standard.specs.Machine.{reference}
+use Rattle.reverse_index_spec.specs.ReverseIndex.{lookUp}
 use Rattle.encoder.specs.WriterCode.{encoderOf, oneOf}
 use Rattle.encoder.proofs.Counting.{Here, Running, running-start, running-end, running-here, running-room, running-on}
 use Rattle.encoder.proofs.Counting.{here-bytes, here-reference, here-stop, told-byte, told-none}
@@ -14,17 +15,17 @@ use Rattle.encoder.proofs.one_byte.write_by.Statement.{statement}
 use Rattle.encoder.proofs.one_byte.write_by.Tie as tie
 
 abbrev Inv-loop : tie.InvT-loop
-Inv-loop encoding mode scalars table slots room₀ o₀ i₀ room o i = Running (oneOf encoding table) mode 0 scalars room₀ room i o 0
+Inv-loop encoding mode scalars table links slots room₀ o₀ i₀ room o i = Running (oneOf encoding (lookUp table links)) mode 0 scalars room₀ room i o 0
 
 abbrev μ-loop : tie.MeasureT-loop
-μ-loop encoding mode scalars table slots room₀ o₀ i₀ room o i = length scalars - i
+μ-loop encoding mode scalars table links slots room₀ o₀ i₀ room o i = length scalars - i
 
 -- the turn that a byte is asked in, and the function's start
 abbrev turn : tie.After-byte-of Inv-loop μ-loop → tie.In-loop Inv-loop μ-loop
 turn c = c .before .before
 
 abbrev start : tie.In-loop Inv-loop μ-loop → tie.Start Inv-loop μ-loop
-start c = c .before .before .before .before .before .before
+start c = c .before .before .before .before .before .before .before
 
 -- what is written of the scalar: its byte, or a reference
 abbrev byte : tie.Then1 Inv-loop μ-loop → List ℕ
@@ -35,7 +36,8 @@ refers c = let t = turn (c .before .before) in reference (getD (start t .args .s
 
 abbrev Writes : tie.In-loop Inv-loop μ-loop → List ℕ → Type 0
 Writes t us =
-    Here (oneOf (start t .args .encoding) (start t .args .table .now)) (start t .args .mode) (start t .args .scalars .now) 0 (t .before .loop .i) 0 us
+    Here (oneOf (start t .args .encoding) (lookUp (start t .args .table .now) (start t .args .links .now))) (start t .args .mode)
+    (start t .args .scalars .now) 0 (t .before .loop .i) 0 us
 
 byte-here : (c : tie.Then1 Inv-loop μ-loop) → Writes (turn (c .before)) (byte c)
 byte-here c = here-bytes _ _ _ _ _ (turn (c .before) .loop-test .taken) (told-byte (encoderOf _ _) _ _ (c .before .byte-of .ensures) (c .if1 .taken))

@@ -5,6 +5,7 @@ use Prim.Native.Nat.{ℕ, _-_}
 use lib.ListN.{length}
 use Rattle.standard.specs.Machine.{reference}
 use Rattle.standard.specs.Ones.{wrote, shiftTo}
+use Rattle.reverse_index_spec.specs.ReverseIndex.{lookUp}
 use Rattle.pair_writers.specs.Pairs.{bytesOf}
 use Rattle.encoder.specs.WriterCode.{pairOf}
 use Rattle.encoder.proofs.Counting.{Counted, counted-start, counted-stop, counted-end, counted-both, here-bytes, here-reference, here-stop}
@@ -15,17 +16,17 @@ use Rattle.encoder.proofs.pairs.count_by.Statement.{statement}
 use Rattle.encoder.proofs.pairs.count_by.Tie as tie
 
 abbrev Inv-loop : tie.InvT-loop
-Inv-loop encoding mode state scalars table second slots s₀ n₀ i₀ s n i = Counted (pairOf encoding table second) mode state scalars n i s
+Inv-loop encoding mode state scalars table links second slots s₀ n₀ i₀ s n i = Counted (pairOf encoding (lookUp table links) second) mode state scalars n i s
 
 abbrev μ-loop : tie.MeasureT-loop
-μ-loop encoding mode state scalars table second slots s₀ n₀ i₀ s n i = length scalars - i
+μ-loop encoding mode state scalars table links second slots s₀ n₀ i₀ s n i = length scalars - i
 
 -- the turn that a scalar's bytes are asked in, and the function's start
 abbrev turn : tie.After-one-of Inv-loop μ-loop → tie.In-loop Inv-loop μ-loop
 turn c = c .before .before
 
 abbrev start : tie.In-loop Inv-loop μ-loop → tie.Start Inv-loop μ-loop
-start c = c .before .before .before .before .before .before
+start c = c .before .before .before .before .before .before .before
 
 -- the way to the next state, and what is written of the scalar behind it
 abbrev way : tie.After-state-for Inv-loop μ-loop → List ℕ

@@ -1,13 +1,14 @@
 -- `pairs::write_by`. The loop's invariant: the bytes of the i scalars before this one stand at the front of the room, the rest of the room is
--- as it was, and s is the state after them. What falls at each turn is the number of scalars left. Assumes nothing.
-use mathlib.Core.Path.{refl}
+-- as it was, s is the state after them, and the memory is right. What falls at each turn is the number of scalars left. Assumes nothing.
+use mathlib.Core.Path.{_≡_, refl}
 use mathlib.Core.List.{List, [], _∷_, _++_}
 use Prim.Native.Nat.{ℕ, _+_, _-_, _≤_}
 use lib.ListN.{length, getD}
 use Rattle.standard.specs.Machine.{reference}
 use Rattle.standard.specs.Ones.{shiftTo}
+use Rattle.reverse_index_spec.specs.ReverseIndex.{lookUp}
 use Rattle.pair_writers.specs.Pairs.{bytesOf, pairEncode}
-use Rattle.encoder.specs.WriterCode.{pairOf}
+use Rattle.encoder.specs.WriterCode.{Recalls, pairOf}
 use Rattle.encoder.proofs.Counting.{Here, Running, running-start, running-end, running-front, running-stop, running-room, running-on, running-room-both, running-both}
 use Rattle.encoder.proofs.Counting.{here-bytes, here-reference, here-stop, here-least}
 use Rattle.encoder.proofs.Ones.{pair-answered, pair-bytes, pair-named, plain-byte}
@@ -17,22 +18,27 @@ use Rattle.encoder.proofs.pairs.write_by.Statement.{statement}
 use Rattle.encoder.proofs.pairs.write_by.Tie as tie
 
 abbrev Inv-loop : tie.InvT-loop
-Inv-loop encoding mode state scalars table second slots room₀ s₀ o₀ i₀ room s o i =
-    Running (pairOf encoding table second) mode state scalars room₀ room i o s
+Inv-loop encoding mode state scalars table links second slots memory₀ room₀ s₀ o₀ i₀ memory room s o i =
+    Running (pairOf encoding (lookUp table links) second) mode state scalars room₀ room i o s ×
+    Recalls (pairEncode encoding (lookUp table links) second) memory × (length memory ≡ length memory₀)
 
 abbrev μ-loop : tie.MeasureT-loop
-μ-loop encoding mode state scalars table second slots room₀ s₀ o₀ i₀ room s o i = length scalars - i
+μ-loop encoding mode state scalars table links second slots memory₀ room₀ s₀ o₀ i₀ memory room s o i = length scalars - i
 
 -- the turn that a scalar's bytes are asked in, and the function's start
-abbrev turn : tie.After-one-of Inv-loop μ-loop → tie.In-loop Inv-loop μ-loop
-turn c = c .before .before .before .before
+abbrev turn : tie.After-one-by Inv-loop μ-loop → tie.In-loop Inv-loop μ-loop
+turn c = c .before .before .before .before .before
 
 abbrev start : tie.In-loop Inv-loop μ-loop → tie.Start Inv-loop μ-loop
-start c = c .before .before .before .before .before .before .before
+start c = c .before .before .before .before .before .before .before .before .before
+
+-- where the bytes were asked for, from the state that they lead to
+abbrev asked : tie.After-state-for Inv-loop μ-loop → tie.After-one-by Inv-loop μ-loop
+asked c = c .before .before .before
 
 -- the way to the next state, the place where it is written, and what is written of the scalar behind it: its bytes, or a reference
 abbrev way : tie.After-state-for Inv-loop μ-loop → List ℕ
-way c = shiftTo (turn (c .before) .before .loop .s) (c .state-for .result)
+way c = shiftTo (turn (asked c) .before .loop .s) (c .state-for .result)
 
 abbrev shifted : tie.After-struct-known Inv-loop μ-loop → tie.After-put Inv-loop μ-loop
 shifted c = c .before .before .before
@@ -41,34 +47,34 @@ abbrev after : tie.After-put Inv-loop μ-loop → tie.After-state-for Inv-loop �
 after c = c .before .before
 
 abbrev bytes : tie.Then2 Inv-loop μ-loop → List ℕ
-bytes c = bytesOf (after (shifted (c .before)) .before .one-of .result)
+bytes c = bytesOf (asked (after (shifted (c .before))) .one-by .result)
 
 abbrev refers : tie.Else3 Inv-loop μ-loop → List ℕ
-refers c = reference (after (shifted (c .before .before)) .before .one-of .result .named)
+refers c = reference (asked (after (shifted (c .before .before))) .one-by .result .named)
 
 abbrev Writes : tie.After-state-for Inv-loop μ-loop → List ℕ → Type 0
 Writes c us =
-    let t = turn (c .before) in
+    let t = turn (asked c) in
     let a = start t .args in
-    Here (pairOf (a .encoding) (a .table .now) (a .second .now)) (a .mode) (a .scalars .now)
+    Here (pairOf (a .encoding) (lookUp (a .table .now) (a .links .now)) (a .second .now)) (a .mode) (a .scalars .now)
     (t .before .loop .s) (t .before .loop .i) (c .state-for .result) (way c ++ us)
 
 bytes-here : (c : tie.Then2 Inv-loop μ-loop) → Writes (after (shifted (c .before))) (bytes c)
 bytes-here c =
     let to = after (shifted (c .before)) in
-    let o = to .before in
-    let wrote = pair-bytes (o .one-of .result) _ _ _ _ _ (o .one-of .ensures) _ (to .state-for .ensures) (c .if2 .taken) in
+    let o = asked to in
+    let wrote = pair-bytes (o .one-by .result) _ _ _ _ _ (o .one-by .ensures .0) _ (to .state-for .ensures) (c .if2 .taken) in
     here-bytes _ _ _ _ _ (turn o .loop-test .taken) wrote
 
 reference-here : (c : tie.Else3 Inv-loop μ-loop) → Writes (after (shifted (c .before .before))) (refers c)
 reference-here c =
     let to = after (shifted (c .before .before)) in
-    let o = to .before in
-    let named = pair-named (o .one-of .result) _ _ _ _ _ (o .one-of .ensures) _ (to .state-for .ensures) (c .before .if2 .left) in
+    let o = asked to in
+    let named = pair-named (o .one-by .result) _ _ _ _ _ (o .one-by .ensures .0) _ (to .state-for .ensures) (c .before .if2 .left) in
     here-reference _ _ _ _ _ (turn o .loop-test .taken) named (c .if3 .left)
 
 loop-holds : tie.Need-loop-holds Inv-loop μ-loop
-loop-holds c = running-start _ _ _ _ _
+loop-holds c = (running-start _ _ _ _ _, c .before .before .before .before .before .before .before .pre .1, refl)
 
 mul-c : tie.Need-mul-c Inv-loop μ-loop
 mul-c c = search needs
@@ -89,14 +95,14 @@ byte c = let t = plain-turn c in getD (start t .args .scalars .now) (t .before .
 byte-here : (c : tie.Then1 Inv-loop μ-loop) →
     let t = plain-turn c in
     let a = start t .args in
-    Here (pairOf (a .encoding) (a .table .now) (a .second .now)) (a .mode) (a .scalars .now)
+    Here (pairOf (a .encoding) (lookUp (a .table .now) (a .links .now)) (a .second .now)) (a .mode) (a .scalars .now)
     (t .before .loop .s) (t .before .loop .i) (t .before .loop .s) (byte c)
 byte-here c = here-bytes _ _ _ _ _ (plain-turn c .loop-test .taken) (plain-byte _ _ _ _ _ (c .before .plain .ensures (c .if1 .taken)))
 
 byte-room : (c : tie.Then1 Inv-loop μ-loop) → let l = plain-turn c .before .loop in l .o + length (byte c) ≤ length (l .room)
 byte-room c =
     let t = plain-turn c in
-    running-room _ _ _ _ _ _ _ _ _ (t .before .loop .inv) _ (byte c) (byte-here c) (start t .pre .1)
+    running-room _ _ _ _ _ _ _ _ _ (t .before .loop .inv .0) _ (byte c) (byte-here c) (start t .pre .2)
 
 cast-room : tie.Need-cast-room Inv-loop μ-loop
 cast-room c = omega (arith, c .before .plain .ensures (c .if1 .taken) .is-ascii)
@@ -116,24 +122,27 @@ loop-less c = search needs
 loop-again : tie.Need-loop-again Inv-loop μ-loop
 loop-again c =
     let t = plain-turn c in
-    running-on _ _ _ _ _ _ _ _ _ (t .before .loop .inv) _ (byte c) (byte-here c) (start t .pre .1) _ _ refl refl
+    let inv = t .before .loop .inv in
+    (running-on _ _ _ _ _ _ _ _ _ (inv .0) _ (byte c) (byte-here c) (start t .pre .2) _ _ refl refl, inv .1, inv .2)
 
-one-of-requires : tie.Need-one-of-requires Inv-loop μ-loop
-one-of-requires c κs = start (c .before .before .before) .pre .0
+one-by-requires : tie.Need-one-by-requires Inv-loop μ-loop
+one-by-requires c κs =
+    let t = c .before .before .before .before in
+    (start t .pre .0, t .before .loop .inv .1)
 
 state-for-requires : tie.Need-state-for-requires Inv-loop μ-loop
 state-for-requires c κs = search needs
 
 -- the way has room, whatever comes behind it
-way-room : (c : tie.After-state-for Inv-loop μ-loop) → let l = turn (c .before) .before .loop in l .o + length (way c) ≤ length (l .room)
+way-room : (c : tie.After-state-for Inv-loop μ-loop) → let l = turn (asked c) .before .loop in l .o + length (way c) ≤ length (l .room)
 way-room c =
-    let o = c .before in
+    let o = asked c in
     let t = turn o in
     let a = start t .args in
-    let result = pairEncode (a .encoding) (a .table .now) (a .second .now) (getD (a .scalars .now) (t .before .loop .i) 0) in
-    let answer = pair-answered (o .one-of .result) _ _ _ _ _ (o .one-of .ensures) _ (c .state-for .ensures) in
-    running-front _ _ _ _ _ _ _ _ _ (t .before .loop .inv) (way c)
-    (here-least _ _ _ _ _ (t .loop-test .taken) (way c) (c .state-for .result) result answer) (start t .pre .1)
+    let result = pairEncode (a .encoding) (lookUp (a .table .now) (a .links .now)) (a .second .now) (getD (a .scalars .now) (t .before .loop .i) 0) in
+    let answer = pair-answered (o .one-by .result) _ _ _ _ _ (o .one-by .ensures .0) _ (c .state-for .ensures) in
+    running-front _ _ _ _ _ _ _ _ _ (t .before .loop .inv .0) (way c)
+    (here-least _ _ _ _ _ (t .loop-test .taken) (way c) (c .state-for .result) result answer) (start t .pre .2)
 
 put-requires : tie.Need-put-requires Inv-loop μ-loop
 put-requires c κs = way-room (c .before)
@@ -142,13 +151,13 @@ put-requires-2 : tie.Need-put-requires-2 Inv-loop μ-loop
 put-requires-2 c κs =
     let w = c .before in
     let at-put = shifted (w .before) in
-    let t = turn (after at-put .before) in
-    running-room-both _ _ _ _ _ _ _ _ _ (t .before .loop .inv) _ (way (after at-put)) (bytes w) (bytes-here w) (start t .pre .1) _ _
+    let t = turn (asked (after at-put)) in
+    running-room-both _ _ _ _ _ _ _ _ _ (t .before .loop .inv .0) _ (way (after at-put)) (bytes w) (bytes-here w) (start t .pre .2) _ _
     (at-put .put .ensures .0) (at-put .put .ensures .1)
 
 add-i-2 : tie.Need-add-i-2 Inv-loop μ-loop
 add-i-2 c =
-    let t = turn (after (shifted (c .before .before .before .before .before)) .before) in
+    let t = turn (asked (after (shifted (c .before .before .before .before .before)))) in
     record { fits = omega (arith, t .loop-test .taken) }
 
 loop-less-2 : tie.Need-loop-less-2 Inv-loop μ-loop
@@ -159,34 +168,43 @@ loop-again-2 c =
     let second = c .before .before in
     let w = second .before .before in
     let at-put = shifted (w .before) in
-    let t = turn (after at-put .before) in
-    running-both _ _ _ _ _ _ _ _ _ (t .before .loop .inv) _ (way (after at-put)) (bytes w) (bytes-here w) (start t .pre .1) _ _
-    (at-put .put .ensures .0) (at-put .put .ensures .1) _ _ (second .put2 .ensures .0) (second .put2 .ensures .1)
+    let o = asked (after at-put) in
+    let t = turn o in (
+      running-both _ _ _ _ _ _ _ _ _ (t .before .loop .inv .0) _ (way (after at-put)) (bytes w) (bytes-here w) (start t .pre .2) _ _
+          (at-put .put .ensures .0) (at-put .put .ensures .1) _ _ (second .put2 .ensures .0) (second .put2 .ensures .1),
+      o .one-by .ensures .1,
+      omega (arith, o .one-by .kept, t .before .loop .inv .2),
+    )
 
 same-length : tie.Need-same-length Inv-loop μ-loop
-same-length c = search needs
+same-length c =
+    let o = asked (after (shifted (c .before .before))) in
+    omega (arith, o .one-by .kept, turn o .before .loop .inv .2)
+
+same-length-2 : tie.Need-same-length-2 Inv-loop μ-loop
+same-length-2 c = search needs
 
 returns : tie.Need-returns Inv-loop μ-loop
 returns c =
     let at-put = shifted (c .before .before) in
     let to = after at-put in
-    let o = to .before in
+    let o = asked to in
     let t = turn o in
-    let named = pair-named (o .one-of .result) _ _ _ _ _ (o .one-of .ensures) _ (to .state-for .ensures) (c .before .if2 .left) in
-    running-stop _ _ _ _ _ _ _ _ _ (t .before .loop .inv) (here-stop _ _ _ _ _ (t .loop-test .taken) named (c .if3 .taken)) (way-room to)
+    let named = pair-named (o .one-by .result) _ _ _ _ _ (o .one-by .ensures .0) _ (to .state-for .ensures) (c .before .if2 .left) in
+    running-stop _ _ _ _ _ _ _ _ _ (t .before .loop .inv .0) (here-stop _ _ _ _ _ (t .loop-test .taken) named (c .if3 .taken)) (way-room to)
     _ _ (at-put .put .ensures .0) (at-put .put .ensures .1)
 
 put-requires-3 : tie.Need-put-requires-3 Inv-loop μ-loop
 put-requires-3 c κs =
     let e = c .before in
     let at-put = shifted (e .before .before) in
-    let t = turn (after at-put .before) in
-    running-room-both _ _ _ _ _ _ _ _ _ (t .before .loop .inv) _ (way (after at-put)) (refers e) (reference-here e) (start t .pre .1) _ _
+    let t = turn (asked (after at-put)) in
+    running-room-both _ _ _ _ _ _ _ _ _ (t .before .loop .inv .0) _ (way (after at-put)) (refers e) (reference-here e) (start t .pre .2) _ _
     (at-put .put .ensures .0) (at-put .put .ensures .1)
 
 add-i-3 : tie.Need-add-i-3 Inv-loop μ-loop
 add-i-3 c =
-    let t = turn (after (shifted (c .before .before .before .before .before .before)) .before) in
+    let t = turn (asked (after (shifted (c .before .before .before .before .before .before)))) in
     record { fits = omega (arith, t .loop-test .taken) }
 
 loop-less-3 : tie.Need-loop-less-3 Inv-loop μ-loop
@@ -197,15 +215,22 @@ loop-again-3 c =
     let second = c .before .before in
     let e = second .before .before in
     let at-put = shifted (e .before .before) in
-    let t = turn (after at-put .before) in
-    running-both _ _ _ _ _ _ _ _ _ (t .before .loop .inv) _ (way (after at-put)) (refers e) (reference-here e) (start t .pre .1) _ _
-    (at-put .put .ensures .0) (at-put .put .ensures .1) _ _ (second .put3 .ensures .0) (second .put3 .ensures .1)
+    let o = asked (after at-put) in
+    let t = turn o in (
+      running-both _ _ _ _ _ _ _ _ _ (t .before .loop .inv .0) _ (way (after at-put)) (refers e) (reference-here e) (start t .pre .2) _ _
+          (at-put .put .ensures .0) (at-put .put .ensures .1) _ _ (second .put3 .ensures .0) (second .put3 .ensures .1),
+      o .one-by .ensures .1,
+      omega (arith, o .one-by .kept, t .before .loop .inv .2),
+    )
 
-same-length-2 : tie.Need-same-length-2 Inv-loop μ-loop
-same-length-2 c = search needs
+same-length-3 : tie.Need-same-length-3 Inv-loop μ-loop
+same-length-3 c = c .before .loop .inv .2
+
+same-length-4 : tie.Need-same-length-4 Inv-loop μ-loop
+same-length-4 c = search needs
 
 returns-2 : tie.Need-returns-2 Inv-loop μ-loop
-returns-2 c = running-end _ _ _ _ _ _ _ _ _ (c .before .loop .inv) (c .loop-test .left)
+returns-2 c = running-end _ _ _ _ _ _ _ _ _ (c .before .loop .inv .0) (c .loop-test .left)
 
 pub write-by-spec : {M : Type 1} → statement M
 write-by-spec =
@@ -223,7 +248,7 @@ write-by-spec =
     add-i
     loop-less
     loop-again
-    one-of-requires
+    one-by-requires
     state-for-requires
     put-requires
     put-requires-2
@@ -231,10 +256,12 @@ write-by-spec =
     loop-less-2
     loop-again-2
     same-length
+    same-length-2
     returns
     put-requires-3
     add-i-3
     loop-less-3
     loop-again-3
-    same-length-2
+    same-length-3
+    same-length-4
     returns-2)

@@ -5,6 +5,7 @@ use mathlib.Core.Path.{ap, _∙_}
 use native.Mathlib.Omega.{arith}
 use Rattle.encoder.proofs.Filling.{slots-as, windows-slots, zero-slots}
 use Rattle.encoder.proofs.Scalars.{of-windows-1252, of-single-byte}
+use Rattle.standard.specs.Search.{searching}
 use Rattle.standard.specs.Indexes.{irregular}
 use lib.ListN.{length-replicate}
 use borrow.Author.Needs.{needs}
@@ -19,7 +20,7 @@ returns : tie.Need-returns
 returns c =
     let args = c .before .before .before .args in
     let at-pre = c .before .before .before .pre in
-    zero-slots (args .encoding) (args .table .now) _ (at-pre .1)
+    zero-slots (args .encoding) (searching (args .table .now)) _ (at-pre .1)
 
 slice-aggregate-fill-table : tie.Need-slice-aggregate-fill-table
 slice-aggregate-fill-table c = search needs

@@ -4,6 +4,8 @@ use mathlib.Core.Bool.{true, false}
 use lib.ListN.{length}
 use Rattle.encoder_spec.specs.Writing.{Writing}
 use Rattle.standard.specs.Encodings.{Tables, lent}
+use Rattle.standard.specs.Search.{Lookup}
+use Rattle.reverse_index_spec.specs.ReverseIndex.{lookUp}
 use Rattle.encoder.specs.WriterCode.{pairs}
 use Rattle.encoder.proofs.Most.{utf8-writing, pairs-writing, bytes-writing}
 use native.Mathlib.Omega.{arith}
@@ -12,16 +14,21 @@ use Rattle.encoder.proofs.writers.count.Statement.{statement}
 use Rattle.encoder.proofs.writers.count.Tie as tie
 
 abbrev start : tie.Else1 → tie.Start
-start c = c .before .before .before .before
+start c = c .before .before .before .before .before
 
 abbrev tables : tie.Start → Tables
 tables c = lent (c .args .t1 .now) (c .args .t2 .now)
 
+abbrev look : tie.Start → Lookup
+look c = lookUp (c .args .t1 .now) (c .args .links .now)
+
 count-requires : tie.Need-count-requires
-count-requires c κs = c .before .before .before .before .pre .1
+count-requires c κs = c .before .before .before .before .before .pre .1
 
 returns : tie.Need-returns
-returns c = c .count .ensures ∙ ap (λ (w : Writing). length (w .bytes)) (utf8-writing _ _ (c .before .before .before .before .before .args .state) _ _ (c .before .if1 .taken))
+returns c =
+    let s = c .before .before .before .before .before .before in
+    c .count .ensures ∙ ap (λ (w : Writing). length (w .bytes)) (utf8-writing (look s) _ _ (s .args .state) (tables s) _ (c .before .if1 .taken))
 
 pairs-requires : tie.Need-pairs-requires
 pairs-requires c κs = search needs
@@ -36,7 +43,7 @@ returns-2 c =
     let t = c .before in
     let s = start (t .before .before) in
     let p : pairs (s .args .encoding) ≡ true = sym (t .before .pairs .ensures) ∙ t .if2 .taken in
-    c .count2 .ensures ∙ ap (λ (w : Writing). length (w .bytes)) (pairs-writing _ _ _ (tables s) _ p)
+    c .count2 .ensures ∙ ap (λ (w : Writing). length (w .bytes)) (pairs-writing (look s) _ _ _ (tables s) _ p)
 
 count-requires-3 : tie.Need-count-requires-3
 count-requires-3 c κs =
@@ -50,7 +57,7 @@ returns-3 c =
     let t = c .before in
     let s = start (t .before .before) in
     let p : pairs (s .args .encoding) ≡ false = sym (t .before .pairs .ensures) ∙ t .if2 .left in
-    c .count3 .ensures ∙ ap (λ (w : Writing). length (w .bytes)) (bytes-writing _ _ (s .args .state) (tables s) _ p)
+    c .count3 .ensures ∙ ap (λ (w : Writing). length (w .bytes)) (bytes-writing (look s) _ _ (s .args .state) (tables s) _ p)
 
 pub count-spec : {M : Type 1} → statement M
 count-spec =

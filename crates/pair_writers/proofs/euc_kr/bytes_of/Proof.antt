@@ -19,8 +19,8 @@ pair-requires c κs = search needs
 
 returns-2 : tie.Need-returns-2
 returns-2 c =
-    let table = c .before .before .before .before .args .table .now in
-    λ h. c .pair .ensures (euc-kr-rows table (h .0)) (h .1) ∙ euc-kr-pair _ table (c .before .if1 .left)
+    let a = c .before .before .before .before .before .args in
+    λ h. c .pair .ensures (euc-kr-rows (a .table .now) (h .0)) (h .1) ∙ euc-kr-pair _ (a .table .now) (a .links .now) (c .before .if1 .left)
 
 pub bytes-of-spec : {M : Type 1} → statement M
 bytes-of-spec =

@@ -1,7 +1,7 @@
 -- `iso_2022_jp::bytes_of`, test by test. Assumes nothing.
 use mathlib.Core.Path.{_≡_, _∙_}
-use Rattle.standard.specs.Search.{searching}
 use Rattle.standard.specs.Encoders.Iso2022Jp.{changed}
+use Rattle.reverse_index_spec.specs.ReverseIndex.{lookUp}
 use Rattle.pair_writers.specs.Pairs.{orNone}
 use Rattle.pair_writers.proofs.Encoders.{iso-2022-jp-ascii, iso-2022-jp-yen, iso-2022-jp-overline}
 use Rattle.pair_writers.proofs.Encoders.{iso-2022-jp-unmapped, iso-2022-jp-pair, iso-2022-jp-rows}
@@ -12,7 +12,7 @@ use Rattle.pair_writers.proofs.iso_2022_jp.bytes_of.Tie as tie
 
 -- the function's start, and what the scalar is changed to
 abbrev start : tie.Else3 → tie.Start
-start c = c .before .before .before .before .before .before
+start c = c .before .before .before .before .before .before .before
 
 is-changed : (c : tie.After-changed) →
     orNone (c .changed .result) ≡ changed (start (c .before) .args .katakana .now) (start (c .before) .args .c)
@@ -50,7 +50,7 @@ returns-4 c =
     let d = c .before .before in
     let e = d .before in
     λ h. c .unwritable .ensures ∙
-    iso-2022-jp-unmapped (searching (start e .args .table .now)) _ _ (e .before .before .if1 .left) (e .before .if2 .left) (e .if3 .left) _
+    iso-2022-jp-unmapped (lookUp (start e .args .table .now) (start e .args .links .now)) _ _ (e .before .before .if1 .left) (e .before .if2 .left) (e .if3 .left) _
     (is-changed d) (c .before .if4 .taken)
 
 pair-requires : tie.Need-pair-requires
@@ -61,7 +61,7 @@ returns-5 c =
     let d = c .before .before in
     let e = d .before in
     λ h. c .pair .ensures (iso-2022-jp-rows (start e .args .table .now) (h .0)) (h .1) ∙
-    iso-2022-jp-pair (searching (start e .args .table .now)) _ _ (e .before .before .if1 .left) (e .before .if2 .left) (e .if3 .left) _
+    iso-2022-jp-pair (lookUp (start e .args .table .now) (start e .args .links .now)) _ _ (e .before .before .if1 .left) (e .before .if2 .left) (e .if3 .left) _
     (is-changed d) (c .before .if4 .left)
 
 pub bytes-of-spec : {M : Type 1} → statement M

@@ -1,4 +1,4 @@
--- `pair`: by the pointer that is searched for. Assumes nothing.
+-- `pair`: by the pointer that is looked up. Assumes nothing.
 use mathlib.Core.Path.{ap, _∙_}
 use mathlib.Core.Option.{Option}
 use Prim.Native.Nat.{ℕ}
@@ -19,9 +19,9 @@ at-requires c κs = search needs
 returns : tie.Need-returns
 returns c =
     let p = c .before in
-    let a = p .before .before .before .args in
+    let a = p .before .before .before .before .args in
     let y = layoutOf (a .encoding) in
-    λ i h. c .at .ensures (in-rows first y (a .low) (a .high) (a .table .now) (a .c) i (p .pointer .result) (p .pointer .ensures h)) ∙
+    λ i h. c .at .ensures (in-rows first y (a .low) (a .high) (a .table .now) (a .links .now) (a .c) i (p .pointer .result) (p .pointer .ensures h)) ∙
     ap (λ (o : Option ℕ). pairOrErrorWith y o (a .c)) (p .pointer .ensures h)
 
 pub pair-spec : {M : Type 1} → statement M

@@ -1,4 +1,6 @@
--- `pointer`: the search, or the slot of the code point. Assumes nothing.
+-- `pointer`: the look-up, or the slot of the code point. Assumes nothing.
+use mathlib.Core.Path.{_∙_}
+use Rattle.pair_writers.proofs.Encoders.{without-index}
 use native.Mathlib.Omega.{arith}
 use borrow.Author.Needs.{needs}
 use Rattle.pair_writers.proofs.slots.pointer.Statement.{statement}
@@ -25,7 +27,7 @@ by-slot-requires c κs = search needs
 returns-2 : tie.Need-returns-2
 returns-2 c =
     let at-if = c .before .before in
-    λ a. c .by-slot .ensures (a (at-if .if1 .left) .slot _ (omega arith))
+    λ a. let f = a (at-if .if1 .left) in c .by-slot .ensures (f .0 .slot _ (omega arith)) ∙ without-index _ _ _ _ _ (f .1)
 
 pub pointer-spec : {M : Type 1} → statement M
 pointer-spec =

@@ -1,0 +1,4 @@
+pub mod Shapes
+pub mod Theorems
+pub mod Calls
+pub mod Samples

@@ -1,0 +1,4 @@
+pub mod Chains
+pub mod Places
+pub mod Turns
+pub mod Answers

@@ -1,0 +1,4 @@
+pub mod ReverseIndex
+pub mod Calls
+pub mod Statements
+pub mod Samples

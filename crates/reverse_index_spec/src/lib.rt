@@ -1,0 +1,1 @@
+// What the reverse index calls mean. No code: crate reverse_index has it.
