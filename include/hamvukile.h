@@ -44,14 +44,14 @@ extern "C" {
 
 /* ---- Version --------------------------------------------------------------------------------------------------- */
 
-#define HAMVUKILE_VERSION "0.9.0"
+#define HAMVUKILE_VERSION "0.10.0"
 #define HAMVUKILE_VERSION_MAJOR 0
-#define HAMVUKILE_VERSION_MINOR 9
+#define HAMVUKILE_VERSION_MINOR 10
 #define HAMVUKILE_VERSION_PATCH 0
 
 /* The version as one number: 10,000 times major, 100 times minor, and patch. Records and calls of another version may
  * differ, so a program that finds another number than this in the library has been linked with the wrong one. */
-#define HAMVUKILE_VERSION_NUMBER 900
+#define HAMVUKILE_VERSION_NUMBER 1000
 
 /* The version of the library. */
 uint32_t hamvukile_version(void);
@@ -104,7 +104,8 @@ enum {
     HAMVUKILE_MAX_SCALARS = 16384,
     HAMVUKILE_MAX_LINE = 1024,
     HAMVUKILE_MAX_HELD = 3,   /* bytes that a decoder holds */
-    HAMVUKILE_MAX_NAME = 14   /* bytes of an encoding's name */
+    HAMVUKILE_MAX_NAME = 14,  /* bytes of an encoding's name */
+    HAMVUKILE_MAX_INDEX_NAME = 30 /* bytes of the name of an index file */
 };
 #define HAMVUKILE_MAX_TAKEN UINT32_C(4294967295) /* bytes that a decoder takes in all */
 
@@ -209,6 +210,13 @@ enum {
     HAMVUKILE_EUC_KR_CELLS = 23940
 };
 
+/* Writes the name of the published index file that fills an encoding's first table, or its second, to the front of the
+ * room, with no NUL behind it, and changes nothing behind that: "index-jis0208.txt" for Shift_JIS. The name is empty
+ * where the encoding has no such table; the second of ISO-2022-JP is for writing only. HAMVUKILE_MAX_INDEX_NAME bytes are
+ * always enough. Refusals: HAMVUKILE_UNKNOWN_ENCODING, HAMVUKILE_SMALL_ROOM, in this order. */
+hamvukile_named hamvukile_first_index_name(uint8_t encoding, uint8_t *room, size_t room_length);
+hamvukile_named hamvukile_second_index_name(uint8_t encoding, uint8_t *room, size_t room_length);
+
 /* What `hamvukile_index_line` answers, and `hamvukile_index_line_indexed`. */
 typedef struct {
     uint32_t pointer; /* the pointer of the entry; 0 where there is none */
@@ -305,6 +313,27 @@ hamvukile_answer hamvukile_feed(hamvukile_decoder decoder, const uint8_t *chunk,
  * HAMVUKILE_WRONG_TABLE, HAMVUKILE_SMALL_ROOM, in this order; then, in refusing mode, HAMVUKILE_MALFORMED. */
 hamvukile_answer hamvukile_finish(hamvukile_decoder decoder, const uint32_t *first, size_t first_length,
                                   const uint32_t *second, size_t second_length, uint32_t *room, size_t room_length);
+
+/* What the next two calls answer: the answer of the feed or the finish, and how many sequences were replaced. */
+typedef struct {
+    hamvukile_answer answer;
+    size_t count;
+} hamvukile_replacing;
+
+/* Feed and finish that also tell what was replaced by U+FFFD: answer and room are those of `hamvukile_feed` and
+ * `hamvukile_finish`, and for each replaced sequence, in order, two cells at the front of `spans` are its place, the
+ * bytes taken since the opening before its first byte, and its width, the bytes given up; nothing behind them changes.
+ * Bytes that are read again are no part of a width, and a U+FFFD that is text is not told. In refusing mode nothing is
+ * told. `spans` needs two cells for each byte of the chunk and each byte held: 2 * (chunk_length + decoder.held), at a
+ * finish 2 * decoder.held. Refusals are those of the two calls; then HAMVUKILE_SMALL_ROOM where `spans` is smaller. One
+ * decoder may be fed in all forms in turn. */
+hamvukile_replacing hamvukile_feed_replaced(hamvukile_decoder decoder, const uint8_t *chunk, size_t chunk_length,
+                                            const uint32_t *first, size_t first_length, const uint32_t *second,
+                                            size_t second_length, uint32_t *room, size_t room_length, uint32_t *spans,
+                                            size_t spans_length);
+hamvukile_replacing hamvukile_finish_replaced(hamvukile_decoder decoder, const uint32_t *first, size_t first_length,
+                                              const uint32_t *second, size_t second_length, uint32_t *room,
+                                              size_t room_length, uint32_t *spans, size_t spans_length);
 
 /* What feed and finish answer of a decoder that is lent: as `hamvukile_answer`, without the decoder. */
 typedef struct {

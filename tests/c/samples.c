@@ -657,6 +657,62 @@ static void labels(void) {
     check("2: the name of encoding 40", hamvukile_name(40, room, 0).refusal == HAMVUKILE_UNKNOWN_ENCODING);
 }
 
+/* The names of index files. */
+static void index_names(void) {
+    static const struct { uint8_t encoding; const char *first; const char *second; } files[] = {
+        { HAMVUKILE_UTF_8, "", "" },
+        { HAMVUKILE_IBM866, "index-ibm866.txt", "" },
+        { HAMVUKILE_ISO_8859_8_I, "index-iso-8859-8.txt", "" },
+        { HAMVUKILE_WINDOWS_1252, "", "" },
+        { HAMVUKILE_X_MAC_CYRILLIC, "index-x-mac-cyrillic.txt", "" },
+        { HAMVUKILE_GBK, "index-gb18030.txt", "index-gb18030-ranges.txt" },
+        { HAMVUKILE_BIG5, "index-big5.txt", "" },
+        { HAMVUKILE_EUC_JP, "index-jis0208.txt", "index-jis0212.txt" },
+        { HAMVUKILE_ISO_2022_JP, "index-jis0208.txt", "index-iso-2022-jp-katakana.txt" },
+        { HAMVUKILE_SHIFT_JIS, "index-jis0208.txt", "" },
+        { HAMVUKILE_EUC_KR, "index-euc-kr.txt", "" },
+        { HAMVUKILE_X_USER_DEFINED, "", "" },
+    };
+    uint8_t room[HAMVUKILE_MAX_INDEX_NAME + 1];
+    size_t i;
+    for (i = 0; i < sizeof files / sizeof *files; i++) {
+        int second;
+        for (second = 0; second <= 1; second++) {
+            const char *name = second ? files[i].second : files[i].first;
+            hamvukile_named (*call)(uint8_t, uint8_t *, size_t) = second ? hamvukile_second_index_name : hamvukile_first_index_name;
+            hamvukile_named n;
+            memset(room, 0x55, sizeof room);
+            n = call(files[i].encoding, room, HAMVUKILE_MAX_INDEX_NAME);
+            check("the name of an index file", n.refusal == 0 && n.length == strlen(name) && memcmp(room, name, n.length) == 0 && room[n.length] == 0x55);
+            if (n.length == 0) continue;
+            check("7: a room smaller than the name of an index file", call(files[i].encoding, room, n.length - 1).refusal == HAMVUKILE_SMALL_ROOM);
+        }
+    }
+    check("2: the index files of encoding 40", hamvukile_first_index_name(40, NULL, 0).refusal == HAMVUKILE_UNKNOWN_ENCODING &&
+        hamvukile_second_index_name(40, NULL, 0).refusal == HAMVUKILE_UNKNOWN_ENCODING);
+}
+
+/* What was replaced, in two feeds and a finish: UTF-8, E2 82 FF EF BF BD, and then F0 9F. */
+static void replaced(void) {
+    const uint8_t text[] = { 0xE2, 0x82, 0xFF, 0xEF, 0xBF, 0xBD, 0xF0, 0x9F };
+    uint32_t room[16], spans[24];
+    hamvukile_decoder d = hamvukile_open(HAMVUKILE_UTF_8, HAMVUKILE_REPLACING, HAMVUKILE_DROP_MARK).decoder;
+    hamvukile_replacing r;
+    memset(spans, 0x55, sizeof spans);
+    r = hamvukile_feed_replaced(d, text, 1, NULL, 0, NULL, 0, room, 16, spans, 2);
+    check("nothing is replaced while a sequence is held", r.answer.refusal == 0 && r.count == 0 && r.answer.decoder.held == 1 && spans[0] == 0x55555555);
+    d = r.answer.decoder;
+    r = hamvukile_feed_replaced(d, text + 1, 7, NULL, 0, NULL, 0, room, 16, spans, 15);
+    check("7: spans of a cell too few", r.answer.refusal == HAMVUKILE_SMALL_ROOM && r.count == 0 && spans[0] == 0x55555555);
+    r = hamvukile_feed_replaced(d, text + 1, 7, NULL, 0, NULL, 0, room, 16, spans, 16);
+    check("two errors side by side", r.answer.refusal == 0 && r.count == 2 && spans[0] == 0 && spans[1] == 2 && spans[2] == 2 && spans[3] == 1);
+    check("a U+FFFD that is text is not told", r.answer.written == 3 && room[2] == 0xFFFD && spans[4] == 0x55555555);
+    r = hamvukile_finish_replaced(r.answer.decoder, NULL, 0, NULL, 0, room, 3, spans, 6);
+    check("the end", r.answer.refusal == 0 && r.count == 1 && spans[0] == 6 && spans[1] == 2 && r.answer.decoder.ended == 1);
+    r = hamvukile_finish_replaced(r.answer.decoder, NULL, 0, NULL, 0, room, 3, spans, 6);
+    check("6: after the end", r.answer.refusal == HAMVUKILE_ENDED_DECODER && r.count == 0);
+}
+
 /* The constants of the header: names, lengths of tables, version. */
 static void constants(void) {
     static const struct { uint8_t encoding; const char *name; } named[] = {
@@ -845,6 +901,7 @@ int main(void) {
     part("sample readings 1 to 14 in every cut", samples);
     part("user rows of Shift_JIS in every cut", user_rows);
     part("places and lines of errors in every cut", places);
+    part("what was replaced", replaced);
     part("clean lists", lists);
     part("options lists", options);
     part("writing, with sample 15", writing);
@@ -855,6 +912,7 @@ int main(void) {
     part("a decoder that is lent", in_place);
     part("refusals, with sample 16", refusals);
     part("labels and names", labels);
+    part("names of index files", index_names);
     part("constants of the header", constants);
     part("index lines", index_lines);
     part("reverse indexes", indexes);

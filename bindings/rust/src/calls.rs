@@ -1,6 +1,8 @@
 //! The calls of `include/hamvukile.h`, with slices for pointers and lengths. They answer as they do through C.
 
-use crate::ffi::{self, Answer, Checked, Decoder, Found, Line, Listed, Named, Reply, Written};
+use crate::ffi::{
+    self, Answer, Checked, Decoder, Found, Line, Listed, Named, Replacing, Reply, Written,
+};
 
 #[inline]
 pub fn version() -> u32 {
@@ -18,6 +20,18 @@ pub fn label(bytes: &[u8]) -> Found {
 pub fn name(encoding: u8, room: &mut [u8]) -> Named {
     // SAFETY: the slice is valid for its length.
     unsafe { ffi::hamvukile_name(encoding, room.as_mut_ptr(), room.len()) }
+}
+
+#[inline]
+pub fn first_index_name(encoding: u8, room: &mut [u8]) -> Named {
+    // SAFETY: the slice is valid for its length.
+    unsafe { ffi::hamvukile_first_index_name(encoding, room.as_mut_ptr(), room.len()) }
+}
+
+#[inline]
+pub fn second_index_name(encoding: u8, room: &mut [u8]) -> Named {
+    // SAFETY: the slice is valid for its length.
+    unsafe { ffi::hamvukile_second_index_name(encoding, room.as_mut_ptr(), room.len()) }
 }
 
 #[inline]
@@ -103,6 +117,57 @@ pub fn finish(decoder: Decoder, first: &[u32], second: &[u32], room: &mut [u32])
             second.len(),
             room.as_mut_ptr(),
             room.len(),
+        )
+    }
+}
+
+#[inline]
+pub fn feed_replaced(
+    decoder: Decoder,
+    chunk: &[u8],
+    first: &[u32],
+    second: &[u32],
+    room: &mut [u32],
+    spans: &mut [u32],
+) -> Replacing {
+    // SAFETY: each slice is valid for its length; room and spans, borrowed mutably, overlap nothing.
+    unsafe {
+        ffi::hamvukile_feed_replaced(
+            decoder,
+            chunk.as_ptr(),
+            chunk.len(),
+            first.as_ptr(),
+            first.len(),
+            second.as_ptr(),
+            second.len(),
+            room.as_mut_ptr(),
+            room.len(),
+            spans.as_mut_ptr(),
+            spans.len(),
+        )
+    }
+}
+
+#[inline]
+pub fn finish_replaced(
+    decoder: Decoder,
+    first: &[u32],
+    second: &[u32],
+    room: &mut [u32],
+    spans: &mut [u32],
+) -> Replacing {
+    // SAFETY: each slice is valid for its length; room and spans, borrowed mutably, overlap nothing.
+    unsafe {
+        ffi::hamvukile_finish_replaced(
+            decoder,
+            first.as_ptr(),
+            first.len(),
+            second.as_ptr(),
+            second.len(),
+            room.as_mut_ptr(),
+            room.len(),
+            spans.as_mut_ptr(),
+            spans.len(),
         )
     }
 }

@@ -48,6 +48,12 @@ pub struct Answer {
 }
 
 #[repr(C)]
+pub struct Replacing {
+    pub answer: Answer,
+    pub count: usize,
+}
+
+#[repr(C)]
 pub struct Reply {
     pub written: usize,
     pub place: u32,
@@ -82,6 +88,8 @@ extern "C" {
     pub fn hamvukile_version() -> u32;
     pub fn hamvukile_label(bytes: *const u8, length: usize) -> Found;
     pub fn hamvukile_name(encoding: u8, room: *mut u8, room_length: usize) -> Named;
+    pub fn hamvukile_first_index_name(encoding: u8, room: *mut u8, room_length: usize) -> Named;
+    pub fn hamvukile_second_index_name(encoding: u8, room: *mut u8, room_length: usize) -> Named;
     pub fn hamvukile_index_line(
         line: *const u8,
         length: usize,
@@ -125,6 +133,30 @@ extern "C" {
         room: *mut u32,
         room_length: usize,
     ) -> Answer;
+    pub fn hamvukile_feed_replaced(
+        decoder: Decoder,
+        chunk: *const u8,
+        chunk_length: usize,
+        first: *const u32,
+        first_length: usize,
+        second: *const u32,
+        second_length: usize,
+        room: *mut u32,
+        room_length: usize,
+        spans: *mut u32,
+        spans_length: usize,
+    ) -> Replacing;
+    pub fn hamvukile_finish_replaced(
+        decoder: Decoder,
+        first: *const u32,
+        first_length: usize,
+        second: *const u32,
+        second_length: usize,
+        room: *mut u32,
+        room_length: usize,
+        spans: *mut u32,
+        spans_length: usize,
+    ) -> Replacing;
     pub fn hamvukile_feed_in_place(
         decoder: *mut Decoder,
         chunk: *const u8,

@@ -47,10 +47,13 @@ pub const MAX_FINISH: usize = 3;
 pub const OPTION_CELLS: usize = 5;
 const MAX_NAME: usize = 14;
 
+/// Bytes of the name of an index file, at most.
+const MAX_INDEX_NAME: usize = 30;
+
 /// The version of the library that is linked: 10,000 times major, 100 times minor, and patch.
 ///
 /// ```
-/// assert_eq!(hamvukile::version(), 900); // 0.9.0
+/// assert_eq!(hamvukile::version(), 1000); // 0.10.0
 /// ```
 pub fn version() -> u32 {
     calls::version()
@@ -286,6 +289,23 @@ impl Encoding {
         })
     }
 
+    /// The name of the published index file that fills its first table; empty where it has none.
+    ///
+    /// ```
+    /// use hamvukile::Encoding;
+    ///
+    /// assert_eq!(&*Encoding::SHIFT_JIS.first_index_name(), "index-jis0208.txt");
+    /// assert_eq!(&*Encoding::WINDOWS_1252.first_index_name(), "");
+    /// ```
+    pub fn first_index_name(self) -> IndexName {
+        IndexName::by(|room| calls::first_index_name(self.0, room))
+    }
+
+    /// The name of the file that fills its second table; empty where it has none. ISO-2022-JP's is for writing only.
+    pub fn second_index_name(self) -> IndexName {
+        IndexName::by(|room| calls::second_index_name(self.0, room))
+    }
+
     /// The encoding's name.
     pub fn name(self) -> Name {
         let mut bytes = [0; MAX_NAME];
@@ -329,6 +349,39 @@ impl Deref for Name {
 impl fmt::Debug for Name {
     fn fmt(&self, f: &mut fmt::Formatter<'_>) -> fmt::Result {
         fmt::Debug::fmt(self.as_str(), f)
+    }
+}
+
+/// The name of an index file. It is a `str`.
+#[derive(Clone, Copy, PartialEq, Eq)]
+pub struct IndexName {
+    bytes: [u8; MAX_INDEX_NAME],
+    length: usize,
+}
+
+impl IndexName {
+    fn by(call: impl FnOnce(&mut [u8]) -> ffi::Named) -> IndexName {
+        let mut bytes = [0; MAX_INDEX_NAME];
+        let named = call(&mut bytes);
+        debug_assert_eq!(named.refusal, 0);
+        IndexName {
+            bytes,
+            length: named.length,
+        }
+    }
+}
+
+impl Deref for IndexName {
+    type Target = str;
+
+    fn deref(&self) -> &str {
+        std::str::from_utf8(&self.bytes[..self.length]).expect("a name is ASCII")
+    }
+}
+
+impl fmt::Debug for IndexName {
+    fn fmt(&self, f: &mut fmt::Formatter<'_>) -> fmt::Result {
+        fmt::Debug::fmt(&**self, f)
     }
 }
 
@@ -575,6 +628,68 @@ impl Decoder {
         ))
     }
 
+    /// The spans that [`Decoder::feed_replaced`] needs for so many bytes.
+    pub fn spans_for(&self, chunk: usize) -> usize {
+        2 * self.room_for(chunk)
+    }
+
+    /// As [`Decoder::feed`], and tells which sequences were replaced by U+FFFD: their places and widths are written to the
+    /// front of the spans, which have at least [`Decoder::spans_for`] cells. A U+FFFD that is text is not told, and nothing
+    /// is told where errors are refused.
+    ///
+    /// ```
+    /// use hamvukile::{Decoder, Encoding, Mark, OnError, Replaced, Tables};
+    ///
+    /// let table = [0; 11_280];
+    /// let mut decoder = Decoder::new(Encoding::SHIFT_JIS, OnError::Replace, Mark::Drop);
+    /// let (mut room, mut spans) = ([0; 3], [0; 6]);
+    /// let (n, replaced) = decoder
+    ///     .feed_replaced(b"\x41\x82\x22", &Tables::jis0208(&table), &mut room, &mut spans)
+    ///     .unwrap();
+    /// assert_eq!((n, room), (3, [0x41, 0xFFFD, 0x22]));
+    /// let replaced: Vec<Replaced> = replaced.collect();
+    /// assert_eq!((replaced.len(), replaced[0].place, replaced[0].width), (1, 1, 1));
+    /// ```
+    pub fn feed_replaced<'s>(
+        &mut self,
+        chunk: &[u8],
+        tables: &Tables<'_>,
+        room: &mut [u32],
+        spans: &'s mut [u32],
+    ) -> Result<(usize, AllReplaced<'s>), Error> {
+        let answer =
+            calls::feed_replaced(self.state, chunk, tables.first, tables.second, room, spans);
+        self.told(&answer, spans)
+    }
+
+    /// As [`Decoder::finish`], and tells which sequences were replaced.
+    pub fn finish_replaced<'s>(
+        &mut self,
+        tables: &Tables<'_>,
+        room: &mut [u32; MAX_HELD],
+        spans: &'s mut [u32; 2 * MAX_HELD],
+    ) -> Result<(usize, AllReplaced<'s>), Error> {
+        let answer = calls::finish_replaced(self.state, tables.first, tables.second, room, spans);
+        self.told(&answer, spans)
+    }
+
+    fn told<'s>(
+        &mut self,
+        told: &ffi::Replacing,
+        spans: &'s [u32],
+    ) -> Result<(usize, AllReplaced<'s>), Error> {
+        let answer = &told.answer;
+        self.state = answer.decoder;
+        let written = decoded(&ffi::Reply {
+            written: answer.written,
+            place: answer.place,
+            line: answer.line,
+            refusal: answer.refusal,
+        })?;
+        let cells = spans[..2 * told.count].chunks_exact(2);
+        Ok((written, AllReplaced { cells }))
+    }
+
     /// The end of the text: writes what the bytes held give, and returns how many scalars. The decoder has ended then.
     /// The tables are those of a feed; they are looked at only while a mark is still to choose.
     pub fn finish(
@@ -591,6 +706,40 @@ impl Decoder {
         ))
     }
 }
+
+/// A sequence that was replaced by U+FFFD.
+#[derive(Clone, Copy, Debug, PartialEq, Eq)]
+#[non_exhaustive]
+pub struct Replaced {
+    /// The bytes taken since the decoder was made before its first byte.
+    pub place: u32,
+    /// The bytes given up.
+    pub width: u32,
+}
+
+/// The replaced sequences of a call, in order.
+#[derive(Clone, Debug)]
+pub struct AllReplaced<'s> {
+    cells: std::slice::ChunksExact<'s, u32>,
+}
+
+impl Iterator for AllReplaced<'_> {
+    type Item = Replaced;
+
+    fn next(&mut self) -> Option<Replaced> {
+        self.cells.next().map(|cells| Replaced {
+            place: cells[0],
+            width: cells[1],
+        })
+    }
+
+    fn size_hint(&self) -> (usize, Option<usize>) {
+        self.cells.size_hint()
+    }
+}
+
+impl ExactSizeIterator for AllReplaced<'_> {}
+impl std::iter::FusedIterator for AllReplaced<'_> {}
 
 /// Decodes a whole text, with U+FFFD for each error.
 ///

@@ -7,6 +7,8 @@ ghost use Rattle.index_spec.specs.IndexCall.{indexLine};
 ghost use Rattle.reverse_index_spec.specs.Calls.{indexSize, building, indexedLine};
 ghost use Rattle.decoder.specs.Calls.{opening, feeding, finishing};
 ghost use Rattle.in_place.specs.Replies.{Leaves};
+ghost use Rattle.index_files.specs.Files.{fileNaming};
+ghost use Rattle.replacements_spec.specs.Calls.{Leaves as LeavesReplaced, feedTelling, finishTelling};
 ghost use Rattle.clean.specs.Checking.{checking};
 ghost use Rattle.encoder_spec.specs.Writer.{writerCall, writerFinish};
 ghost use Rattle.indexed_writing.specs.Call.{indexedCall};
@@ -20,13 +22,14 @@ use index_spec::Line;
 use labels_spec::Found;
 use labels_spec::Named;
 use list_spec::Listed;
+use replacements_spec::Replacing;
 
-// The version of the library, 0.9.0: 10,000 times major, 100 times minor, and patch.
+// The version of the library, 0.10.0: 10,000 times major, 100 times minor, and patch.
 #[no_mangle]
 pub extern "C" fn hamvukile_version() -> u32
-    ensures { λ r. ⌜ r ≡ 900 ⌝ }
+    ensures { λ r. ⌜ r ≡ 1000 ⌝ }
 {
-    900
+    1000
 }
 
 // The label call.
@@ -44,6 +47,23 @@ pub extern "C" fn hamvukile_name(encoding: u8, room: &mut [u8]) -> Named
         (now (room .exit) ≡ naming encoding (now (room .entry)) .room) ⌝ }
 {
     labels::name(encoding, room)
+}
+
+// The names of the published index files: of an encoding's first table, and of its second.
+#[no_mangle]
+pub extern "C" fn hamvukile_first_index_name(encoding: u8, room: &mut [u8]) -> Named
+    ensures { λ r. ⌜ (r ≡ fileNaming 0 encoding (now (room .entry)) .answer) ×
+        (now (room .exit) ≡ fileNaming 0 encoding (now (room .entry)) .room) ⌝ }
+{
+    index_files::first_index_name(encoding, room)
+}
+
+#[no_mangle]
+pub extern "C" fn hamvukile_second_index_name(encoding: u8, room: &mut [u8]) -> Named
+    ensures { λ r. ⌜ (r ≡ fileNaming 1 encoding (now (room .entry)) .answer) ×
+        (now (room .exit) ≡ fileNaming 1 encoding (now (room .entry)) .room) ⌝ }
+{
+    index_files::second_index_name(encoding, room)
 }
 
 // The index line call.
@@ -123,6 +143,36 @@ pub extern "C" fn hamvukile_finish(
         (now (room .exit) ≡ finishing decoder (lent (now (first .entry)) (now (second .entry))) (now (room .entry)) .room) ⌝ }
 {
     decoder.finish(first, second, room)
+}
+
+// Feed and finish that also tell which sequences were replaced.
+#[no_mangle]
+pub extern "C" fn hamvukile_feed_replaced(
+    decoder: Decoder,
+    chunk: &[u8],
+    first: &[u32],
+    second: &[u32],
+    room: &mut [u32],
+    spans: &mut [u32],
+) -> Replacing
+    ensures { λ r. ⌜ LeavesReplaced (feedTelling decoder (lent (now (first .entry)) (now (second .entry))) (now (chunk .entry)) (now (room .entry))
+        (now (spans .entry))) r (now (room .exit)) (now (spans .exit)) ⌝ }
+{
+    replacements::feed(decoder, chunk, first, second, room, spans)
+}
+
+#[no_mangle]
+pub extern "C" fn hamvukile_finish_replaced(
+    decoder: Decoder,
+    first: &[u32],
+    second: &[u32],
+    room: &mut [u32],
+    spans: &mut [u32],
+) -> Replacing
+    ensures { λ r. ⌜ LeavesReplaced (finishTelling decoder (lent (now (first .entry)) (now (second .entry))) (now (room .entry))
+        (now (spans .entry))) r (now (room .exit)) (now (spans .exit)) ⌝ }
+{
+    replacements::finish(decoder, first, second, room, spans)
 }
 
 // Feed, on a decoder that is lent.

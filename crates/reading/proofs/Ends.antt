@@ -55,7 +55,7 @@ one-out t s b = go (eqb b 0x1B) (eqb (s .state) 3) (leb 0x21 b && leb b 0x7E) (e
     go false true false x y v w u = refl
     go false false i x y v w u = one x y v w u
 
-iso-end-any : (t : Tables) (s : Shift) (b : ℕ) → next t ISO-2022-JP s (b ∷ []) ≡ next noTables ISO-2022-JP s (b ∷ [])
+pub iso-end-any : (t : Tables) (s : Shift) (b : ℕ) → next t ISO-2022-JP s (b ∷ []) ≡ next noTables ISO-2022-JP s (b ∷ [])
 unfolding next iso2022Jp
 iso-end-any t s b = refl
 
@@ -89,11 +89,11 @@ module _ (t : Tables) (s : Shift) (b : ℕ) (q : Sequence) (e : nextOf q ≡ nex
           absurd (omega (arith, k))
 
 -- one byte held; bytes held in an encoding other than ISO-2022-JP; bytes held in any
-one-byte : (t : Tables) (f : Family) (s : Shift) (b : ℕ) → ending t f s (b ∷ []) ≡ span 1 error ∷ []
+pub one-byte : (t : Tables) (f : Family) (s : Shift) (b : ℕ) → ending t f s (b ∷ []) ≡ span 1 error ∷ []
 unfolding oneError isoEnd
 one-byte t f s b = either-end (λ is. is ≡ span 1 error ∷ []) t f s (b ∷ []) refl refl
 
-other-error : (t : Tables) (e : ℕ) (s : Shift) (b : ℕ) (xs : List ℕ) → (e ≡ 33 → ⊥) →
+pub other-error : (t : Tables) (e : ℕ) (s : Shift) (b : ℕ) (xs : List ℕ) → (e ≡ 33 → ⊥) →
     ending t (family e) s (b ∷ xs) ≡ span (suc (length xs)) error ∷ []
 unfolding ending oneError
 other-error t e s b xs n = by-family (λ f. ending t f s (b ∷ xs) ≡ span (suc (length xs)) error ∷ []) e (record {

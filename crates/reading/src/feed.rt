@@ -275,12 +275,12 @@ fn read_all(
 }
 
 // Where reading starts: the encoding that reads, the stage, the bytes of a mark before it, and the shift. Stage 1 says that the bytes wait.
-pub(crate) struct Start {
-    reads: u8,
-    stage: u8,
-    mark: u8,
-    state: u8,
-    flag: u8,
+pub struct Start {
+    pub reads: u8,
+    pub stage: u8,
+    pub mark: u8,
+    pub state: u8,
+    pub flag: u8,
 }
 
 // Reading starts at a spot, or where the first bytes choose.
@@ -362,4 +362,61 @@ pub fn read(
         s.state,
         s.flag,
     )
+}
+
+// Where reading starts, for callers outside: at the spot itself where more than three bytes are held or the chunk is longer than may be fed.
+pub fn starting(encoding: u8, stage: u8, held: Held, chunk: &[u8], state: u8, flag: u8) -> Start
+    ensures { λ r. ⌜ (held .count ≤ 3 → length (now (chunk .entry)) ≤ 65536 →
+        r ≡ startOf encoding stage state flag (bytesOf held ++ now (chunk .entry))) ⌝ }
+{
+    let spot = Start {
+        reads: encoding,
+        stage,
+        mark: 0,
+        state,
+        flag,
+    };
+    if 3 < held.count {
+        return spot;
+    }
+    if 65536 < chunk.len() {
+        return spot;
+    }
+    start_of(encoding, stage, held, chunk, state, flag)
+}
+
+// The sequence at a place of the bytes held and then the chunk, for callers outside; width 0 where more than three bytes are held, the
+// chunk is longer than may be fed, or the place lies behind its end.
+pub fn sequence(
+    encoding: u8,
+    held: Held,
+    chunk: &[u8],
+    t1: &[u32],
+    t2: &[u32],
+    at: usize,
+    state: u8,
+    flag: u8,
+) -> Sequence
+    ensures { λ r. ⌜ (held .count ≤ 3 → length (now (chunk .entry)) ≤ 65536 → at ≤ held .count + length (now (chunk .entry)) →
+        nextOf r ≡ next (lent (now (t1 .entry)) (now (t2 .entry))) (family encoding)
+        (shift state (eqb flag 1)) (drop at (bytesOf held ++ now (chunk .entry)))) ⌝ }
+{
+    let none = Sequence {
+        first: 0,
+        second: 0,
+        width: 0,
+        state: 0,
+        flag: 0,
+        count: 0,
+    };
+    if 3 < held.count {
+        return none;
+    }
+    if 65536 < chunk.len() {
+        return none;
+    }
+    if held.count as usize + chunk.len() < at {
+        return none;
+    }
+    sequence_at(encoding, held, chunk, t1, t2, at, state, flag)
 }

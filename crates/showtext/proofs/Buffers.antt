@@ -24,7 +24,7 @@ use Rattle.decoder.specs.declared.Answer.{Answer}
 use Rattle.demands.proofs.Steps.{handed-is, fedOut, feed-is, finish-is}
 use Rattle.demands.proofs.Rooms.{room-kept}
 use Rattle.showtext.specs.Output.{firstLine, afterLine, count, line, refused, scalarLines}
-use Rattle.showtext.specs.Places.{Put}
+use Rattle.program_text.specs.Places.{Put}
 use Rattle.showtext.specs.Code.{labelRefusal, heading, feedingOn}
 use Rattle.showtext.specs.Program.{Answers, Left, leave, linesOf, beginning, goingOn, closing, turning}
 use Rattle.showtext.specs.declared.Shown.{Shown}

@@ -1,10 +1,8 @@
 -- The promises of specs/Statements.antt. Assumes nothing.
 use mathlib.Core.Path.{_≡_, refl, sym, ap, _∙_, subst}
 use mathlib.Core.Bool.{Bool, true, false}
-use mathlib.Core.List.{List, [], _∷_, _++_, append-assoc, append-nil, map}
-use mathlib.Core.Option.{Option, some, none}
-use Prim.Native.Nat.{ℕ, suc, _+_, _≤_, _<_}
-use Prim.Native.String.{String}
+use mathlib.Core.List.{List, [], _∷_, _++_, append-assoc, append-nil}
+use Prim.Native.Nat.{ℕ, _+_, _≤_, _<_}
 use native.Mathlib.Nat.{zero-add}
 use native.Mathlib.Omega.{arith}
 use lib.Dec.{ltb, eqb}
@@ -20,10 +18,9 @@ use Rattle.standard.specs.Sequences.SingleByte.{singleByte}
 use Rattle.standard.specs.Next.{next}
 use Rattle.standard.specs.Decode.{reads, decode, oneError, ending, shown, everything}
 use Rattle.standard.proofs.Tests.{split}
-use Rattle.labels_spec.specs.Labels.{table, trimmed, fold, same, among, find, answer, label, name}
+use Rattle.labels_spec.specs.Labels.{table, trimmed, same, among, find, label, name}
 use Rattle.labels_spec.specs.Labels.{start as startOf}
 use Rattle.labels_spec.specs.declared.Found.{Found}
-use Rattle.labels_spec.proofs.Known.{encodings}
 use Rattle.standard.specs.Choice.{reader}
 use Rattle.standard.proofs.Stages.{none-rest}
 use Rattle.standard.proofs.Sniffing.{all-read}
@@ -38,62 +35,13 @@ use Rattle.demands.proofs.Steps.{opened-is, feed-holding}
 use Rattle.demands.proofs.Validity.{valid-opening}
 use Rattle.demands.proofs.Cutting.{cut-is-whole}
 use Rattle.demands.proofs.Rooms.{roomy, room-kept}
+use Rattle.program_text.proofs.FirstLine.{line-longer, after-few, line-cut, known-below}
 use Rattle.showtext.specs.Output.{firstLine, afterLine, digits, count, line, refused, scalarLines, printed}
 use Rattle.showtext.specs.Program.{Leaves, leave, linesOf, beginning, goingOn, closing, turning, nextStep, text, later, program, byStep}
 use Rattle.showtext.specs.declared.Shown.{Shown}
 use Rattle.showtext.specs.Statements.{joined, Small, Filled, Prints}
 use Rattle.showtext.proofs.Texts.{scalarLines-append}
 use Rattle.showtext.proofs.Buffers.{feed-few, finish-few, found, opened, fed, on-fed, going-is, at-long, at-unknown, at-refused, at-fed}
-
--- The first line of a longer input.
-line-closed : (xs ys : List ℕ) → length (firstLine xs) < length xs → (firstLine (xs ++ ys) ≡ firstLine xs) × (afterLine (xs ++ ys) ≡ afterLine xs ++ ys)
-unfolding firstLine afterLine
-line-closed [] ys h = absurd (omega arith)
-line-closed (b ∷ xs) ys h = go (line-closed xs ys) (eqb b 0x0A) h
-  where
-    go : (length (firstLine xs) < length xs → (firstLine (xs ++ ys) ≡ firstLine xs) × (afterLine (xs ++ ys) ≡ afterLine xs ++ ys)) → (e : Bool) → length (e then [] else b ∷ firstLine xs) < suc (length xs) →
-        ((e then [] else b ∷ firstLine (xs ++ ys)) ≡ (e then [] else b ∷ firstLine xs)) × ((e then xs ++ ys else afterLine (xs ++ ys)) ≡ (e then xs else afterLine xs) ++ ys)
-    go f true g = (refl, refl)
-    go f false g = let r = f (omega (arith, g)) in (ap (λ (l : List ℕ). b ∷ l) (r .0), r .1)
-
-line-longer : (xs ys : List ℕ) → length (firstLine xs) ≤ length (firstLine (xs ++ ys))
-unfolding firstLine
-line-longer [] ys = omega arith
-line-longer (b ∷ xs) ys = go (line-longer xs ys) (eqb b 0x0A)
-  where
-    go : length (firstLine xs) ≤ length (firstLine (xs ++ ys)) → (e : Bool) → length (e then [] else b ∷ firstLine xs) ≤ length (e then [] else b ∷ firstLine (xs ++ ys))
-    go f true = omega arith
-    go f false = omega (arith, f)
-
-after-few : (xs : List ℕ) → length (afterLine xs) ≤ length xs
-unfolding afterLine
-after-few [] = omega arith
-after-few (b ∷ xs) = split (eqb b 0x0A) (λ e. rw e (omega arith)) (λ e. rw e (omega (arith, after-few xs)))
-
--- The first buffer has the whole line, where that has at most 255 bytes.
-line-cut : (first : List ℕ) (bs : List (List ℕ)) → (length first < 256 → bs ≡ []) → length (firstLine first) ≤ 255 → (firstLine (first ++ joined bs) ≡ firstLine first) × (afterLine (first ++ joined bs) ≡ afterLine first ++ joined bs)
-unfolding joined
-line-cut first bs h l = split (ltb (length first) 256)
-    (λ e. rw (h (ltb-true (length first) 256 e), append-nil first, append-nil (afterLine first)) (refl, refl))
-    (λ e. line-closed first (joined bs) (omega (arith, l, ltb-false (length first) 256 e)))
-
--- An encoding that a label names has a number up to 39.
-find-below : (l : List ℕ) (n : ℕ) (rs : List (String × List String)) (e : ℕ) → find l n rs ≡ some e → e < n + length rs
-unfolding find
-find-below l n [] e h = let z : _≡_ {A = ℕ} 0 1 = cc in absurd (omega arith)
-find-below l n (r ∷ rs) e h = go (find-below l (suc n) rs e) (among l (r .1)) h
-  where
-    go : (find l (suc n) rs ≡ some e → e < suc n + length rs) → (b : Bool) → (b then some n else find l (suc n) rs) ≡ some e → e < n + suc (length rs)
-    go f true g = let z : n ≡ e = cc in omega (arith, z)
-    go f false g = omega (arith, f g)
-
-known-below : (xs : List ℕ) → (label xs .refusal ≡ 1 → ⊥) → label xs .encoding ≤ 39
-unfolding label
-known-below xs h = go (find (map fold (trimmed xs)) 0 table) refl h
-  where
-    go : (o : Option ℕ) → find (map fold (trimmed xs)) 0 table ≡ o → (answer xs o .refusal ≡ 1 → ⊥) → answer xs o .encoding ≤ 39
-    go none e g = absurd (g refl)
-    go (some n) e g = omega (arith, find-below (map fold (trimmed xs)) 0 table n e, encodings)
 
 -- What a call prints is its text.
 text-is : (d : Decoder) (n number : ℕ) (us room out : List ℕ) → text (leave d n number us room out) ≡ us
@@ -267,8 +215,12 @@ module _ (room out first : List ℕ) (bs : List (List ℕ)) (h : 4099 ≤ length
   long l = refuses D 1 (refused 1) room (at-long first room out l) refl ∙ sym (rw (lt-ltb 255 (length (firstLine (first ++ joined bs))) (omega (arith, l, line-longer first (joined bs)))))
 
   module _ (few : length (firstLine first) ≤ 255) where
+    none-behind : length first < 256 → joined bs ≡ []
+    unfolding joined
+    none-behind l = rw (c l)
+
     abbrev cut : (firstLine (first ++ joined bs) ≡ firstLine first) × (afterLine (first ++ joined bs) ≡ afterLine first ++ joined bs)
-    cut = line-cut first bs c few
+    cut = line-cut first (joined bs) none-behind few
 
     unknown : F .refusal ≡ 1 → program room out first bs ≡ printed (first ++ joined bs)
     unfolding printed

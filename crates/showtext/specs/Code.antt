@@ -1,20 +1,16 @@
 -- What functions within a step answer. A wrong line here would break a proof. Assumes nothing.
 use mathlib.Core.List.{List, _++_}
 use Prim.Native.Nat.{ℕ, _+_}
-use lib.Dec.{ltb, eqb}
-use lib.ListN.{length}
+use lib.Dec.{eqb}
 use Rattle.standard.specs.Base.{_then_else_}
 use Rattle.standard.specs.Text.{bytes}
 use Rattle.standard.specs.Encodings.{noTables}
-use Rattle.labels_spec.specs.Labels.{label, name}
+use Rattle.labels_spec.specs.Labels.{name}
 use Rattle.decoder.specs.Calls.{feeding}
 use Rattle.decoder.specs.declared.Decoder.{Decoder}
-use Rattle.showtext.specs.Output.{firstLine, line, refused}
+pub use Rattle.program_text.specs.Lines.{labelRefusal}
+use Rattle.showtext.specs.Output.{line, refused}
 use Rattle.showtext.specs.Program.{Leaves, leave, linesOf}
-
--- The refusal of a first line, or 0.
-abbrev pub labelRefusal : List ℕ → ℕ
-labelRefusal input = ltb 255 (length (firstLine input)) then 1 else label (firstLine input) .refusal
 
 -- The line of an encoding's name.
 abbrev pub heading : ℕ → List ℕ

@@ -11,7 +11,7 @@ use Rattle.labels_spec.specs.Labels.{label, name}
 use Rattle.decoder.specs.Calls.{Outcome, opening, feeding, finishing}
 use Rattle.decoder.specs.declared.Decoder.{Decoder}
 use Rattle.showtext.specs.Output.{firstLine, afterLine, count, line, refused, scalarLines}
-use Rattle.showtext.specs.Places.{Put}
+use Rattle.program_text.specs.Places.{Put}
 use Rattle.showtext.specs.declared.Shown.{Shown}
 
 -- What a call leaves: its answer, the room of the scalars, and the room of the text.

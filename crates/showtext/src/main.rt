@@ -4,20 +4,20 @@ mod lines;
 
 use decoder::Answer;
 use decoder::Decoder;
-use labels_spec::Found;
 use libc::STDIN_FILENO;
 use libc::STDOUT_FILENO;
 use lines::put_encoding;
-use lines::put_number;
 use lines::put_scalars;
+use program_text::after_line;
+use program_text::first_label;
+use program_text::put_number;
 ghost use mathlib.Core.Path.{_≡_};
 ghost use Prim.Native.Nat.{_+_, _*_, _≤_, _<_, _^_};
 ghost use lib.ListN.{length, take};
 ghost use Rattle.standard.specs.Encodings.{noTables};
 ghost use Rattle.decoder.specs.Calls.{feeding, finishing};
-ghost use Rattle.labels_spec.specs.Labels.{label};
-ghost use Rattle.showtext.specs.Output.{firstLine, afterLine, refused, scalarLines};
-ghost use Rattle.showtext.specs.Code.{labelRefusal, heading, feedingOn};
+ghost use Rattle.showtext.specs.Output.{refused, scalarLines};
+ghost use Rattle.showtext.specs.Code.{heading, feedingOn};
 ghost use Rattle.showtext.specs.Program.{Answers, Left, beginning, goingOn, closing, turning, nextStep};
 
 // The steps: the first buffer, a further one, the end of input. Then the program is over, or a read or a write failed.
@@ -37,45 +37,6 @@ struct Shown {
     refusal: u8,
     length: usize,
     count: u64,
-}
-
-// How many bytes the first line has, without its line feed.
-fn first_line(input: &[u8]) -> usize
-    ensures { λ r. ⌜ (r ≡ length (firstLine (now (input .entry)))) × (r ≤ length (now (input .entry))) ×
-        (take r (now (input .entry)) ≡ firstLine (now (input .entry))) ⌝ }
-{
-    let mut i: usize = 0;
-    while i < input.len() {
-        if input[i] == 0x0A {
-            return i;
-        }
-        i += 1;
-    }
-    i
-}
-
-// What the label call answers for the first line; one of more than 255 bytes is refused with 1.
-fn first_label(input: &[u8]) -> Found
-    ensures { λ r. ⌜ (r .encoding ≡ label (firstLine (now (input .entry))) .encoding) × (r .refusal ≡ labelRefusal (now (input .entry))) ⌝ }
-{
-    let n = first_line(input);
-    let mut found = labels::find_label(&input[0..n]);
-    if 255 < n {
-        found.refusal = 1;
-        return found;
-    }
-    found
-}
-
-// The bytes behind the first line.
-fn after_line<'a>(input: &'a [u8]) -> &'a [u8]
-    ensures { λ r. ⌜ now r ≡ afterLine (now (input .entry)) ⌝ }
-{
-    let n = first_line(input);
-    if n < input.len() {
-        return &input[n + 1..];
-    }
-    &input[n..]
 }
 
 // The one line of a refusal.

@@ -113,7 +113,50 @@ fn answer_of(reply: ffi::Reply, decoder: Record) -> ffi::Answer {
     }
 }
 
-/// A feed in both forms: by value, and on a lent decoder.
+/// Compares a call that also tells what was replaced, with every cell of its spans.
+fn told(
+    library: ffi::Replacing,
+    room: &[u32],
+    spans: &[u32],
+    reference: Answer,
+) -> Result<Answer, String> {
+    let reference = answers(library.answer, room, reference)?;
+    let cells = reference.spans.iter();
+    let cells: Vec<u32> = cells
+        .flat_map(|&(place, width)| [place as u32, width as u32])
+        .collect();
+    rooms("spans", spans, 2 * library.count, &cells, cell_before)?;
+    Ok(reference)
+}
+
+/// A call that tells what was replaced, with just enough spans, and with a cell less: an accepted one is then refused with 7.
+fn telling(
+    record: Record,
+    bytes: usize,
+    room: usize,
+    call: impl Fn(&mut [u32], &mut [u32]) -> ffi::Replacing,
+    reference: Answer,
+) -> Result<Answer, String> {
+    let needed = 2 * (bytes + usize::from(record.held));
+    let mut cells: Vec<u32> = (0..room + BEHIND).map(cell_before).collect();
+    let mut spans: Vec<u32> = (0..needed + BEHIND).map(cell_before).collect();
+    let library = call(&mut cells[..room], &mut spans[..needed]);
+    let reference = told(library, &cells, &spans, reference)?;
+    if (3..=64).contains(&bytes) || (bytes == 0 && needed > 0) {
+        let refusal = match reference.refusal {
+            0 | 11 => 7,
+            refusal => refusal,
+        };
+        let mut cells: Vec<u32> = (0..room + BEHIND).map(cell_before).collect();
+        let mut spans: Vec<u32> = (0..needed + BEHIND).map(cell_before).collect();
+        let library = call(&mut cells[..room], &mut spans[..needed - 1]);
+        let refused = reference::refused(refusal, record);
+        told(library, &cells, &spans, refused).map_err(|error| format!("few spans, {error}"))?;
+    }
+    Ok(reference)
+}
+
+/// A feed in its three forms: by value, on a lent decoder, and telling what was replaced.
 pub fn feed(record: Record, chunk: &[u8], tables: Tables, room: usize) -> Result<Answer, String> {
     let mut cells: Vec<u32> = (0..room + BEHIND).map(cell_before).collect();
     let library = calls::feed(
@@ -137,10 +180,16 @@ pub fn feed(record: Record, chunk: &[u8], tables: Tables, room: usize) -> Result
         tables.second,
         &mut again[..room],
     );
-    answers(answer_of(reply, lent), &again, reference).map_err(|error| format!("lent, {error}"))
+    let reference = answers(answer_of(reply, lent), &again, reference)
+        .map_err(|error| format!("lent, {error}"))?;
+    let (first, second) = (tables.first, tables.second);
+    let call = |room: &mut [u32], spans: &mut [u32]| {
+        calls::feed_replaced(record, chunk, first, second, room, spans)
+    };
+    telling(record, chunk.len(), room, call, reference).map_err(|error| format!("telling, {error}"))
 }
 
-/// A finish in both forms.
+/// A finish in its three forms.
 pub fn finish(record: Record, tables: Tables, room: usize) -> Result<Answer, String> {
     let mut cells: Vec<u32> = (0..room + BEHIND).map(cell_before).collect();
     let library = calls::finish(record, tables.first, tables.second, &mut cells[..room]);
@@ -148,7 +197,13 @@ pub fn finish(record: Record, tables: Tables, room: usize) -> Result<Answer, Str
     let mut lent = record;
     let mut again: Vec<u32> = (0..room + BEHIND).map(cell_before).collect();
     let reply = calls::finish_in_place(&mut lent, tables.first, tables.second, &mut again[..room]);
-    answers(answer_of(reply, lent), &again, reference).map_err(|error| format!("lent, {error}"))
+    let reference = answers(answer_of(reply, lent), &again, reference)
+        .map_err(|error| format!("lent, {error}"))?;
+    let (first, second) = (tables.first, tables.second);
+    let call = |room: &mut [u32], spans: &mut [u32]| {
+        calls::finish_replaced(record, first, second, room, spans)
+    };
+    telling(record, 0, room, call, reference).map_err(|error| format!("telling, {error}"))
 }
 
 pub fn check(encoding: u8, text: &[u8], tables: Tables) -> Result<Checked, String> {

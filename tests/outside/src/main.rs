@@ -6,6 +6,7 @@
 //! - `random [NUMBER [SEED]]`: long texts, fields, random calls, random index lines, random reverse indexes, random writing
 //!   with an index and random lists alone.
 //! - `showtext PROGRAM [SEED]`: the program `showtext` beside the reference; the seed of its random inputs (1).
+//! - `mend PROGRAM [SEED]`: the program `mend`, in the same way.
 
 mod compare;
 mod data;
@@ -18,6 +19,7 @@ mod lines;
 mod list;
 mod long;
 mod marks;
+mod mend;
 mod order;
 mod program;
 mod published;
@@ -100,6 +102,16 @@ fn compare_showtext(program: &str, seed: u64) -> Result<(), String> {
     show("showtext, long input", || showtext.long_input(seed))
 }
 
+fn compare_mend(program: &str, seed: u64) -> Result<(), String> {
+    data::read_windows_1252()?;
+    let mend = mend::Mend::new(program)?;
+    show("mend, document 02's example", || mend.example())?;
+    show("mend, encodings", || mend.encodings())?;
+    show("mend, refusals", || mend.refusals())?;
+    show("mend, ends of buffers", || mend.buffers())?;
+    show("mend, random inputs", || mend.random(500, seed))
+}
+
 fn numbers(arguments: &[String]) -> Option<(usize, u64)> {
     let (number, seed) = match arguments {
         [] => return Some((1_000_000, 1)),
@@ -119,6 +131,8 @@ fn run(arguments: &[String]) -> Option<Result<(), String>> {
             Some(data::Published::read().and_then(|tables| compare_random(&tables, number, seed)))
         }
         [mode, program] if mode == "showtext" => Some(compare_showtext(program, 1)),
+        [mode, program] if mode == "mend" => Some(compare_mend(program, 1)),
+        [mode, program, seed] if mode == "mend" => Some(compare_mend(program, seed.parse().ok()?)),
         [mode, program, seed] if mode == "showtext" => {
             Some(compare_showtext(program, seed.parse().ok()?))
         }
@@ -142,7 +156,7 @@ fn main() -> ExitCode {
         }
         None => {
             eprintln!(
-                "usage: outside [NUMBER [SEED]] | random [NUMBER [SEED]] | showtext PROGRAM [SEED]"
+                "usage: outside [NUMBER [SEED]] | random [NUMBER [SEED]] | showtext PROGRAM [SEED] | mend PROGRAM [SEED]"
             );
             ExitCode::from(2)
         }

@@ -138,3 +138,47 @@ fn peak_memory(process: u32) -> Result<usize, String> {
         .and_then(|field| field.trim().trim_end_matches(" kB").parse().ok())
         .ok_or("the program's memory is not known".to_string())
 }
+
+/// Both outputs of a program that runs in a folder, for an input in pieces, each written once the program has read the one
+/// before it.
+pub fn streams(
+    program: &Path,
+    folder: &Path,
+    pieces: &[&[u8]],
+) -> Result<(Vec<u8>, Vec<u8>), String> {
+    let mut command = Command::new(program);
+    let command = command.current_dir(folder).stdin(Stdio::piped());
+    let child = command
+        .stdout(Stdio::piped())
+        .stderr(Stdio::piped())
+        .spawn();
+    let mut child = child.map_err(|error| format!("{}: {error}", program.display()))?;
+    let mut pipe = child.stdin.take().expect("the input is a pipe");
+    let output = child.stdout.take().expect("the output is a pipe");
+    let mut report = child.stderr.take().expect("the report is a pipe");
+    thread::scope(|scope| {
+        let output = scope.spawn(move || read_all(output));
+        let report = scope.spawn(move || {
+            let mut bytes = Vec::new();
+            let read = report.read_to_end(&mut bytes);
+            read.map(|_| bytes)
+                .map_err(|error| format!("the report: {error}"))
+        });
+        for (number, piece) in pieces.iter().enumerate() {
+            while number > 0 && unread(&pipe)? > 0 && !output.is_finished() {
+                thread::sleep(Duration::from_micros(20));
+            }
+            if !write(&mut pipe, piece)? {
+                break;
+            }
+        }
+        drop(pipe);
+        let output = output.join().expect("the reader does not panic")?;
+        let report = report.join().expect("the reader does not panic")?;
+        let status = child.wait().map_err(|error| error.to_string())?;
+        if !status.success() {
+            return Err(format!("the program ended with {status}"));
+        }
+        Ok((output, report))
+    })
+}

@@ -691,9 +691,14 @@ struct Decoder {
     lines: u64,
 }
 
-/// What a run of the handler gives: the scalars, and where refusing mode met an error the bytes before its sequence.
+/// A sequence that was replaced: the bytes taken before it, and the bytes given up.
+pub type Span = (u64, u64);
+
+/// What a run of the handler gives: the scalars, the sequences that were replaced, and where refusing mode met an error the
+/// bytes before its sequence.
 struct Run {
     output: Vec<u32>,
+    spans: Vec<Span>,
     error: Option<u64>,
 }
 
@@ -771,6 +776,7 @@ impl Decoder {
         if self.waiting.is_some() && !self.chooses(&mut queue) {
             return Run {
                 output: Vec::new(),
+                spans: Vec::new(),
                 error: None,
             };
         }
@@ -782,9 +788,11 @@ impl Decoder {
             _ => tables,
         };
         let mut output = Vec::new();
+        let mut spans = Vec::new();
         let mut error = None;
         loop {
-            let (before, left) = (self.variables, bytes_of(&queue));
+            // The sequence begins with the bytes held, which stand before those of the queue.
+            let place = self.taken - bytes_of(&queue) - self.variables.held().len() as u64;
             let Some(byte) = queue.pop_front() else {
                 break;
             };
@@ -792,11 +800,15 @@ impl Decoder {
                 Finished => break,
                 Continue => {}
                 Error if self.mode == 1 => {
-                    // The sequence begins with the bytes held, which stand before those of the queue.
-                    error = Some(self.taken - left - before.held().len() as u64);
+                    error = Some(place);
                     break;
                 }
-                Error => self.push(&mut output, 0xFFFD),
+                Error => {
+                    // Bytes that were put back stand in the queue again.
+                    let held = self.variables.held().len() as u64;
+                    spans.push((place, self.taken - bytes_of(&queue) - held - place));
+                    self.push(&mut output, 0xFFFD);
+                }
                 One(code_point) => self.push(&mut output, code_point),
                 Two(one, two) => {
                     self.push(&mut output, one);
@@ -805,7 +817,11 @@ impl Decoder {
             }
         }
         self.lines += line_feeds(&output);
-        Run { output, error }
+        Run {
+            output,
+            spans,
+            error,
+        }
     }
 
     fn push(&mut self, output: &mut Vec<u32>, code_point: u32) {
@@ -866,6 +882,7 @@ impl Decoder {
             None => Answer {
                 refusal: 0,
                 output: run.output,
+                spans: run.spans,
                 place: 0,
                 line: 0,
                 record,
@@ -873,6 +890,7 @@ impl Decoder {
             Some(place) => Answer {
                 refusal: 11,
                 output: run.output,
+                spans: Vec::new(),
                 place,
                 line: 1 + self.lines,
                 record: self.ended(),
@@ -1081,16 +1099,18 @@ fn decoder_of(record: Record) -> Option<Known> {
 pub struct Answer {
     pub refusal: u8,
     pub output: Vec<u32>,
+    pub spans: Vec<Span>,
     pub place: u64,
     pub line: u64,
     pub record: Record,
 }
 
 /// A refused call.
-fn refused(refusal: u8, record: Record) -> Answer {
+pub fn refused(refusal: u8, record: Record) -> Answer {
     Answer {
         refusal,
         output: Vec::new(),
+        spans: Vec::new(),
         place: 0,
         line: 0,
         record,

@@ -1,4 +1,6 @@
 use Rattle.showtext.proofs.Buffers.{finished-fits, shown-few, closed-up}
+use Prim.Native.Nat.{_+_, _≤_}
+use lib.ListN.{length}
 use Rattle.standard.specs.Text.{bytes}
 use native.Mathlib.Omega.{arith}
 use borrow.Author.Needs.{needs}
@@ -31,17 +33,23 @@ slice-aggregate-put-number : tie.Need-slice-aggregate-put-number
 slice-aggregate-put-number c = search needs
 
 put-number-requires : tie.Need-put-number-requires
-put-number-requires c κs =
-    let at-show = c .before .before .before .before in
-    let s = start (finished at-show) in
-    let at-finish = finished at-show .finish in
+put-number-requires c κs = search needs
+
+-- the room has space for the last line
+abbrev Room : tie.After-show → Type 0
+Room c = c .show .result .length + 25 ≤ length (c .show .last .1 .1 .1 .0)
+
+room-left : (c : tie.After-show) → Room c
+room-left c =
+    let s = start (finished c) in
+    let at-finish = finished c .finish in
     let f = finished-fits (s .args .decoder) (s .args .room .now) (at-finish .ensures .0) (at-finish .ensures .1) in
     omega (
       arith,
       f .0,
       s .pre .0,
-      at-show .show .ensures .put .behind,
-      at-show .show .kept .1 .1 .1 .0,
+      c .show .ensures .put .behind,
+      c .show .kept .1 .1 .1 .0,
       shown-few (s .args .count) (at-finish .result .written) (at-finish .last .1 .0),
     )
 
@@ -59,7 +67,7 @@ returns c =
     let at-finish = finished at-show .finish in
     let at-end = c .before .before .put-number in
     closed-up (s .args .decoder) (s .args .count) (s .args .room .now) (s .args .out .now)
-    (at-finish .ensures .0) (at-finish .ensures .1) (at-show .show .ensures) (at-end .ensures) (omega (arith, s .pre .0))
+    (at-finish .ensures .0) (at-finish .ensures .1) (at-show .show .ensures) (at-end .ensures .put (room-left at-show)) (omega (arith, s .pre .0))
 
 pub close-spec : {M : Type 1} → statement M
 close-spec =

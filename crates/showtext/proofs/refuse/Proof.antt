@@ -1,4 +1,6 @@
 use Rattle.standard.specs.Text.{bytes}
+use mathlib.Core.Path.{refl}
+use native.Mathlib.Omega.{arith}
 use borrow.Author.Needs.{needs}
 use Rattle.showtext.proofs.refuse.Statement.{statement}
 use Rattle.showtext.proofs.refuse.Tie as tie
@@ -14,7 +16,7 @@ same-length c = search needs
 
 returns : tie.Need-returns
 unfolding bytes
-returns c = search needs
+returns c = record { decoder = refl; count = refl; refusal = refl; put = c .before .before .put-number .ensures .put (omega arith) }
 
 pub refuse-spec : {M : Type 1} → statement M
 refuse-spec =

@@ -1,7 +1,7 @@
 use lib.ListN.{getD}
 use mathlib.Core.Path.{_∙_}
 use Rattle.showtext.proofs.Texts.{no-lines, put-next, put-all, line-few}
-use Rattle.showtext.specs.Places.{Put}
+use Rattle.program_text.specs.Places.{Put}
 use Rattle.showtext.specs.Output.{scalarLines}
 use lib.ListN.{length, take}
 use Prim.Native.Nat.{_+_, _-_, _*_, _≤_}

@@ -1,0 +1,3 @@
+pub mod Loading
+pub mod Steps
+pub mod Statements

@@ -1,0 +1,4 @@
+pub mod Report
+pub mod Buffers
+pub mod Whole
+pub mod Theorems

@@ -1,0 +1,4 @@
+pub mod FirstLine
+pub mod Numbers
+pub mod Texts
+pub mod Utf8Texts

@@ -1,0 +1,5 @@
+pub mod Scan
+pub mod Walking
+pub mod Adding
+pub mod Told
+pub mod Calling

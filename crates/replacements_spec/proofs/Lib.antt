@@ -1,0 +1,5 @@
+pub mod Spans
+pub mod Shares
+pub mod Telling
+pub mod Theorems
+pub mod Samples
