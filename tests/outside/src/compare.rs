@@ -231,49 +231,25 @@ fn written(library: Written, cells: &[u8], reference: Encoded) -> Result<Encoded
     Ok(reference)
 }
 
+/// The writer's call, with an index where one is lent.
 pub fn encode(
     encoding: u8,
     mode: u8,
     state: u8,
     scalars: &[u32],
     tables: Tables,
+    index: Option<&[u32]>,
     room: usize,
 ) -> Result<Encoded, String> {
     let mut cells: Vec<u8> = (0..room + BEHIND).map(byte_before).collect();
-    let library = calls::encode(
-        encoding,
-        mode,
-        state,
-        scalars,
-        tables.first,
-        tables.second,
-        &mut cells[..room],
-    );
-    let reference = reference::encode(encoding, mode, state, scalars, tables, None, room);
-    written(library, &cells, reference)
-}
-
-pub fn encode_indexed(
-    encoding: u8,
-    mode: u8,
-    state: u8,
-    scalars: &[u32],
-    tables: Tables,
-    index: &[u32],
-    room: usize,
-) -> Result<Encoded, String> {
-    let mut cells: Vec<u8> = (0..room + BEHIND).map(byte_before).collect();
-    let library = calls::encode_indexed(
-        encoding,
-        mode,
-        state,
-        scalars,
-        tables.first,
-        tables.second,
-        index,
-        &mut cells[..room],
-    );
-    let reference = reference::encode(encoding, mode, state, scalars, tables, Some(index), room);
+    let (Tables { first, second }, lent) = (tables, &mut cells[..room]);
+    let library = match index {
+        None => calls::encode(encoding, mode, state, scalars, first, second, lent),
+        Some(index) => {
+            calls::encode_indexed(encoding, mode, state, scalars, first, second, index, lent)
+        }
+    };
+    let reference = reference::encode(encoding, mode, state, scalars, tables, index, room);
     written(library, &cells, reference)
 }
 

@@ -573,7 +573,7 @@ pub fn four_bytes(published: &Published) -> Result<String, String> {
 
 /// Writes scalars in refusing mode and reads them back; false where one of them cannot be written.
 fn round_trip(encoding: u8, scalars: &[u32], tables: Tables) -> Result<bool, String> {
-    let written = compare::encode(encoding, 1, 0, scalars, tables, 4 * scalars.len())?;
+    let written = compare::encode(encoding, 1, 0, scalars, tables, None, 4 * scalars.len())?;
     if written.refusal == 11 {
         return Ok(false);
     }
@@ -608,7 +608,7 @@ pub fn scalars(published: &Published) -> Result<String, String> {
     for encoding in (0..=28).chain([39u8]) {
         let tables = published.tables(encoding);
         let write_html =
-            |list: &[u32]| compare::encode(encoding, 0, 0, list, tables, 10 * list.len());
+            |list: &[u32]| compare::encode(encoding, 0, 0, list, tables, None, 10 * list.len());
         let write_and_read = |list: &[u32]| round_trip(encoding, list, tables);
         let case = |mode: u8, (list, error): (Vec<u32>, String)| {
             let name = name(encoding);
@@ -682,7 +682,7 @@ pub fn pair_writers(published: &Published) -> Result<String, String> {
                 second: tables.second,
             };
             let write =
-                |list: &[u32]| compare::encode(encoding, 0, 0, list, tables, 10 * list.len());
+                |list: &[u32]| compare::encode(encoding, 0, 0, list, tables, None, 10 * list.len());
             let case = |mode: u8, (list, error): (Vec<u32>, String)| {
                 let name = name(encoding);
                 format!("no scalar can be left out of\n  {name}, mode {mode}, {list:04X?}: {error}")
@@ -706,10 +706,10 @@ pub fn pair_writers(published: &Published) -> Result<String, String> {
 
 /// A scalar of ISO-2022-JP in a state, in both modes.
 fn iso_in_state(scalar: u32, state: u8, tables: Tables) -> Result<bool, String> {
-    compare::encode(33, 0, state, &[scalar], tables, 13)?;
-    let refusing = compare::encode(33, 1, state, &[scalar], tables, 5)?;
+    compare::encode(33, 0, state, &[scalar], tables, None, 13)?;
+    let refusing = compare::encode(33, 1, state, &[scalar], tables, None, 5)?;
     if let room @ 1.. = refusing.output.len() {
-        let small = compare::encode(33, 1, state, &[scalar], tables, room - 1)?;
+        let small = compare::encode(33, 1, state, &[scalar], tables, None, room - 1)?;
         if small.refusal != 7 {
             return Err(format!("room {}: expected 7", room - 1));
         }
@@ -720,8 +720,16 @@ fn iso_in_state(scalar: u32, state: u8, tables: Tables) -> Result<bool, String> 
 /// A whole writing of ISO-2022-JP in refusing mode, cut behind the first scalar, with its finish, read back with the same
 /// first table.
 fn iso_read_back(scalars: &[u32], tables: Tables) -> Result<(), String> {
-    let one = compare::encode(33, 1, 0, &scalars[..1], tables, 5)?;
-    let other = compare::encode(33, 1, one.state, &scalars[1..], tables, 5 * scalars.len())?;
+    let one = compare::encode(33, 1, 0, &scalars[..1], tables, None, 5)?;
+    let other = compare::encode(
+        33,
+        1,
+        one.state,
+        &scalars[1..],
+        tables,
+        None,
+        5 * scalars.len(),
+    )?;
     let last = compare::encode_finish(other.state, 3)?;
     let bytes = [one.output, other.output, last.output].concat();
     let start = compare::open(33, 1, 1)?.record;
@@ -744,12 +752,12 @@ fn iso_read_back(scalars: &[u32], tables: Tables) -> Result<(), String> {
 fn iso_long(all: &[u32], writable: &[u32], tables: Tables) -> Result<(), String> {
     for state in 0..3 {
         for part in all.chunks(16384) {
-            compare::encode(33, 0, state, part, tables, 13 * part.len())?;
+            compare::encode(33, 0, state, part, tables, None, 13 * part.len())?;
         }
     }
     let (mut state, mut bytes) = (0, Vec::new());
     for part in writable.chunks(5000) {
-        let answer = compare::encode(33, 1, state, part, tables, 5 * part.len())?;
+        let answer = compare::encode(33, 1, state, part, tables, None, 5 * part.len())?;
         state = answer.state;
         bytes.extend(answer.output);
     }

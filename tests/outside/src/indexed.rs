@@ -33,8 +33,8 @@ pub fn plane(published: &Published) -> Result<String, String> {
         for part in all.chunks(16384) {
             let room = BYTES * part.len();
             let case = |error| format!("{}: {error}", name(encoding));
-            let with = compare::encode_indexed(encoding, 0, 0, part, tables, &index, room)
-                .map_err(case)?;
+            let with =
+                compare::encode(encoding, 0, 0, part, tables, Some(&index), room).map_err(case)?;
             let plain = without(encoding, 0, 0, part, tables, room);
             if (with.output, with.state) != (plain.output, plain.state) {
                 return Err(case("a true index writes otherwise".to_string()));
@@ -135,7 +135,7 @@ fn text(
     random: &mut Random,
 ) -> Result<bool, String> {
     let room = BYTES * scalars.len();
-    let whole = compare::encode_indexed(encoding, mode, 0, scalars, tables, index, room)?;
+    let whole = compare::encode(encoding, mode, 0, scalars, tables, Some(index), room)?;
     let plain = without(encoding, mode, 0, scalars, tables, room);
     let shape = |answer: &Encoded| {
         let Encoded {
@@ -154,19 +154,26 @@ fn text(
         ));
     }
     if let small @ 1.. = whole.output.len() {
-        let refused =
-            compare::encode_indexed(encoding, mode, 0, scalars, tables, index, small - 1)?;
+        let refused = compare::encode(encoding, mode, 0, scalars, tables, Some(index), small - 1)?;
         if refused.refusal != 7 {
             return Err(format!("room {}: expected 7", small - 1));
         }
     }
     let cut = random.below(scalars.len() + 1);
-    let one = compare::encode_indexed(encoding, mode, 0, &scalars[..cut], tables, index, room)?;
+    let one = compare::encode(
+        encoding,
+        mode,
+        0,
+        &scalars[..cut],
+        tables,
+        Some(index),
+        room,
+    )?;
     let mut pieces = one.output;
     if one.refusal == 0 {
         let rest = &scalars[cut..];
         pieces.extend(
-            compare::encode_indexed(encoding, mode, one.state, rest, tables, index, room)?.output,
+            compare::encode(encoding, mode, one.state, rest, tables, Some(index), room)?.output,
         );
     }
     if pieces != whole.output {

@@ -287,7 +287,8 @@ fn encodes(published: &Published, calls: &mut Calls) {
                 );
                 let wrong = causes.contains(&15);
                 if !wrong {
-                    let answer = compare::encode(encoding, mode, state, &scalars, tables, room);
+                    let answer =
+                        compare::encode(encoding, mode, state, &scalars, tables, None, room);
                     calls.expect(&causes, call.clone(), answer.map(|answer| answer.refusal));
                 }
                 let cells = match (wrong, which) {
@@ -298,7 +299,7 @@ fn encodes(published: &Published, calls: &mut Calls) {
                 let index = vec![0; cells];
                 let call = format!("{call}, an index of {cells} cells");
                 let answer =
-                    compare::encode_indexed(encoding, mode, state, &scalars, tables, &index, room);
+                    compare::encode(encoding, mode, state, &scalars, tables, Some(&index), room);
                 calls.expect(&causes, call, answer.map(|answer| answer.refusal));
             }
         }

@@ -665,7 +665,7 @@ impl Place<'_> {
                 let whole =
                     reference::encode(*encoding, *mode, from, scalars, tables, None, usize::MAX);
                 let room = room_of(whole.output.len(), *room);
-                let answer = compare::encode(*encoding, *mode, from, scalars, tables, room)?;
+                let answer = compare::encode(*encoding, *mode, from, scalars, tables, None, room)?;
                 Ok(self.after_writing(answer))
             }
             Call::EncodeFinish { room, state } => {
