@@ -4,8 +4,9 @@ use mathlib.Core.Bool.{Bool, true, false, _||_}
 use mathlib.Core.List.{List, [], _∷_}
 use Prim.Native.Nat.{ℕ, _+_, _-_, _*_, _/_, _≤_, _<_}
 use native.Mathlib.Omega.{arith}
+use native.Mathlib.Nat.{add-zero}
 use lib.Dec.{eqb}
-use lib.ListN.{length, drop, getD}
+use lib.ListN.{length, drop, getD, set}
 use borrow.Author.Tests.{le-leb, lt-leb, ne-eqb, eqb-true, eqb-false}
 use Rattle.standard.specs.Layouts.{pairCode, iso2022JpLayout}
 use Rattle.standard.specs.Encodings.{ISO-2022-JP, Tables, lent}
@@ -15,7 +16,8 @@ use Rattle.standard.specs.Next.{next}
 use Rattle.standard.specs.Decode.{given}
 use Rattle.standard.proofs.Layouts.{pair-found}
 use Rattle.standard.proofs.Tests.{within-low}
-use Rattle.runs.specs.Run.{Gives}
+use Rattle.runs.specs.Run.{Gives, Ready}
+use Rattle.runs.proofs.Running.{Going, going-start, going-one}
 use Rattle.runs.proofs.Fronts.{byte-at, two-at, three-at}
 
 -- what a byte gives in the state of ASCII
@@ -79,6 +81,30 @@ module _ (m : ℕ) (chunk : List ℕ) (i : ℕ) (f : Bool) where
       ((xs : List ℕ) → next t ISO-2022-JP (shift 3 f) (getD chunk i 0 ∷ getD chunk (i + 1) 0 ∷ xs) ≡ item 2 (shift 3 false) (text (r ∷ []))) →
       Gives m (next t ISO-2022-JP (shift 3 f) (drop i chunk)) 2 (shift 3 false) r
   pair-there t h r e = record { out = text (r ∷ []); is = rw (two-at chunk i h) (e (drop (i + 2) chunk)); gives = refl; allowed = λ a q. let z : _≡_ {A = ℕ} 0 1 = cc in absurd (omega arith) }
+
+-- four bytes in the state of ASCII, one after another
+module _ (t : Tables) (m : ℕ) (n : m ≡ 1 → ⊥) (chunk : List ℕ) (at w : ℕ) (inside : at + 4 ≤ length chunk)
+    (free : (j : ℕ) → j < 4 → getD chunk (at + j) 0 ≡ 0x1B → ⊥) where
+  abbrev Come : Bool → Bool → ℕ → List ℕ → List ℕ → Type 0
+  Come f g j = Going t ISO-2022-JP m chunk at (at + j) (shift 0 f) (shift 0 g) w (w + j)
+
+  one-more : (f g : Bool) (j : ℕ) (room₀ room : List ℕ) → Come f g j room₀ room → j < 4 →
+      (r : ℕ) → given (byteOut 0 (getD chunk (at + j) 0)) ≡ r ∷ [] → Come f false (j + 1) room₀ (set room (w + j) r)
+  one-more f g j room₀ room G h r e =
+      let i : at + j + 1 ≡ at + (j + 1) = omega arith in
+      let o : w + j + 1 ≡ w + (j + 1) = omega arith in
+      rw (i, o) at (going-one G (byte-there m chunk (at + j) g t (omega arith) (free j h) (λ z. absurd (n z)) r e))
+
+  pub four-bytes : (f : Bool) (room : List ℕ) → Ready chunk at room w → (a b c d : ℕ) →
+      given (byteOut 0 (getD chunk at 0)) ≡ a ∷ [] → given (byteOut 0 (getD chunk (at + 1) 0)) ≡ b ∷ [] →
+      given (byteOut 0 (getD chunk (at + 2) 0)) ≡ c ∷ [] → given (byteOut 0 (getD chunk (at + 3) 0)) ≡ d ∷ [] →
+      Come f false 4 room (set (set (set (set room w a) (w + 1) b) (w + 2) c) (w + 3) d)
+  four-bytes f room h a b c d e₀ e₁ e₂ e₃ =
+      let first = rw (add-zero at) at (free 0 (omega arith)) in
+      let one = going-one (going-start h) (byte-there m chunk at f t (omega arith) first (λ z. absurd (n z)) a e₀) in
+      let two = one-more f false 1 room _ one (omega arith) b e₁ in
+      let three = one-more f false 2 room _ two (omega arith) c e₂ in
+      one-more f false 3 room _ three (omega arith) d e₃
 
 -- an escape at a place of the chunk, where something came since the one before
 pub escape-there : (chunk : List ℕ) (i flag r : ℕ) → (flag ≡ 1 → ⊥) → i + 3 ≤ length chunk → getD chunk i 0 ≡ 0x1B →

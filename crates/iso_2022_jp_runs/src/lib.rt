@@ -13,7 +13,7 @@ ghost use mathlib.Core.Bool.{Bool, true, false, _||_};
 ghost use mathlib.Core.List.{List, _∷_, []};
 ghost use Prim.Native.Nat.{ℕ, _+_, _-_, _≤_, _<_};
 ghost use lib.Dec.{eqb};
-ghost use lib.ListN.{length, drop};
+ghost use lib.ListN.{length, drop, getD};
 ghost use Rattle.standard.specs.Encodings.{Tables, ISO-2022-JP, lent};
 ghost use Rattle.standard.specs.Sequence.{text, item, shift};
 ghost use Rattle.standard.specs.Sequences.Iso2022Jp.{escaped, byteOut};
@@ -131,7 +131,8 @@ fn stretch(
     ensures { λ r. ⌜ Run (lent (now (t1 .entry)) (now (t2 .entry))) ISO-2022-JP mode (now (chunk .entry)) (placed from place state flag) r (now (room .entry)) (now (room .exit)) ⌝ }
 {
     if state == 0 {
-        return bytes(mode, chunk, t1, t2, from, room, place, flag);
+        let r = eights(mode, chunk, from, room, place, flag);
+        return bytes(mode, chunk, t1, t2, r.at, room, r.written, r.flag);
     }
     if state == 3 {
         return pairs(mode, chunk, t1, t2, from, room, place, flag);
@@ -142,6 +143,83 @@ fn stretch(
         state,
         flag,
     }
+}
+
+// 1 for the first byte of an escape, 0 for another.
+fn one_if_escape(b: u8) -> u8
+    ensures { λ r. ⌜ (b ≡ 0x1B → 1 ≤ r) ⌝ }
+{
+    if b == 0x1B {
+        return 1;
+    }
+    0
+}
+
+// Is none of eight bytes the first of an escape? They are tested together, without a branch for each.
+fn no_escape(chunk: &[u8], at: usize) -> bool
+    requires { ⌜ at + 8 ≤ length (now chunk) ⌝ }
+    ensures { λ r. ⌜ (r ≡ true → (j : ℕ) → j < 8 → getD (now (chunk .entry)) (at + j) 0 ≡ 0x1B → ⊥) ⌝ }
+{
+    let mut all: u8 = 0;
+    for k in 0..8 {
+        all = all | one_if_escape(chunk[at + k]);
+    }
+    all == 0
+}
+
+// The scalars of four bytes in the state of ASCII. All are read before one is stored: so the compiler reads and stores them at once.
+fn four_scalars(chunk: &[u8], at: usize, room: &mut [u32], o: usize)
+    requires { ⌜ (Ready (now chunk) at (now room) o) × (at + 4 ≤ length (now chunk))
+        × ((j : ℕ) → j < 4 → getD (now chunk) (at + j) 0 ≡ 0x1B → ⊥) ⌝ }
+    ensures { λ r. ⌜ ((t : Tables) (mode flag : ℕ) → (mode ≡ 1 → ⊥) →
+        Run t ISO-2022-JP mode (now (chunk .entry)) (placed at o 0 flag) (placed (at + 4) (o + 4) 0 0) (now (room .entry)) (now (room .exit))) ⌝ }
+{
+    let b0 = chunk[at];
+    let b1 = chunk[at + 1];
+    let b2 = chunk[at + 2];
+    let b3 = chunk[at + 3];
+    room[o] = byte_scalar(b0);
+    room[o + 1] = byte_scalar(b1);
+    room[o + 2] = byte_scalar(b2);
+    room[o + 3] = byte_scalar(b3);
+}
+
+// Bytes in the state of ASCII, eight at a time, as far as no escape begins among them. In mode 1, where an error stops, none.
+fn eights(mode: u8, chunk: &[u8], from: usize, room: &mut [u32], place: usize, flag: u8) -> Place
+    requires { ⌜ Ready (now chunk) from (now room) place ⌝ }
+    ensures { λ r. ⌜ ((t : Tables) → Run t ISO-2022-JP mode (now (chunk .entry)) (placed from place 0 flag) (placed (r .at) (r .written) 0 (r .flag))
+        (now (room .entry)) (now (room .exit))) ⌝ }
+{
+    let n = chunk.len();
+    let mut i = from;
+    let mut o = place;
+    let mut f = flag;
+    while eight_left(mode, n - i) {
+        if !no_escape(chunk, i) {
+            break;
+        }
+        four_scalars(chunk, i, room, o);
+        four_scalars(chunk, i + 4, room, o + 4);
+        i += 8;
+        o += 8;
+        f = 0;
+    }
+    Place {
+        at: i,
+        written: o,
+        state: 0,
+        flag: f,
+    }
+}
+
+// Are eight bytes left, in a mode other than 1?
+fn eight_left(mode: u8, left: usize) -> bool
+    ensures { λ r. ⌜ (r ≡ true → (mode ≡ 1 → ⊥) × (8 ≤ left)) ⌝ }
+{
+    if mode == 1 {
+        return false;
+    }
+    8 <= left
 }
 
 // Bytes in the state of ASCII.

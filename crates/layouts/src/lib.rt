@@ -1,6 +1,7 @@
 // Rows, columns and pointers of an index by the bytes of a pair. 32768 is none: it is past the end of every table.
 
 pub mod gb18030;
+pub mod ranges;
 
 ghost use mathlib.Core.Path.{_≡_};
 ghost use Prim.Native.Nat.{ℕ, _+_, _-_, _*_, _/_, _%_, _≤_, _<_};
@@ -168,7 +169,7 @@ pub fn pointer(encoding: u8, lead: u8, trail: u8) -> usize
 }
 
 // The cells of a row.
-fn divisor(encoding: u8) -> usize
+pub fn divisor(encoding: u8) -> usize
     ensures { λ r. ⌜ r ≡ layoutOf encoding .divisor ⌝ }
 {
     if encoding <= 30 {

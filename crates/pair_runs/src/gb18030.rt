@@ -3,8 +3,9 @@
 use index::mapped;
 use layouts::gb18030::four_pointer;
 use layouts::gb18030::gap;
+use layouts::ranges::search;
 ghost use mathlib.Core.Path.{_≡_};
-ghost use mathlib.Core.Bool.{true};
+ghost use mathlib.Core.Bool.{true, false};
 ghost use mathlib.Core.List.{List};
 ghost use Prim.Native.Nat.{ℕ, _+_, _-_, _*_, _/_, _≤_, _<_};
 ghost use lib.ListN.{length, drop, getD};
@@ -13,7 +14,7 @@ ghost use Rattle.standard.specs.Encodings.{GB18030, lent};
 ghost use Rattle.standard.specs.Sequence.{scalar, plain};
 ghost use Rattle.standard.specs.Sequences.Gb18030.{gb18030Range};
 ghost use Rattle.standard.specs.Next.{next};
-ghost use Rattle.pair_runs.specs.Ranges.{Ascending};
+ghost use Rattle.layouts.specs.Ranges.{Ascending};
 
 // The scalar of the four bytes at a place; 0 for none, and where the ranges are not in order.
 pub(crate) fn four_at(
@@ -23,7 +24,7 @@ pub(crate) fn four_at(
     chunk: &[u8],
     i: usize,
 ) -> u32
-    requires { ⌜ (i ≤ length (now chunk)) × (ordered ≡ true → Ascending (now ranges)) ⌝ }
+    requires { ⌜ (i ≤ length (now chunk)) × (ordered ≡ true → Ascending false (now ranges)) ⌝ }
     ensures { λ r. ⌜ ((r ≡ 0 → ⊥) → (ordered ≡ true) × (i + 4 ≤ length (now (chunk .entry))) × ((first : List ℕ) → next (lent first (now (ranges .entry))) GB18030 plain (drop i (now (chunk .entry))) ≡ scalar 4 r)) ⌝ }
 {
     if !ordered {
@@ -44,18 +45,18 @@ pub(crate) fn four_at(
 
 // The scalar of a pointer by the ranges, 0 for none: by the pair last used, or by a search.
 fn four_scalar(ranges: &[u32], last: &mut [u16], p: u32) -> u32
-    requires { ⌜ Ascending (now ranges) ⌝ }
+    requires { ⌜ Ascending false (now ranges) ⌝ }
     ensures { λ r. ⌜ ((r ≡ 0 → ⊥) → (r ≡ gb18030Range (now (ranges .entry)) p 0) × (mapped r ≡ true)) ⌝ }
 {
-    if last.len() < 512 {
+    if last.len() < 1024 {
         return 0;
     }
-    let h = (p / 64 % 512) as usize;
+    let h = (p / 32 % 1024) as usize;
     let u = range_scalar(ranges, number(last[h]), p);
     if u != 0 {
         return u;
     }
-    let k = search(ranges, p);
+    let k = search(ranges, false, p);
     last[h] = k as u16;
     range_scalar(ranges, k, p)
 }
@@ -69,41 +70,40 @@ fn number(k: u16) -> usize
 
 // The scalar of a pointer by a pair; 0 for none, and where the pair is not the last one that is not above the pointer.
 fn range_scalar(ranges: &[u32], k: usize, p: u32) -> u32
-    requires { ⌜ Ascending (now ranges) ⌝ }
+    requires { ⌜ Ascending false (now ranges) ⌝ }
     ensures { λ r. ⌜ ((r ≡ 0 → ⊥) → (r ≡ gb18030Range (now (ranges .entry)) p 0) × (mapped r ≡ true)) ⌝ }
 {
     if ranges.len() / 2 <= k {
         return 0;
     }
-    if pointer_after(ranges, k) <= p {
+    if pointer_after(ranges, k) <= p as u64 {
         return 0;
     }
     pair_scalar(ranges[k * 2], ranges[k * 2 + 1], p)
 }
 
-// The pointer of the pair after a pair; above all pointers if there is none.
-fn pointer_after(ranges: &[u32], k: usize) -> u32
+// The pointer of the pair after a pair; above all pointers if there is none. Without a branch, which would be guessed wrong often.
+fn pointer_after(ranges: &[u32], k: usize) -> u64
     requires { ⌜ (length (now ranges) ≤ 65536) × (k < length (now ranges) / 2) ⌝ }
     ensures { λ r. ⌜ (k + 1 < length (now (ranges .entry)) / 2 → r ≡ getD (now (ranges .entry)) ((k + 1) * 2) 0) ⌝ }
 {
-    let j = place_after(ranges.len(), k);
-    let q = ranges[j];
-    if j == 0 {
-        return 0xFFFFFFFF;
-    }
-    q
+    let z = at_end(ranges.len() / 2, k);
+    wide(ranges[(k + 1 - z) * 2]) + (z as u64) * 0x100000000
 }
 
-// Where the pair after a pair stands, 0 if there is none.
-fn place_after(n: usize, k: usize) -> usize
-    requires { ⌜ (n ≤ 65536) × (k < n / 2) ⌝ }
-    ensures { λ r. ⌜ (r < n) × (k + 1 < n / 2 → r ≡ (k + 1) * 2) ⌝ }
+// 1 for the last of n pairs, else 0.
+fn at_end(n: usize, k: usize) -> usize
+    requires { ⌜ (n ≤ 32768) × (k < n) ⌝ }
+    ensures { λ r. ⌜ (r ≤ 1) × (k + 1 < n + r) × (k + 1 < n → r ≡ 0) ⌝ }
 {
-    let j = (k + 1) * 2;
-    if j < n {
-        return j;
-    }
-    0
+    (k + 0x100000001 - n) / 0x100000000
+}
+
+// A number of 32 bits.
+fn wide(q: u32) -> u64
+    ensures { λ r. ⌜ (r ≡ q) × (q < 0x100000000) ⌝ }
+{
+    q as u64
 }
 
 // The scalar that a pair gives for a pointer, 0 for none.
@@ -119,44 +119,4 @@ fn pair_scalar(q: u32, c: u32, p: u32) -> u32
     }
     let v = u as u32;
     if mapped(v) { v } else { 0 }
-}
-
-// A pair not above the pointer with none after it that is not, if the pairs are in order.
-fn search(ranges: &[u32], p: u32) -> usize
-    requires { ⌜ length (now ranges) ≤ 65536 ⌝ }
-    ensures { λ r. ⌜ r ≤ 32768 ⌝ }
-{
-    let mut low: usize = 0;
-    let mut count = ranges.len() / 2;
-    while 1 < count {
-        let half = count / 2;
-        low += half * not_above(ranges[(low + half) * 2], p);
-        count -= half;
-    }
-    low
-}
-
-// 1 if q is not above p, else 0.
-fn not_above(q: u32, p: u32) -> usize
-    ensures { λ r. ⌜ r ≤ 1 ⌝ }
-{
-    (((p as u64) + 0x100000000 - (q as u64)) / 0x100000000) as usize
-}
-
-// Are the pointers of the pairs in ascending order?
-pub(crate) fn in_order(ranges: &[u32]) -> bool
-    ensures { λ r. ⌜ (r ≡ true → Ascending (now (ranges .entry))) ⌝ }
-{
-    if 65536 < ranges.len() {
-        return false;
-    }
-    let n = ranges.len() / 2;
-    let mut i: usize = 1;
-    while i < n {
-        if ranges[i * 2] < ranges[(i - 1) * 2] {
-            return false;
-        }
-        i += 1;
-    }
-    true
 }

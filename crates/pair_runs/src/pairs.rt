@@ -1,7 +1,6 @@
 // The encodings of one and two bytes, and of four in gb18030: GBK, gb18030, Big5, EUC-JP, Shift_JIS and EUC-KR.
 
 use crate::gb18030::four_at;
-use crate::gb18030::in_order;
 use crate::layout::lay_out;
 use crate::layout::pair_pointer;
 use crate::layout::pair_row;
@@ -9,6 +8,7 @@ use crate::layout::pointer_laid;
 use crate::layout::row_laid;
 use index::cell;
 use layouts::pointer;
+use layouts::ranges::in_order;
 use layouts::within;
 use runs::Place;
 use runs::ascii::copy_ascii;
@@ -26,10 +26,10 @@ ghost use Rattle.standard.specs.Base.{_then_else_, within};
 ghost use Rattle.standard.specs.Encodings.{family, lent};
 ghost use Rattle.standard.specs.Sequence.{plain, scalar, cell};
 ghost use Rattle.standard.specs.Next.{next};
+ghost use Rattle.layouts.specs.Ranges.{Ascending};
 ghost use Rattle.runs.specs.Run.{Run, Ready, placed, Gives};
 ghost use Rattle.pair_runs.specs.Layout.{row, column, Laid};
 ghost use Rattle.pair_runs.specs.Paired.{Paired};
-ghost use Rattle.pair_runs.specs.Ranges.{Ascending};
 
 // The cell of a pair, by the table of rows and columns if there is one.
 fn cell_of(encoding: u8, layout: &[u16], t1: &[u32], lead: u8, trail: u8) -> u32
@@ -184,12 +184,20 @@ fn row_of(encoding: u8, layout: &[u16], lead: u8) -> u16
 
 // May the ranges be searched?
 fn searched(encoding: u8, t2: &[u32]) -> bool
-    ensures { λ r. ⌜ (r ≡ true → (encoding ≤ 30) × Ascending (now (t2 .entry))) ⌝ }
+    ensures { λ r. ⌜ (r ≡ true → (encoding ≤ 30) × Ascending false (now (t2 .entry))) ⌝ }
 {
     if 30 < encoding {
         return false;
     }
-    in_order(t2)
+    in_order(t2, false)
+}
+
+// From how many bytes on it pays to look whether they may: from fewer in gb18030, where four bytes are usual.
+fn many(encoding: u8) -> usize {
+    if encoding == 30 {
+        return 1000;
+    }
+    4096
 }
 
 // ASCII, pairs, and anything else that gives one scalar. The rows and columns are laid out, and the ranges searched, only where it pays.
@@ -225,7 +233,7 @@ fn text(
     }
     let mut layout = [32768u16; 512];
     lay_out(encoding, &mut layout);
-    if chunk.len() - from < 4096 {
+    if chunk.len() - from < many(encoding) {
         let mut last = [0u16; 1];
         return items(
             encoding,
@@ -241,7 +249,7 @@ fn text(
             place,
         );
     }
-    let mut last = [0u16; 512];
+    let mut last = [0u16; 1024];
     items(
         encoding,
         mode,
@@ -311,7 +319,7 @@ fn items(
     room: &mut [u32],
     place: usize,
 ) -> Place
-    requires { ⌜ (Paired encoding) × (length (now t1) ≤ 32768) × (length (now layout) ≡ 512 → Laid encoding (now layout)) × (ordered ≡ true → (encoding ≤ 30) × Ascending (now t2))
+    requires { ⌜ (Paired encoding) × (length (now t1) ≤ 32768) × (length (now layout) ≡ 512 → Laid encoding (now layout)) × (ordered ≡ true → (encoding ≤ 30) × Ascending false (now t2))
         × (Ready (now chunk) from (now room) place) ⌝ }
     ensures { λ r. ⌜ Run (lent (now (t1 .entry)) (now (t2 .entry))) (family encoding) mode (now (chunk .entry)) (placed from place 0 0) r (now (room .entry)) (now (room .exit)) ⌝ }
 {

@@ -21,13 +21,12 @@ use Rattle.standard.specs.Next.{next}
 use Rattle.standard.proofs.Families.{by-family}
 use Rattle.standard.proofs.FamilyLaws.{keeps}
 use Rattle.line_feeds.specs.Parts.{part}
-use Rattle.line_feeds.proofs.Parts.{none-in}
 use Rattle.runs.specs.Run.{Ready, shiftAt, placed, Runs, Run}
 use Rattle.runs.specs.declared.Place.{Place}
 use Rattle.runs.specs.declared.Counted.{Counted}
 use Rattle.runs.specs.Counts.{counted, Counts}
 use Rattle.runs.specs.Stretch.{Copied}
-use Rattle.runs.proofs.Running.{runs-none, going-start, going-runs}
+use Rattle.runs.proofs.Running.{going-start, going-runs}
 use Rattle.runs.proofs.Stretches.{going-copied}
 use Rattle.runs.proofs.Counting.{Counting, counting-runs, runs-line-feeds}
 
@@ -70,11 +69,7 @@ self t UTF-16BE k b ys h = absurd k
 self t UTF-16LE k b ys h = absurd k
 self t x-user-defined k b ys h = rw (lt-ltb b 0x80 h)
 
--- a run that reads nothing, and one of ASCII alone
-pub counts-none : (t : Tables) (f : Family) (m : ℕ) {chunk : List ℕ} {p : Place} {r : Counted} {room : List ℕ} → r ≡ counted p 0 → Counts t f m chunk p r room room
-counts-none t f m {p = p} {room = room} e =
-    rw e (record { run = runs-none t f; lines = none-in room (p .written) (p .written - p .written) (omega arith) })
-
+-- a run of ASCII alone
 pub counts-ascii : (t : Tables) (f : Family) (m : ℕ) → T (keeps f) → {chunk : List ℕ} {p : Place} {n l : ℕ} {room room′ : List ℕ} →
     p .state ≡ 0 → p .flag ≡ 0 → Ready chunk (p .at) room (p .written) → Copied chunk (p .at) n (p .written) room room′ → l ≡ lineFeeds (part chunk (p .at) n) →
     Counts t f m chunk p (counted (placed (p .at + n) (p .written + n) 0 0) l) room room′
@@ -103,6 +98,3 @@ module _ {t : Tables} {f : Family} {m : ℕ} {chunk : List ℕ} (p : Place) (a :
     (e : k ≡ lineFeeds (part room″ (a .written) (r .written - a .written))) where
   pub both : Counting t f m chunk (p .at) (r .at) (shiftAt p) (shiftAt r) (p .written) (r .written) (a .lines + k) room room″
   both = counting-runs (record { going = record { runs = A .run; began = h; here = going-runs (going-start h) (A .run) .here }; lines = A .lines }) R e
-
-  pub counts-on : Counts t f m chunk p (counted r (a .lines + k)) room room″
-  counts-on = record { run = both .going .runs; lines = both .lines }

@@ -274,6 +274,17 @@ turn-done {a} {room₀} {room} {at} {state} {flag} {w} {l} R h =
     R .outcome ∙ rw (decode-more (keeps (family (a .encoding))) (nextIn a) (laws a) s (drop at (bytesIn a)) none)
     (emit-stop (a .mode) (spot (a .stage) s) (drop at (bytesIn a)) at l w room)
 
+-- A list of no numbers; and no byte at all is there.
+none-left : (xs : List ℕ) → length xs ≤ 0 → xs ≡ []
+none-left [] h = refl
+none-left (x ∷ xs) h = absurd (omega arith)
+
+pub turn-none : {a : Args} {room₀ room : List ℕ} {at state flag w l : ℕ} → Running a room₀ room at state flag w l → countIn a ≤ at →
+    wanted a room₀ ≡ record { left = leaves 0 w 0 l (spot (a .stage) (shift state (eqb flag 1))) []; room = room }
+turn-none {a} {room₀} {room} {at} {state} {flag} {w} {l} R h =
+    let z : length (drop at (bytesIn a)) ≤ 0 = omega (arith, left-count (a .held) (a .chunk) (R .few) at) in
+    turn-done R h ∙ rw (none-left (drop at (bytesIn a)) z)
+
 pub stops-no : (m n : ℕ) → eqb m 1 && eqb n 3 ≡ false → m ≡ 1 → n ≡ 3 → ⊥
 stops-no m n h p q = let k : true ≡ false = rw (p, q) at h in subst T k tt
 

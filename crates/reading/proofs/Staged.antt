@@ -14,8 +14,7 @@ use Rattle.standard.specs.Next.{next}
 use Rattle.standard.specs.Decode.{decode, ending, shown, broken}
 use Rattle.standard.specs.Choice.{Choice, waiting, label, marked, choose, reader, spot, Parsed, lift, chosen, readFrom, endFrom}
 use Rattle.standard.proofs.Stages.{at-wait, read-on}
-use Rattle.reading.specs.Reading.{bytesOf, chosenOf, behindMark, startOf, leaves, handed, past, reached, behind, ends}
-use Rattle.reading.specs.declared.choice.Chosen.{Chosen}
+use Rattle.reading.specs.Reading.{bytesOf, chosenOf, behindMark, atSpot, startOf, leaves, handed, past, reached, behind, ends}
 use Rattle.reading.specs.declared.feed.Start.{Start}
 use Rattle.reading.specs.declared.Held.{Held}
 use Rattle.reading.proofs.Choosing.{waits-when, mark-there}
@@ -61,13 +60,11 @@ module _ (e m : ℕ) (held : Held) (t : Tables) (room : List ℕ) where
 
 -- where reading starts, by the stage
 module _ (e g state flag : ℕ) (xs : List ℕ) where
-  pub starts-on : {n : ℕ} → n ≡ reader e g → (g ≡ 1 → ⊥) →
-      _≡_ {A = Start} (record { reads = n; stage = g; mark = 0; state = state; flag = flag }) (startOf e g state flag xs)
-  starts-on q h = rw (q, ne-eqb g 1 h)
+  pub starts-on : {s : Start} → s ≡ atSpot e g state flag → (g ≡ 1 → ⊥) → s ≡ startOf e g state flag xs
+  starts-on q h = q ∙ rw (ne-eqb g 1 h)
 
-  pub starts-first : {k : Chosen} {n : ℕ} → g ≡ 1 → k ≡ chosenOf (choose xs) → n ≡ reader e (k .stage) →
-      _≡_ {A = Start} (record { reads = n; stage = k .stage; mark = k .width; state = 0; flag = 0 }) (startOf e g state flag xs)
-  starts-first h p q = rw (q, p, h)
+  pub starts-first : {s : Start} → s ≡ behindMark e (chosenOf (choose xs)) → g ≡ 1 → s ≡ startOf e g state flag xs
+  starts-first q h = q ∙ rw h
 
 -- What is known of the start: at stage 1 the few bytes wait, else what is read from there on is what is wanted, and the mark is there.
 pub record Started (e m g state flag : ℕ) (held : Held) (t : Tables) (chunk room : List ℕ) (s : Start) : Type 0 where

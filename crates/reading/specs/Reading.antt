@@ -35,10 +35,12 @@ chosenOf (marked w g) = record { width = w; stage = g }
 abbrev pub behindMark : ℕ → Chosen → Start
 behindMark e k = record { reads = reader e (k .stage); stage = k .stage; mark = k .width; state = 0; flag = 0 }
 
+abbrev pub atSpot : ℕ → ℕ → ℕ → ℕ → Start
+atSpot e stage state flag = record { reads = reader e stage; stage = stage; mark = 0; state = state; flag = flag }
+
 abbrev pub startOf : ℕ → ℕ → ℕ → ℕ → List ℕ → Start
 startOf e stage state flag xs =
-    eqb stage 1 then behindMark e (chosenOf (choose xs)) else
-    record { reads = reader e stage; stage = stage; mark = 0; state = state; flag = flag }
+    eqb stage 1 then behindMark e (chosenOf (choose xs)) else atSpot e stage state flag
 
 -- 1 for yes, 0 for no
 abbrev pub bit : Bool → ℕ

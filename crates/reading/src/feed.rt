@@ -15,7 +15,7 @@ use sequences::Sequence;
 use sequences::next;
 ghost use mathlib.Core.Path.{_≡_};
 ghost use mathlib.Core.Bool.{_&&_};
-ghost use mathlib.Core.List.{_++_};
+ghost use mathlib.Core.List.{[], _++_};
 ghost use Prim.Native.Nat.{_+_, _-_, _≤_, _<_};
 ghost use lib.Dec.{eqb};
 ghost use lib.ListN.{length, getD, drop};
@@ -24,11 +24,11 @@ ghost use Rattle.standard.specs.Encodings.{family, lent};
 ghost use Rattle.standard.specs.Sequence.{shift};
 ghost use Rattle.standard.specs.Next.{next};
 ghost use Rattle.standard.specs.Decode.{given};
-ghost use Rattle.standard.specs.Choice.{spot};
+ghost use Rattle.standard.specs.Choice.{spot, choose};
 ghost use Rattle.sequences.specs.Code.{nextOf, outOf};
 ghost use Rattle.runs.specs.Run.{patch, placed};
 ghost use Rattle.runs.specs.Counts.{Counts};
-ghost use Rattle.reading.specs.Reading.{bytesOf, bit, leaves, past, startOf, readChunk};
+ghost use Rattle.reading.specs.Reading.{bytesOf, bit, leaves, past, chosenOf, behindMark, atSpot, startOf, readChunk};
 
 // The byte at a place of the bytes held and then the chunk; 0 past their end.
 fn byte_at(held: Held, chunk: &[u8], i: usize) -> u8
@@ -174,6 +174,28 @@ pub(crate) fn holds(
     }
 }
 
+// No byte to read: nothing is written, and nothing held.
+fn untouched(stage: u8, state: u8, flag: u8) -> Left
+    ensures { λ r. ⌜ r ≡ leaves 0 0 0 0 (spot stage (shift state (eqb flag 1))) [] ⌝ }
+{
+    let kept = bit(flag);
+    Left {
+        written: 0,
+        place: 0,
+        lines: 0,
+        refusal: 0,
+        stage,
+        state,
+        flag: kept,
+        held: Held {
+            count: 0,
+            first: 0,
+            second: 0,
+            third: 0,
+        },
+    }
+}
+
 // A run from a place of the bytes held and then the chunk, once the bytes held are read.
 fn run_from(
     encoding: u8,
@@ -244,6 +266,9 @@ fn read_all(
         × (now (room .exit) ≡ past encoding mode stage state flag held mark
         (lent (now (t1 .entry)) (now (t2 .entry))) (now (chunk .entry)) (now (room .entry)) .room) ⌝ }
 {
+    if mark == held.count as usize + chunk.len() {
+        return untouched(stage, state, flag);
+    }
     let mut at = mark;
     let mut s = state;
     let mut f = flag;
@@ -283,21 +308,25 @@ pub struct Start {
     pub flag: u8,
 }
 
-// Reading starts at a spot, or where the first bytes choose.
-fn start_of(encoding: u8, stage: u8, held: Held, chunk: &[u8], state: u8, flag: u8) -> Start
-    requires { ⌜ (held .count ≤ 3) × (length (now chunk) ≤ 65536) ⌝ }
-    ensures { λ r. ⌜ r ≡ startOf encoding stage state flag (bytesOf held ++ now (chunk .entry)) ⌝ }
+// Reading starts at a spot.
+fn at_spot(encoding: u8, stage: u8, state: u8, flag: u8) -> Start
+    ensures { λ r. ⌜ r ≡ atSpot encoding stage state flag ⌝ }
 {
-    if stage != 1 {
-        let reads = reader(encoding, stage);
-        return Start {
-            reads,
-            stage,
-            mark: 0,
-            state,
-            flag,
-        };
+    let reads = reader(encoding, stage);
+    Start {
+        reads,
+        stage,
+        mark: 0,
+        state,
+        flag,
     }
+}
+
+// Reading starts where the first bytes choose.
+fn at_choice(encoding: u8, held: Held, chunk: &[u8]) -> Start
+    requires { ⌜ (held .count ≤ 3) × (length (now chunk) ≤ 65536) ⌝ }
+    ensures { λ r. ⌜ r ≡ behindMark encoding (chosenOf (choose (bytesOf held ++ now (chunk .entry)))) ⌝ }
+{
     let first = byte_at(held, chunk, 0);
     let second = byte_at(held, chunk, 1);
     let third = byte_at(held, chunk, 2);
@@ -310,6 +339,17 @@ fn start_of(encoding: u8, stage: u8, held: Held, chunk: &[u8], state: u8, flag: 
         state: 0,
         flag: 0,
     }
+}
+
+// Reading starts at a spot, or where the first bytes choose.
+fn start_of(encoding: u8, stage: u8, held: Held, chunk: &[u8], state: u8, flag: u8) -> Start
+    requires { ⌜ (held .count ≤ 3) × (length (now chunk) ≤ 65536) ⌝ }
+    ensures { λ r. ⌜ r ≡ startOf encoding stage state flag (bytesOf held ++ now (chunk .entry)) ⌝ }
+{
+    if stage != 1 {
+        return at_spot(encoding, stage, state, flag);
+    }
+    at_choice(encoding, held, chunk)
 }
 
 // A chunk behind the bytes held, read from a spot into the room, where at most so many bytes may be read.
@@ -382,7 +422,10 @@ pub fn starting(encoding: u8, stage: u8, held: Held, chunk: &[u8], state: u8, fl
     if 65536 < chunk.len() {
         return spot;
     }
-    start_of(encoding, stage, held, chunk, state, flag)
+    if stage != 1 {
+        return at_spot(encoding, stage, state, flag);
+    }
+    at_choice(encoding, held, chunk)
 }
 
 // The sequence at a place of the bytes held and then the chunk, for callers outside; width 0 where more than three bytes are held, the

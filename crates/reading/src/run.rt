@@ -19,7 +19,7 @@ ghost use Rattle.line_feeds.specs.Parts.{part};
 ghost use Rattle.runs.specs.Run.{Run, Ready};
 ghost use Rattle.runs.specs.Counts.{counted, Counts};
 
-// A run from a place on. It may stop anywhere; what it has read stands in the room.
+// A run from a place on, of an encoding whose line feeds are counted behind it.
 fn by_number(
     encoding: u8,
     mode: u8,
@@ -33,12 +33,6 @@ fn by_number(
 {
     if encoding == 0 {
         return utf8_run(mode, chunk, room, p);
-    }
-    if encoding == 21 {
-        return windows_1252_run(chunk, room, p);
-    }
-    if encoding <= 28 {
-        return single_byte_run(mode, chunk, t1, t2, room, p);
     }
     if encoding == 33 {
         return iso_2022_jp_run(mode, chunk, t1, t2, room, p);
@@ -110,6 +104,52 @@ fn feeds(encoding: u8, chunk: &[u8], room: &[u32], from: Place, to: Place) -> us
     in_scalars(room, from.written, to.written)
 }
 
+// A run, and then its line feeds.
+fn then_counted(
+    encoding: u8,
+    mode: u8,
+    chunk: &[u8],
+    t1: &[u32],
+    t2: &[u32],
+    room: &mut [u32],
+    p: Place,
+) -> Counted
+    ensures { λ r. ⌜ Counts (lent (now (t1 .entry)) (now (t2 .entry))) (family encoding) mode (now (chunk .entry)) p r (now (room .entry)) (now (room .exit)) ⌝ }
+{
+    let r = by_number(encoding, mode, chunk, t1, t2, room, p);
+    let lines = feeds(encoding, chunk, room, p, r);
+    Counted {
+        at: r.at,
+        written: r.written,
+        lines,
+        state: r.state,
+        flag: r.flag,
+    }
+}
+
+// A run from a place on with its line feeds. It may stop anywhere; what it has read stands in the room.
+fn counted_run(
+    encoding: u8,
+    mode: u8,
+    chunk: &[u8],
+    t1: &[u32],
+    t2: &[u32],
+    room: &mut [u32],
+    p: Place,
+) -> Counted
+    ensures { λ r. ⌜ Counts (lent (now (t1 .entry)) (now (t2 .entry))) (family encoding) mode (now (chunk .entry)) p r (now (room .entry)) (now (room .exit)) ⌝ }
+{
+    if encoding == 21 {
+        return windows_1252_run(chunk, room, p);
+    }
+    if encoding != 0 {
+        if encoding <= 28 {
+            return single_byte_run(mode, chunk, t1, t2, room, p);
+        }
+    }
+    then_counted(encoding, mode, chunk, t1, t2, room, p)
+}
+
 // A run with its line feeds.
 pub(crate) fn run(
     encoding: u8,
@@ -136,12 +176,11 @@ pub(crate) fn run(
         state: a.state,
         flag: a.flag,
     };
-    let r = by_number(encoding, mode, chunk, t1, t2, room, here);
-    let lines = feeds(encoding, chunk, room, here, r);
+    let r = counted_run(encoding, mode, chunk, t1, t2, room, here);
     Counted {
         at: r.at,
         written: r.written,
-        lines: a.lines + lines,
+        lines: a.lines + r.lines,
         state: r.state,
         flag: r.flag,
     }

@@ -5,8 +5,8 @@ use mathlib.Core.List.{List, [], _∷_, _++_}
 use Prim.Native.Nat.{ℕ, zero, suc, _+_, _-_, _≤_, _<_}
 use native.Mathlib.Omega.{arith}
 use native.Mathlib.Nat.{add-zero}
-use lib.ListN.{length, take, drop, getD, set, length-drop, length-set, take-append-drop}
-use lib.Seq.{drop-drop, length-take-le, getD-take, getD-drop, take-add}
+use lib.ListN.{length, take, drop, getD, set, length-drop, length-set, length-append, take-append-drop, List·getD-append}
+use lib.Seq.{drop-drop, length-take-le, getD-take, getD-drop, getD-append-add, set-getD, take-add}
 use Rattle.standard.specs.Encodings.{Family, Tables}
 use Rattle.standard.specs.Sequence.{Shift, text, plain, scalar}
 use Rattle.standard.specs.Next.{next}
@@ -95,6 +95,37 @@ copied-over {chunk} {at} {j} {k} {w} {r} b a h l =
       size = b .size ∙ a .size;
       wrote = b .wrote ∙ ap (patch w vs) (a .wrote) ∙ patch-over w us vs r (omega (arith, m, n)) (omega (arith, n));
     }
+
+-- A byte that is copied stands in the room: stored again it changes nothing.
+copied-again : {chunk : List ℕ} {at j k w : ℕ} {r r′ : List ℕ} → Copied chunk at k w r r′ → j < k → w + k ≤ length r →
+    set r′ (w + j) (getD chunk (at + j) 0) ≡ r′
+copied-again {chunk} {at} {j} {k} {w} {r} {r′} c h l =
+    let us = take k (drop at chunk) in
+    let n : length (take w r) ≡ w = length-take-le w r (omega arith) in
+    let m : length us ≡ k = length-take-le k (drop at chunk) (omega (arith, length-drop at chunk, c .inside)) in
+    let e : length (take w r ++ us) ≡ w + k = length-append (take w r) us ∙ omega (arith, n, m) in
+    let a : getD (take w r ++ us) (w + j) 0 ≡ getD us j 0 =
+    ap (λ (x : ℕ). getD (take w r ++ us) (x + j) 0) (sym n) ∙ getD-append-add (take w r) us j 0 in
+    let b = List·getD-append (take w r ++ us) (drop (w + length us) r) 0 (w + j) (omega (arith, e)) in
+    let d : getD us j 0 ≡ getD chunk (at + j) 0 = getD-take k (drop at chunk) j 0 h ∙ getD-drop at chunk j 0 in
+    ap (set r′ (w + j)) (sym (ap (λ (x : List ℕ). getD x (w + j) 0) (c .wrote) ∙ b ∙ a ∙ d)) ∙ set-getD r′ (w + j) 0
+
+-- so a byte counts as copied once more
+pub copied-twice : {chunk : List ℕ} {at w : ℕ} {r r′ : List ℕ} → Copied chunk at 1 w r r′ → at < length chunk → w < length r → Copied chunk at 1 w r′ r′
+copied-twice {chunk} {at} {w} {r} {r′} c h l =
+    let low = rw (add-zero at) at (c .ascii 0 (omega arith)) in
+    let same = rw (add-zero w, add-zero at) at (copied-again {j = 0} c (omega arith) (omega arith)) in
+    rw same at (copied-one chunk at w r′ h low (omega (arith, c .size)))
+
+-- the next byte stored behind a stretch, or its last byte again
+pub copied-step : (last more : ℕ) {chunk : List ℕ} {at w : ℕ} {r r′ : List ℕ} → Copied chunk at (last + 1) w r r′ →
+    at + last + more < length chunk → w + last + more < length r → more ≤ 1 → (1 ≤ more → getD chunk (at + (last + more)) 0 < 0x80) →
+    Copied chunk at (last + more + 1) w r (set r′ (w + (last + more)) (getD chunk (at + (last + more)) 0))
+copied-step last zero c h l m low = rw (add-zero last, copied-again {j = last} c (omega arith) (omega arith)) c
+copied-step last (suc zero) {chunk} {at} {w} {r} {r′} c h l m low =
+    copied-on (omega arith) (omega arith) c (
+    copied-one chunk (at + (last + 1)) (w + (last + 1)) r′ (omega arith) (low (omega arith)) (omega (arith, c .size)))
+copied-step last (suc (suc n)) c h l m low = absurd (omega arith)
 
 -- a stretch on its way, from a place where a run could begin
 pub record Copying (chunk : List ℕ) (from w k : ℕ) (room₀ room : List ℕ) : Type 0 where

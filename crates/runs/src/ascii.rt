@@ -38,6 +38,38 @@ fn copy_each(chunk: &[u8], at: usize, n: usize, room: &mut [u32], o: usize) -> u
     n
 }
 
+// A number if a byte is below 80, else 0.
+fn if_low(n: usize, b: u8) -> usize
+    ensures { λ r. ⌜ (r ≤ n) × (1 ≤ r → (r ≡ n) × (b < 0x80)) ⌝ }
+{
+    if 0x80 <= b {
+        return 0;
+    }
+    n
+}
+
+// Copies the bytes below 80 in front of seven; how many. No branch asks where they end: behind the end the last one is stored again.
+// One byte alone, as between two words of another script, is told ahead.
+fn copy_front(chunk: &[u8], at: usize, room: &mut [u32], o: usize) -> usize
+    requires { ⌜ (Ready (now chunk) at (now room) o) × (at + 7 ≤ length (now chunk)) ⌝ }
+    ensures { λ r. ⌜ (Copied (now (chunk .entry)) at r o (now (room .entry)) (now (room .exit))) × Begins (now (chunk .entry)) at r ⌝ }
+{
+    if copy_one(chunk, at, room, o) == 0 {
+        return 0;
+    }
+    if 0x80 <= chunk[at + 1] {
+        return 1;
+    }
+    let mut last: usize = 0;
+    let mut more: usize = 1;
+    for k in 1..7 {
+        more = if_low(more, chunk[at + k]);
+        last += more;
+        room[o + last] = wide(chunk[at + last]);
+    }
+    last + 1
+}
+
 // At least each of n bytes; below 80 only if each is.
 fn joined(chunk: &[u8], at: usize, n: usize) -> u8
     requires { ⌜ at + n ≤ length (now chunk) ⌝ }
@@ -73,7 +105,7 @@ fn copy_eight(chunk: &[u8], at: usize, room: &mut [u32], o: usize) -> usize
     ensures { λ r. ⌜ (Copied (now (chunk .entry)) at r o (now (room .entry)) (now (room .exit))) × Begins (now (chunk .entry)) at r ⌝ }
 {
     if 0x80 <= joined(chunk, at, 8) {
-        return copy_each(chunk, at, 7, room, o);
+        return copy_front(chunk, at, room, o);
     }
     room[o] = wide(chunk[at]);
     copy_four(chunk, at, room, o);

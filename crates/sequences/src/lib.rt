@@ -221,7 +221,8 @@ fn says_nothing(width: u8, state: u8, flag: u8) -> Sequence
     }
 }
 
-// The sequence at the front of up to four bytes, by encoding number.
+// The sequence at the front of up to four bytes, by encoding number. Each family's answer has a name: returned without one it would go
+// through memory in parts, and be waited for.
 pub fn next(
     t1: &[u32],
     t2: &[u32],
@@ -244,31 +245,40 @@ pub fn next(
         return drop_mark(q, flag == 1);
     }
     if encoding == 21 {
-        return windows_1252(b0);
+        let q = windows_1252(b0);
+        return q;
     }
     if encoding <= 28 {
-        return single_byte(t1, b0);
+        let q = single_byte(t1, b0);
+        return q;
     }
     if encoding <= 30 {
-        return gb18030(t1, t2, b0, b1, b2, b3, have);
+        let q = gb18030(t1, t2, b0, b1, b2, b3, have);
+        return q;
     }
     if encoding == 31 {
-        return big5(t1, b0, b1, have);
+        let q = big5(t1, b0, b1, have);
+        return q;
     }
     if encoding == 32 {
-        return euc_jp(t1, t2, b0, b1, b2, have);
+        let q = euc_jp(t1, t2, b0, b1, b2, have);
+        return q;
     }
     if encoding == 33 {
-        return iso_2022_jp(t1, state, flag, b0, b1, b2, have);
+        let q = iso_2022_jp(t1, state, flag, b0, b1, b2, have);
+        return q;
     }
     if encoding == 34 {
-        return shift_jis(t1, b0, b1, have);
+        let q = shift_jis(t1, b0, b1, have);
+        return q;
     }
     if encoding == 35 {
-        return euc_kr(t1, b0, b1, have);
+        let q = euc_kr(t1, b0, b1, have);
+        return q;
     }
     if encoding == 36 {
-        return replacement(flag);
+        let q = replacement(flag);
+        return q;
     }
     if encoding <= 38 {
         let q = utf_16(encoding == 37, b0, b1, b2, b3, have);

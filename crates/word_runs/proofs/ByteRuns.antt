@@ -5,27 +5,36 @@ use mathlib.Core.List.{List, [], _∷_}
 use Prim.Native.Nat.{ℕ, _+_, _-_, _%_, _≤_, _<_}
 use native.Mathlib.Omega.{arith}
 use native.Mathlib.Nat.{add-zero}
-use lib.Dec.{ltb, eqb}
+use lib.Dec.{T, ltb, eqb}
 use lib.ListN.{length, drop, getD, set, length-set}
 use lib.Seq.{getD-set-same, getD-set-other}
 use borrow.Author.Tests.{eqb-true, eqb-false, ltb-true, ltb-false, lt-ltb, le-ltb, eq-eqb, ne-eqb}
-use Rattle.standard.specs.Base.{_then_else_, mapped}
+use Rattle.standard.specs.Base.{_then_else_, mapped, lineFeeds}
 use Rattle.standard.specs.Encodings.{Family, Tables, lent, single-byte, windows-1252}
 use Rattle.standard.specs.Indexes.{irregular, windows1252}
 use Rattle.standard.specs.Sequence.{plain, cell}
 use Rattle.standard.specs.Next.{next}
 use Rattle.standard.specs.Sequences.SingleByte.{singleByte}
 use Rattle.standard.proofs.Tests.{split}
+use Rattle.standard.proofs.FamilyLaws.{keeps}
+use Rattle.line_feeds.specs.Parts.{part}
+use Rattle.line_feeds.proofs.Parts.{none-in}
 use Rattle.index.proofs.Cells.{cell-mapped, cell-unmapped}
 use Rattle.sequences.proofs.SingleByteLeaves.{single-ascii, single-cell}
 use Rattle.sequences.proofs.Windows1252Leaves.{windows-irregular, windows-itself}
-use Rattle.runs.specs.Run.{patch, Gives, Ready, Runs}
+use Rattle.runs.specs.Run.{patch, placed, Gives, Ready, Runs}
+use Rattle.runs.specs.Counts.{counted, Counts}
+use Rattle.runs.specs.declared.Place.{Place}
+use Rattle.runs.specs.declared.Counted.{Counted}
+use Rattle.runs.proofs.Counting.{runs-line-feeds}
 use Rattle.word_runs.specs.Units.{values}
 use Rattle.word_runs.specs.Bytes.{unmapped, byteScalar, windowsScalar, Through}
 use Rattle.runs.proofs.Fronts.{byte-at}
-use Rattle.runs.proofs.Running.{Going, going-start, going-one, gives-scalar}
+use Rattle.runs.proofs.Running.{Going, going-start, going-one, gives-scalar, runs-none}
 use Rattle.runs.proofs.Scalars.{gives-same, gives-bad}
-use Rattle.word_runs.proofs.Values.{values-same}
+use Rattle.runs.proofs.Below.{below-add}
+use Rattle.runs.proofs.Patches.{patch-none, patch-length}
+use Rattle.word_runs.proofs.Values.{values-same, values-length, wrote-more, wrote-on}
 use Rattle.word_runs.proofs.Rows.{going-row}
 
 -- only the first byte tells
@@ -88,19 +97,60 @@ module _ (g : ℕ → ℕ) (table : List ℕ) where
         (λ s. let q = ltb-true (j - 128) k s in R .done (j - 128) q ∙ high (j - 128) q)
         (λ s. let q = ltb-false (j - 128) k s in R .behind (j - 128) q (omega arith) ∙ rest (j - 128) q (omega arith))))
 
+-- none yet; one byte more; and as many bytes more as another part has
+module _ (v : ℕ → ℕ) {chunk : List ℕ} {from w : ℕ} {room : List ℕ} where
+  pub through-none : Through v chunk from 0 w room room
+  unfolding values
+  through-none = record { bytes = λ j l. absurd (omega arith); wrote = patch-none room w }
+
+  module _ {k : ℕ} {room₁ : List ℕ} (p : Through v chunk from k w room room₁) where
+    pub through-length : w + k ≤ length room → length room₁ ≡ length room
+    through-length h =
+        let n = values-length (λ (j : ℕ). v (getD chunk (from + j) 0)) k in
+        ap length (p .wrote) ∙ patch-length room w (values (λ (j : ℕ). v (getD chunk (from + j) 0)) k) (omega arith)
+
+    pub through-more : (c : ℕ) → w + k < length room → getD chunk (from + k) 0 < 256 → c ≡ v (getD chunk (from + k) 0) → Through v chunk from (k + 1) w room (set room₁ (w + k) c)
+    through-more c h l e = record {
+      bytes = below-one (λ (j : ℕ). getD chunk (from + j) 0 < 256) k (p .bytes) l;
+      wrote = wrote-more room room₁ w (λ (j : ℕ). v (getD chunk (from + j) 0)) k (p .wrote) h c e;
+    }
+
+    pub through-on : {n i o : ℕ} {room₂ : List ℕ} → i ≡ from + k → o ≡ w + k → w + k ≤ length room → Through v chunk i n o room₁ room₂ → Through v chunk from (k + n) w room room₂
+    through-on {n} {i} {o} {room₂} ei eo h q =
+        let q′ = rw (ei, eo) at q in
+        let on : (j : ℕ) → from + k + j ≡ from + (k + j) = λ j. omega arith in
+        record {
+          bytes = below-add (λ (j : ℕ). getD chunk (from + j) 0 < 256) k n (p .bytes) (λ j l. subst (λ (x : ℕ). getD chunk x 0 < 256) (on j) (q′ .bytes j l));
+          wrote = wrote-on room room₁ room₂ w (λ (j : ℕ). v (getD chunk (from + j) 0)) (λ (j : ℕ). v (getD chunk (from + k + j) 0)) k n (p .wrote) (q′ .wrote) (λ j l. ap (λ (x : ℕ). v (getD chunk x 0)) (on j)) h;
+        }
+
 -- Each byte through v: a run to the end, where v is what a byte gives.
-pub run-through : (t : Tables) (f : Family) (m : ℕ) (v : ℕ → ℕ) {chunk : List ℕ} {from w : ℕ} {room room₁ : List ℕ} → Ready chunk from room w → Through v chunk from w room room₁ →
+pub run-through : (t : Tables) (f : Family) (m : ℕ) (v : ℕ → ℕ) {chunk : List ℕ} {from w : ℕ} {room room₁ : List ℕ} → Ready chunk from room w → Through v chunk from (length chunk - from) w room room₁ →
     ((j : ℕ) → j < length chunk - from → Gives m (next t f plain (drop (from + j) chunk)) 1 plain (v (getD chunk (from + j) 0))) →
     Runs (next t f) m chunk from (from + (length chunk - from)) plain plain w (w + (length chunk - from)) room room₁
 run-through t f m v {chunk} {from} {w} {room} h p g =
     let G : Going t f m chunk from (from + 0) plain plain w w room room = rw (add-zero from) (going-start h) in
     rw (p .wrote) (going-row t f m chunk from (λ (j : ℕ). from + j) 1 (λ j. omega arith) (λ (j : ℕ). v (getD chunk (from + j) 0)) w w room room G (length chunk - from) g (h .fits) .runs)
 
+-- with its line feeds, where separators are kept; and a run that reads nothing
+pub counts-through : (t : Tables) (f : Family) (m : ℕ) (v : ℕ → ℕ) → T (keeps f) → {chunk : List ℕ} {from w l : ℕ} {room room₁ : List ℕ} → Ready chunk from room w →
+    Through v chunk from (length chunk - from) w room room₁ → l ≡ lineFeeds (part chunk from (length chunk - from)) →
+    ((j : ℕ) → j < length chunk - from → Gives m (next t f plain (drop (from + j) chunk)) 1 plain (v (getD chunk (from + j) 0))) →
+    Counts t f m chunk (placed from w 0 0) (counted (placed (from + (length chunk - from)) (w + (length chunk - from)) 0 0) l) room room₁
+counts-through t f m v k {chunk} {from} h p e g =
+    let R = run-through t f m v h p g in
+    let z : length chunk - from ≡ from + (length chunk - from) - from = omega arith in
+    record { run = R; lines = e ∙ ap (λ (n : ℕ). lineFeeds (part chunk from n)) z ∙ runs-line-feeds t f k R }
+
+pub counts-none : (t : Tables) (f : Family) (m : ℕ) {chunk : List ℕ} {p : Place} {r : Counted} {room : List ℕ} → r ≡ counted p 0 → Counts t f m chunk p r room room
+counts-none t f m {p = p} {room = room} e =
+    rw e (record { run = runs-none t f; lines = none-in room (p .written) (p .written - p .written) (omega arith) })
+
 -- bytes through a table that holds the scalar of each
-pub looked-up : (f : ℕ → ℕ) (table chunk : List ℕ) (from w : ℕ) (room room₁ : List ℕ) → ((b : ℕ) → b < 256 → getD table b 0 ≡ f b) →
-    Through (λ (b : ℕ). getD table b 0) chunk from w room room₁ → Through f chunk from w room room₁
-looked-up f table chunk from w room room₁ p q =
-    let same = values-same (λ (j : ℕ). getD table (getD chunk (from + j) 0) 0) (λ (j : ℕ). f (getD chunk (from + j) 0)) (length chunk - from) (λ j l. p (getD chunk (from + j) 0) (q .bytes j l)) in
+pub looked-up : (f : ℕ → ℕ) (table chunk : List ℕ) (from n w : ℕ) (room room₁ : List ℕ) → ((b : ℕ) → b < 256 → getD table b 0 ≡ f b) →
+    Through (λ (b : ℕ). getD table b 0) chunk from n w room room₁ → Through f chunk from n w room room₁
+looked-up f table chunk from n w room room₁ p q =
+    let same = values-same (λ (j : ℕ). getD table (getD chunk (from + j) 0) 0) (λ (j : ℕ). f (getD chunk (from + j) 0)) n (λ j l. p (getD chunk (from + j) 0) (q .bytes j l)) in
     record { bytes = q .bytes; wrote = q .wrote ∙ ap (λ (l : List ℕ). patch w l room) same }
 
 -- the byte at a place

@@ -12,9 +12,9 @@ use Rattle.standard.specs.Sequences.Utf16.{unit}
 use Rattle.standard.proofs.Tests.{split}
 use Rattle.runs.specs.Run.{patch}
 use Rattle.word_runs.specs.Units.{values, unitAt}
-use Rattle.word_runs.specs.Bytes.{Same, byteOf}
+use Rattle.word_runs.specs.Bytes.{byteOf, Through}
 use Rattle.runs.proofs.Patches.{patch-sets}
-use Rattle.word_runs.proofs.Values.{values-at, wrote-on}
+use Rattle.word_runs.proofs.Values.{values-at, values-same, wrote-on}
 
 lower : (b c : ℕ) → b < 256 → unit false b c % 256 ≡ b
 unfolding unit
@@ -72,16 +72,23 @@ module _ (low words : List ℕ) (j : ℕ) where
       let two : room′ ≡ patch (o + d) (g 0 ∷ g 1 ∷ []) room = e′ ∙ rw (a, b, ep) (patch-sets room (o + d) (getD low (getD words q 0 % 256) 0 ∷ getD low (getD words q 0 / 256) 0 ∷ []) h) in
       wrote-on room₀ room room′ o (λ (k : ℕ). getD low (byteOf words (j * 2 + k)) 0) g d 2 e two (λ k l. let z : q * 2 + k ≡ j * 2 + (d + k) = omega arith in ap (λ (i : ℕ). getD low (byteOf words i) 0) z) h₀
 
--- words of a chunk through a table that has the cells of another
-module _ (chunk words : List ℕ) (from k n : ℕ) (e : words ≡ values (unitAt false chunk (from + k)) n) (p : (j : ℕ) → j < n → (getD chunk (from + k + j * 2) 0 < 256) × (getD chunk (from + k + j * 2 + 1) 0 < 256)) (j : ℕ) (l : j < n * 2) where
-  on : from + k + j ≡ from + (k + j)
-  on = omega arith
+  -- and those of n bytes of words from q on
+  pub words-more : (room₀ room room′ : List ℕ) (o d q p n : ℕ) → q * 2 ≡ j * 2 + d → p ≡ o + d → room ≡ patch o (values (λ (k : ℕ). getD low (byteOf words (j * 2 + k)) 0) d) room₀ →
+      room′ ≡ patch p (values (λ (k : ℕ). getD low (byteOf words (q * 2 + k)) 0) n) room → o + d ≤ length room₀ →
+      room′ ≡ patch o (values (λ (k : ℕ). getD low (byteOf words (j * 2 + k)) 0) (d + n)) room₀
+  words-more room₀ room room′ o d q p n eq ep e e′ h =
+      wrote-on room₀ room room′ o (λ (k : ℕ). getD low (byteOf words (j * 2 + k)) 0) (λ (k : ℕ). getD low (byteOf words (q * 2 + k)) 0) d n e (rw ep at e′)
+      (λ k l. let z : q * 2 + k ≡ j * 2 + (d + k) = omega arith in ap (λ (i : ℕ). getD low (byteOf words i) 0) z) h
 
-  pub byte-there : getD chunk (from + (k + j)) 0 < 256
-  byte-there = subst (λ (i : ℕ). getD chunk i 0 < 256) on (word-byte chunk (from + k) n words e p j l .0)
-
-  pub cell-there : {table low : List ℕ} → Same table low → getD low (byteOf words j) 0 ≡ getD table (getD chunk (from + (k + j)) 0) 0
-  cell-there {table} {low} q = ap (λ (b : ℕ). getD low b 0) (word-byte chunk (from + k) n words e p j l .1 ∙ ap (λ (i : ℕ). getD chunk i 0) on) ∙ q .cells (getD chunk (from + (k + j)) 0) byte-there
+-- words of a chunk through a table
+pub words-through : (table chunk words : List ℕ) (at n o : ℕ) (room room′ : List ℕ) → words ≡ values (unitAt false chunk at) n →
+    ((j : ℕ) → j < n → (getD chunk (at + j * 2) 0 < 256) × (getD chunk (at + j * 2 + 1) 0 < 256)) →
+    room′ ≡ patch o (values (λ (k : ℕ). getD table (byteOf words k) 0) (n * 2)) room → Through (λ (b : ℕ). getD table b 0) chunk at (n * 2) o room room′
+words-through table chunk words at n o room room′ e p q = record {
+  bytes = λ j l. word-byte chunk at n words e p j l .0;
+  wrote = q ∙ ap (λ (cs : List ℕ). patch o cs room) (values-same (λ (k : ℕ). getD table (byteOf words k) 0) (λ (j : ℕ). getD table (getD chunk (at + j) 0) 0) (n * 2)
+      (λ j l. ap (λ (b : ℕ). getD table b 0) (word-byte chunk at n words e p j l .1)));
+}
 
 -- two cells in one number
 pub parts : (x y h : ℕ) → x < 4294967296 → h ≡ y * 4294967296 → ((x + h) % 4294967296 ≡ x) × ((x + h) / 4294967296 ≡ y)

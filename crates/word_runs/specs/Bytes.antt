@@ -3,7 +3,7 @@ use mathlib.Core.Path.{_≡_}
 use mathlib.Core.List.{List}
 use Prim.Native.Nat.{ℕ, _-_, _*_, _/_, _%_, _<_, _+_}
 use lib.Dec.{ltb, eqb}
-use lib.ListN.{length, getD}
+use lib.ListN.{getD}
 use Rattle.standard.specs.Base.{_then_else_}
 use Rattle.standard.specs.Indexes.{irregular}
 use Rattle.standard.specs.Sequence.{cell}
@@ -21,10 +21,10 @@ byteScalar m cells b = ltb b 0x80 then b else eqb (cell cells (b - 0x80)) 0 then
 abbrev pub windowsScalar : ℕ → ℕ
 windowsScalar b = ltb b 0x80 then b else ltb b 0xA0 then getD irregular (b - 0x80) 0 else b
 
--- each byte from a place of the chunk on, through v, in the room
-pub record Through (v : ℕ → ℕ) (chunk : List ℕ) (from place : ℕ) (room room′ : List ℕ) : Type 0 where
-  pub bytes : (j : ℕ) → j < length chunk - from → getD chunk (from + j) 0 < 256
-  pub wrote : room′ ≡ patch place (values (λ (j : ℕ). v (getD chunk (from + j) 0)) (length chunk - from)) room
+-- n bytes from a place of the chunk on, through v, in the room
+pub record Through (v : ℕ → ℕ) (chunk : List ℕ) (from n place : ℕ) (room room′ : List ℕ) : Type 0 where
+  pub bytes : (j : ℕ) → j < n → getD chunk (from + j) 0 < 256
+  pub wrote : room′ ≡ patch place (values (λ (j : ℕ). v (getD chunk (from + j) 0)) n) room
 
 -- The first n cells of a table are scalars; those of the first n bytes from a place of the chunk on are.
 abbrev pub Gapless : List ℕ → ℕ → Type 0
@@ -37,10 +37,6 @@ Sound table chunk from n = (j : ℕ) → j < n → getD chunk (from + j) 0 < 256
 pub record Halves (low high : List ℕ) : Type 0 where
   pub small : (j : ℕ) → j < 256 → getD low j 0 < 4294967296
   pub upper : (j : ℕ) → j < 256 → getD high j 0 ≡ getD low j 0 * 4294967296
-
--- two tables with the same 256 cells
-pub record Same (table low : List ℕ) : Type 0 where
-  pub cells : (j : ℕ) → j < 256 → getD low j 0 ≡ getD table j 0
 
 -- the byte at a place of words, the lower one of a word first
 abbrev pub byteOf : List ℕ → ℕ → ℕ

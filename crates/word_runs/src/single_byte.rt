@@ -3,7 +3,11 @@
 use crate::words::read_words;
 use index::IRREGULAR;
 use index::mapped;
+use line_feeds::in_block;
+use line_feeds::in_bytes;
+use runs::Counted;
 use runs::Place;
+use runs::ascii::Stretch;
 use runs::ready_plain;
 ghost use mathlib.Core.Path.{_≡_};
 ghost use mathlib.Core.List.{_∷_, []};
@@ -12,12 +16,14 @@ ghost use Prim.Native.Nat.{ℕ, _+_, _-_, _*_, _/_, _%_, _≤_, _<_};
 ghost use lib.Dec.{ltb};
 ghost use lib.ListN.{length, getD};
 ghost use lib.Seq.{sets};
-ghost use Rattle.standard.specs.Base.{_then_else_, mapped};
+ghost use Rattle.standard.specs.Base.{_then_else_, mapped, lineFeeds};
 ghost use Rattle.standard.specs.Encodings.{Tables, lent, single-byte, windows-1252};
 ghost use Rattle.standard.specs.Indexes.{irregular};
+ghost use Rattle.line_feeds.specs.Parts.{part};
 ghost use Rattle.runs.specs.Run.{Run, Ready, placed, patch};
+ghost use Rattle.runs.specs.Counts.{counted, Counts};
 ghost use Rattle.word_runs.specs.Units.{values};
-ghost use Rattle.word_runs.specs.Bytes.{unmapped, byteScalar, windowsScalar, Halves, Same, byteOf, Through, Gapless, Sound};
+ghost use Rattle.word_runs.specs.Bytes.{unmapped, byteScalar, windowsScalar, Halves, byteOf, Through, Gapless, Sound};
 
 // One of two scalars, by whether a byte is ASCII.
 fn choose(b: u8, ascii: u32, other: u32) -> u32
@@ -132,74 +138,128 @@ fn wide(c: u32) -> u64
     c as u64
 }
 
-// The scalars of a table as they are, and in the upper half of a number.
-fn halves(table: &[u32], low: &mut [u64], high: &mut [u64])
-    requires { ⌜ (length (now table) ≡ 256) × (length (now low) ≡ 256) × (length (now high) ≡ 256) ⌝ }
-    ensures { λ r. ⌜ Halves (now (low .exit)) (now (high .exit)) × Same (now (table .entry)) (now (low .exit)) ⌝ }
+// The scalars of a table in the upper half of a number.
+fn halves(table: &[u32], high: &mut [u64])
+    requires { ⌜ (length (now table) ≡ 256) × (length (now high) ≡ 256) ⌝ }
+    ensures { λ r. ⌜ Halves (now (table .entry)) (now (high .exit)) ⌝ }
 {
     let mut b: usize = 0;
     while b < 256 {
-        let c = wide(table[b]);
-        low[b] = c;
-        high[b] = c * 4294967296;
+        high[b] = wide(table[b]) * 4294967296;
         b += 1;
     }
 }
 
 // The scalars of a word's two bytes. They make one number, which is stored at once.
-fn put_word(low: &[u64], high: &[u64], word: u16, room: &mut [u32], o: usize)
-    requires { ⌜ (length (now low) ≡ 256) × (length (now high) ≡ 256) × Halves (now low) (now high) × (o + 2 ≤ length (now room)) ⌝ }
-    ensures { λ r. ⌜ now (room .exit) ≡ sets (now (room .entry)) o (getD (now (low .entry)) (word % 256) 0 ∷ getD (now (low .entry)) (word / 256) 0 ∷ []) ⌝ }
+fn put_word(table: &[u32], high: &[u64], word: u16, room: &mut [u32], o: usize)
+    requires { ⌜ (length (now table) ≡ 256) × (length (now high) ≡ 256) × Halves (now table) (now high) × (o + 2 ≤ length (now room)) ⌝ }
+    ensures { λ r. ⌜ now (room .exit) ≡ sets (now (room .entry)) o (getD (now (table .entry)) (word % 256) 0 ∷ getD (now (table .entry)) (word / 256) 0 ∷ []) ⌝ }
 {
     let w = word as usize;
-    let both = low[w % 256] + high[w / 256];
+    let both = table[w % 256] as u64 + high[w / 256];
     room[o] = (both % 4294967296) as u32;
     room[o + 1] = (both / 4294967296) as u32;
 }
 
 // The scalars of four words.
-fn put_four(low: &[u64], high: &[u64], words: &[u16], j: usize, room: &mut [u32], o: usize)
-    requires { ⌜ (length (now low) ≡ 256) × (length (now high) ≡ 256) × Halves (now low) (now high) × (j + 4 ≤ length (now words)) × (o + 8 ≤ length (now room)) ⌝ }
-    ensures { λ r. ⌜ now (room .exit) ≡ patch o (values (λ (k : ℕ). getD (now (low .entry)) (byteOf (now (words .entry)) (j * 2 + k)) 0) 8) (now (room .entry)) ⌝ }
+fn put_four(table: &[u32], high: &[u64], words: &[u16], j: usize, room: &mut [u32], o: usize)
+    requires { ⌜ (length (now table) ≡ 256) × (length (now high) ≡ 256) × Halves (now table) (now high) × (j + 4 ≤ length (now words)) × (o + 8 ≤ length (now room)) ⌝ }
+    ensures { λ r. ⌜ now (room .exit) ≡ patch o (values (λ (k : ℕ). getD (now (table .entry)) (byteOf (now (words .entry)) (j * 2 + k)) 0) 8) (now (room .entry)) ⌝ }
 {
-    put_word(low, high, words[j], room, o);
-    put_word(low, high, words[j + 1], room, o + 2);
-    put_word(low, high, words[j + 2], room, o + 4);
-    put_word(low, high, words[j + 3], room, o + 6);
+    put_word(table, high, words[j], room, o);
+    put_word(table, high, words[j + 1], room, o + 2);
+    put_word(table, high, words[j + 2], room, o + 4);
+    put_word(table, high, words[j + 3], room, o + 6);
 }
 
-// The scalars of 256 words.
-fn put_words(low: &[u64], high: &[u64], words: &[u16], room: &mut [u32], o: usize)
-    requires { ⌜ (length (now low) ≡ 256) × (length (now high) ≡ 256) × Halves (now low) (now high) × (length (now words) ≡ 256) × (o + 512 ≤ length (now room)) ⌝ }
-    ensures { λ r. ⌜ now (room .exit) ≡ patch o (values (λ (k : ℕ). getD (now (low .entry)) (byteOf (now (words .entry)) k) 0) 512) (now (room .entry)) ⌝ }
+// The scalars of sixteen words.
+fn put_sixteen(table: &[u32], high: &[u64], words: &[u16], j: usize, room: &mut [u32], o: usize)
+    requires { ⌜ (length (now table) ≡ 256) × (length (now high) ≡ 256) × Halves (now table) (now high) × (j + 16 ≤ length (now words)) × (o + 32 ≤ length (now room)) ⌝ }
+    ensures { λ r. ⌜ now (room .exit) ≡ patch o (values (λ (k : ℕ). getD (now (table .entry)) (byteOf (now (words .entry)) (j * 2 + k)) 0) 32) (now (room .entry)) ⌝ }
+{
+    put_four(table, high, words, j, room, o);
+    put_four(table, high, words, j + 4, room, o + 8);
+    put_four(table, high, words, j + 8, room, o + 16);
+    put_four(table, high, words, j + 12, room, o + 24);
+}
+
+// The scalars of 192 words, sixteen at a time.
+fn put_words(table: &[u32], high: &[u64], words: &[u16], room: &mut [u32], o: usize)
+    requires { ⌜ (length (now table) ≡ 256) × (length (now high) ≡ 256) × Halves (now table) (now high) × (length (now words) ≡ 192) × (o + 384 ≤ length (now room)) ⌝ }
+    ensures { λ r. ⌜ now (room .exit) ≡ patch o (values (λ (k : ℕ). getD (now (table .entry)) (byteOf (now (words .entry)) k) 0) 384) (now (room .entry)) ⌝ }
 {
     let mut j: usize = 0;
-    while j < 256 {
-        put_four(low, high, words, j, room, o + j * 2);
-        j += 4;
+    while j < 192 {
+        put_sixteen(table, high, words, j, room, o + j * 2);
+        j += 16;
     }
 }
 
-// Each byte through a table.
-fn look_up(table: &[u32], chunk: &[u8], from: usize, room: &mut [u32], place: usize)
+// The line feeds among 384 bytes.
+fn block_feeds(chunk: &[u8], at: usize) -> usize
+    requires { ⌜ at + 384 ≤ length (now chunk) ⌝ }
+    ensures { λ r. ⌜ r ≡ lineFeeds (part (now (chunk .entry)) at 384) ⌝ }
+{
+    let first = in_block(chunk, at);
+    let second = in_block(chunk, at + 192);
+    first + second
+}
+
+// Bytes through a table in blocks of 384, each counted while it is near; how many, and their line feeds.
+fn put_blocks(table: &[u32], chunk: &[u8], from: usize, room: &mut [u32], place: usize) -> Stretch
     requires { ⌜ (length (now table) ≡ 256) × (Ready (now chunk) from (now room) place) ⌝ }
-    ensures { λ r. ⌜ Through (λ (b : ℕ). getD (now (table .entry)) b 0) (now (chunk .entry)) from place (now (room .entry)) (now (room .exit)) ⌝ }
+    ensures { λ r. ⌜ (r .length ≤ length (now (chunk .entry)) - from)
+        × (Through (λ (b : ℕ). getD (now (table .entry)) b 0) (now (chunk .entry)) from (r .length) place (now (room .entry)) (now (room .exit)))
+        × (r .lines ≡ lineFeeds (part (now (chunk .entry)) from (r .length))) ⌝ }
 {
     let n = chunk.len() - from;
-    let mut low = [0u64; 256];
     let mut high = [0u64; 256];
-    halves(table, &mut low, &mut high);
-    let mut words = [0u16; 256];
+    halves(table, &mut high);
+    let mut words = [0u16; 192];
     let mut k: usize = 0;
-    while n - k >= 512 {
+    let mut lines: usize = 0;
+    while n - k >= 384 {
         read_words(chunk, from + k, &mut words);
-        put_words(&low, &high, &words, room, place + k);
-        k += 512;
+        lines += block_feeds(chunk, from + k);
+        put_words(table, &high, &words, room, place + k);
+        k += 384;
     }
+    Stretch { length: k, lines }
+}
+
+// So many bytes through a table, one by one.
+fn put_bytes(table: &[u32], chunk: &[u8], from: usize, n: usize, room: &mut [u32], place: usize)
+    requires { ⌜ (length (now table) ≡ 256) × (Ready (now chunk) from (now room) place) × (n ≤ length (now chunk) - from) ⌝ }
+    ensures { λ r. ⌜ Through (λ (b : ℕ). getD (now (table .entry)) b 0) (now (chunk .entry)) from n place (now (room .entry)) (now (room .exit)) ⌝ }
+{
+    let mut k: usize = 0;
     while k < n {
         room[place + k] = table[place_of(chunk[from + k])];
         k += 1;
     }
+}
+
+// Each byte through a table; their line feeds. Two scalars are stored at once: from an even place on no store reaches over two lines of the cache.
+fn look_up(table: &[u32], chunk: &[u8], from: usize, room: &mut [u32], place: usize) -> usize
+    requires { ⌜ (length (now table) ≡ 256) × (Ready (now chunk) from (now room) place) × (from < length (now chunk)) ⌝ }
+    ensures { λ r. ⌜ (Through (λ (b : ℕ). getD (now (table .entry)) b 0) (now (chunk .entry)) from (length (now (chunk .entry)) - from) place (now (room .entry)) (now (room .exit)))
+        × (r ≡ lineFeeds (part (now (chunk .entry)) from (length (now (chunk .entry)) - from))) ⌝ }
+{
+    let odd = place % 2;
+    put_bytes(table, chunk, from, odd, room, place);
+    let b = put_blocks(table, chunk, from + odd, room, place + odd);
+    let k = odd + b.length;
+    put_bytes(
+        table,
+        chunk,
+        from + k,
+        chunk.len() - from - k,
+        room,
+        place + k,
+    );
+    let first = in_bytes(chunk, from, from + odd);
+    let last = in_bytes(chunk, from + k, chunk.len());
+    first + b.lines + last
 }
 
 // A run of a single-byte encoding, byte by byte; it stops at an error in mode 1.
@@ -243,7 +303,7 @@ fn single_bytes(
 // A run of windows-1252, byte by byte.
 fn windows_bytes(cells: &[u32], chunk: &[u8], from: usize, room: &mut [u32], place: usize)
     requires { ⌜ (now cells ≡ irregular) × (Ready (now chunk) from (now room) place) ⌝ }
-    ensures { λ r. ⌜ Through windowsScalar (now (chunk .entry)) from place (now (room .entry)) (now (room .exit)) ⌝ }
+    ensures { λ r. ⌜ Through windowsScalar (now (chunk .entry)) from (length (now (chunk .entry)) - from) place (now (room .entry)) (now (room .exit)) ⌝ }
 {
     let n = chunk.len() - from;
     let mut k: usize = 0;
@@ -298,6 +358,30 @@ fn sound(mode: u8, table: &[u32], chunk: &[u8], from: usize) -> bool
     has_scalars(table, chunk, from)
 }
 
+// The same with its line feeds.
+fn count_single_bytes(
+    mode: u8,
+    chunk: &[u8],
+    t1: &[u32],
+    t2: &[u32],
+    from: usize,
+    room: &mut [u32],
+    place: usize,
+) -> Counted
+    requires { ⌜ (128 ≤ length (now t1)) × (Ready (now chunk) from (now room) place) ⌝ }
+    ensures { λ r. ⌜ Counts (lent (now (t1 .entry)) (now (t2 .entry))) single-byte mode (now (chunk .entry)) (placed from place 0 0) r (now (room .entry)) (now (room .exit)) ⌝ }
+{
+    let r = single_bytes(mode, chunk, t1, t2, from, room, place);
+    let lines = in_bytes(chunk, from, r.at);
+    Counted {
+        at: r.at,
+        written: r.written,
+        lines,
+        state: r.state,
+        flag: r.flag,
+    }
+}
+
 // A run of a single-byte encoding, by a table where there are many bytes.
 fn single_byte_text(
     mode: u8,
@@ -307,29 +391,43 @@ fn single_byte_text(
     from: usize,
     room: &mut [u32],
     place: usize,
-) -> Place
+) -> Counted
     requires { ⌜ (128 ≤ length (now t1)) × (Ready (now chunk) from (now room) place) ⌝ }
-    ensures { λ r. ⌜ Run (lent (now (t1 .entry)) (now (t2 .entry))) single-byte mode (now (chunk .entry)) (placed from place 0 0) r (now (room .entry)) (now (room .exit)) ⌝ }
+    ensures { λ r. ⌜ Counts (lent (now (t1 .entry)) (now (t2 .entry))) single-byte mode (now (chunk .entry)) (placed from place 0 0) r (now (room .entry)) (now (room .exit)) ⌝ }
 {
     let n = chunk.len() - from;
     if n < 512 {
-        return single_bytes(mode, chunk, t1, t2, from, room, place);
+        return count_single_bytes(mode, chunk, t1, t2, from, room, place);
     }
     let mut table = [0u32; 256];
     fill(mode, t1, &mut table);
     if !sound(mode, &table, chunk, from) {
-        return single_bytes(mode, chunk, t1, t2, from, room, place);
+        return count_single_bytes(mode, chunk, t1, t2, from, room, place);
     }
-    look_up(&table, chunk, from, room, place);
-    Place {
+    let lines = look_up(&table, chunk, from, room, place);
+    Counted {
         at: from + n,
         written: place + n,
+        lines,
         state: 0,
         flag: 0,
     }
 }
 
-// A run of a single-byte encoding, whose table is lent.
+// A place where nothing is read.
+fn unread(p: Place) -> Counted
+    ensures { λ r. ⌜ r ≡ counted p 0 ⌝ }
+{
+    Counted {
+        at: p.at,
+        written: p.written,
+        lines: 0,
+        state: p.state,
+        flag: p.flag,
+    }
+}
+
+// A run of a single-byte encoding with its line feeds, whose table is lent.
 pub fn single_byte_run(
     mode: u8,
     chunk: &[u8],
@@ -337,44 +435,46 @@ pub fn single_byte_run(
     t2: &[u32],
     room: &mut [u32],
     p: Place,
-) -> Place
-    ensures { λ r. ⌜ Run (lent (now (t1 .entry)) (now (t2 .entry))) single-byte mode (now (chunk .entry)) p r (now (room .entry)) (now (room .exit)) ⌝ }
+) -> Counted
+    ensures { λ r. ⌜ Counts (lent (now (t1 .entry)) (now (t2 .entry))) single-byte mode (now (chunk .entry)) p r (now (room .entry)) (now (room .exit)) ⌝ }
 {
     if !ready_plain(chunk.len(), room.len(), p) {
-        return p;
+        return unread(p);
     }
     if t1.len() < 128 {
-        return p;
+        return unread(p);
     }
     single_byte_text(mode, chunk, t1, t2, p.at, room, p.written)
 }
 
-// Each byte of windows-1252, by a table where there are many.
-fn windows_scalars(chunk: &[u8], from: usize, room: &mut [u32], place: usize)
+// Each byte of windows-1252, by a table where there are many; their line feeds.
+fn windows_scalars(chunk: &[u8], from: usize, room: &mut [u32], place: usize) -> usize
     requires { ⌜ Ready (now chunk) from (now room) place ⌝ }
-    ensures { λ r. ⌜ Through windowsScalar (now (chunk .entry)) from place (now (room .entry)) (now (room .exit)) ⌝ }
+    ensures { λ r. ⌜ (Through windowsScalar (now (chunk .entry)) from (length (now (chunk .entry)) - from) place (now (room .entry)) (now (room .exit)))
+        × (r ≡ lineFeeds (part (now (chunk .entry)) from (length (now (chunk .entry)) - from))) ⌝ }
 {
     if chunk.len() - from < 512 {
         windows_bytes(&IRREGULAR, chunk, from, room, place);
-        return;
+        return in_bytes(chunk, from, chunk.len());
     }
     let mut table = [0u32; 256];
     fill_windows(&IRREGULAR, &mut table);
-    look_up(&table, chunk, from, room, place);
+    look_up(&table, chunk, from, room, place)
 }
 
-// A run of windows-1252, for any tables and in any mode.
-pub fn windows_1252_run(chunk: &[u8], room: &mut [u32], p: Place) -> Place
-    ensures { λ r. ⌜ ((t : Tables) (m : ℕ) → Run t windows-1252 m (now (chunk .entry)) p r (now (room .entry)) (now (room .exit))) ⌝ }
+// A run of windows-1252 with its line feeds, for any tables and in any mode.
+pub fn windows_1252_run(chunk: &[u8], room: &mut [u32], p: Place) -> Counted
+    ensures { λ r. ⌜ ((t : Tables) (m : ℕ) → Counts t windows-1252 m (now (chunk .entry)) p r (now (room .entry)) (now (room .exit))) ⌝ }
 {
     if !ready_plain(chunk.len(), room.len(), p) {
-        return p;
+        return unread(p);
     }
-    windows_scalars(chunk, p.at, room, p.written);
+    let lines = windows_scalars(chunk, p.at, room, p.written);
     let n = chunk.len() - p.at;
-    Place {
+    Counted {
         at: p.at + n,
         written: p.written + n,
+        lines,
         state: 0,
         flag: 0,
     }

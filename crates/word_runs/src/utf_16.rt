@@ -107,7 +107,7 @@ fn put_units(be: bool, words: &[u16], room: &mut [u32], o: usize)
     }
 }
 
-// Blocks of units without surrogates, from a place on; as long as the array that they are read into.
+// Blocks of units without surrogates, from a place on; as long as the array that they are read into. They are counted behind the stores, which take longest.
 fn blocks(
     be: bool,
     chunk: &[u8],
@@ -133,8 +133,8 @@ fn blocks(
                 lines,
             };
         }
-        lines += feeds(be, words) as usize;
         put_units(be, words, room, o);
+        lines += feeds(be, words) as usize;
         i += size * 2;
         o += size;
     }

@@ -41,6 +41,9 @@ lay-out-requires c κs = (start (c .before .before) .pre .0, none-held _ refl)
 sub-if2 : tie.Need-sub-if2
 sub-if2 c = search needs
 
+many-requires : tie.Need-many-requires
+many-requires c κs = search needs
+
 slice-aggregate-items-3 : tie.Need-slice-aggregate-items-3
 slice-aggregate-items-3 c = search needs
 
@@ -49,7 +52,7 @@ slice-aggregate-items-4 c = search needs
 
 items-requires-2 : tie.Need-items-requires-2
 items-requires-2 c κs =
-    let laid = c .before .before .before .before in
+    let laid = c .before .before .before .before .before in
     let pre = start (laid .before .before .before) .pre in
     (pre .0, pre .1, λ h. laid .lay-out .ensures, unsearched, pre .2)
 
@@ -89,6 +92,7 @@ text-spec =
     returns
     lay-out-requires
     sub-if2
+    many-requires
     slice-aggregate-items-3
     slice-aggregate-items-4
     items-requires-2

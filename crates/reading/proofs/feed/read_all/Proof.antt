@@ -6,7 +6,7 @@ use lib.ListN.{length}
 use native.Mathlib.Omega.{arith}
 use borrow.Author.Needs.{needs}
 use Rattle.reading.specs.Reading.{Result}
-use Rattle.reading.proofs.Loop.{Args, Running, start-running, carried, turn-done, turn-few, turn-more, turn-width}
+use Rattle.reading.proofs.Loop.{Args, Running, start-running, carried, turn-done, turn-none, turn-few, turn-more, turn-width}
 use Rattle.reading.proofs.Loop.{turn-space, turn-report, turn-fewer, turn-at, turn-on, stops-no, stops-yes}
 use Rattle.reading.proofs.feed.read_all.Statement.{statement}
 use Rattle.reading.proofs.feed.read_all.Tie as tie
@@ -35,7 +35,7 @@ abbrev μ-loop : tie.MeasureT-loop
 
 -- how the loop was called, and its room at the start
 abbrev start : tie.At-loop Inv-loop μ-loop → tie.Start Inv-loop μ-loop
-start c = c .before .before .before .before .before
+start c = c .before .before .before .before .before .before .before
 
 abbrev call : tie.Start Inv-loop μ-loop → Args
 call c = let a = c .args in record {
@@ -52,18 +52,18 @@ call c = let a = c .args in record {
 }
 
 -- after the run of a turn: the loop's head, the run, and what holds behind it
-abbrev head : tie.After-struct-known Inv-loop μ-loop → tie.At-loop Inv-loop μ-loop
+abbrev head : tie.After-struct-known2 Inv-loop μ-loop → tie.At-loop Inv-loop μ-loop
 head c = c .before .before .before .before .before
 
-abbrev run : tie.After-struct-known Inv-loop μ-loop → tie.After-run-from Inv-loop μ-loop
+abbrev run : tie.After-struct-known2 Inv-loop μ-loop → tie.After-run-from Inv-loop μ-loop
 run c = c .before .before .before
 
-abbrev Behind : tie.After-struct-known Inv-loop μ-loop → Type 0
+abbrev Behind : tie.After-struct-known2 Inv-loop μ-loop → Type 0
 Behind c = (room : List ℕ) × Running (call (start (head c))) (start (head c) .args .room .now) room (run c .run-from .result .at)
     (run c .run-from .result .state) (run c .run-from .result .flag) (run c .run-from .result .written)
     (head c .loop .lines + run c .run-from .result .lines)
 
-abbrev carry : (c : tie.After-struct-known Inv-loop μ-loop) → Behind c
+abbrev carry : (c : tie.After-struct-known2 Inv-loop μ-loop) → Behind c
 carry c = (
   _,
   carried {state′ = run c .run-from .result .state} {flag′ = run c .run-from .result .flag} (head c .loop .inv)
@@ -71,12 +71,28 @@ carry c = (
 )
 
 -- the same once its line feeds are added
-abbrev ran : (c : tie.After-struct-known2 Inv-loop μ-loop) → Behind (c .before)
+abbrev ran : (c : tie.After-struct-known3 Inv-loop μ-loop) → Behind (c .before)
 ran c = carry (c .before)
+
+cast-if1 : tie.Need-cast-if1 Inv-loop μ-loop
+cast-if1 c = search needs
+
+add-if1 : tie.Need-add-if1 Inv-loop μ-loop
+add-if1 c = search needs
+
+untouched-requires : tie.Need-untouched-requires Inv-loop μ-loop
+untouched-requires c κs = search needs
+
+returns : tie.Need-returns Inv-loop μ-loop
+returns c =
+    let begin = c .before .before .before .before .before .before .before in
+    let R = start-running (call begin) (begin .args .room .now) (omega arith) (omega arith) (omega arith) (omega arith) in
+    let e = turn-none R (omega arith) in
+    (c .untouched .ensures ∙ ap (λ (o : Result). o .left) (sym e), ap (λ (o : Result). o .room) (sym e))
 
 loop-holds : tie.Need-loop-holds Inv-loop μ-loop
 loop-holds c =
-    let begin = c .before .before .before .before in
+    let begin = c .before .before .before .before .before .before in
     start-running (call begin) (begin .args .room .now) (omega arith) (omega arith) (omega arith) (omega arith)
 
 run-from-requires : tie.Need-run-from-requires Inv-loop μ-loop
@@ -85,11 +101,11 @@ run-from-requires c κs = let R = c .before .loop .inv in (R .few, R .short, R .
 add-lines : tie.Need-add-lines Inv-loop μ-loop
 add-lines c = let R = carry c .1 in omega (arith, R .fewer, R .space, R .size)
 
-cast-if1 : tie.Need-cast-if1 Inv-loop μ-loop
-cast-if1 c = search needs
+cast-if2 : tie.Need-cast-if2 Inv-loop μ-loop
+cast-if2 c = search needs
 
-add-if1 : tie.Need-add-if1 Inv-loop μ-loop
-add-if1 c = let R = ran c .1 in omega (arith, R .few, R .short)
+add-if2 : tie.Need-add-if2 Inv-loop μ-loop
+add-if2 c = let R = ran c .1 in omega (arith, R .few, R .short)
 
 holds-requires : tie.Need-holds-requires Inv-loop μ-loop
 holds-requires c κs = let R = ran (c .before) .1 in (R .few, R .short, R .place, omega arith)
@@ -97,8 +113,8 @@ holds-requires c κs = let R = ran (c .before) .1 in (R .few, R .short, R .place
 same-length : tie.Need-same-length Inv-loop μ-loop
 same-length c = ran (c .before .before) .1 .size
 
-returns : tie.Need-returns Inv-loop μ-loop
-returns c =
+returns-2 : tie.Need-returns-2 Inv-loop μ-loop
+returns-2 c =
     let e = turn-done (ran (c .before .before) .1) (omega arith) in
     (c .holds .ensures ∙ ap (λ (o : Result). o .left) (sym e), ap (λ (o : Result). o .room) (sym e))
 
@@ -106,10 +122,10 @@ sequence-at-requires : tie.Need-sequence-at-requires Inv-loop μ-loop
 sequence-at-requires c κs = let R = ran (c .before) .1 in (R .few, R .short, R .place)
 
 -- the sequence found behind the run
-abbrev found : tie.After-struct-known3 Inv-loop μ-loop → tie.After-sequence-at Inv-loop μ-loop
+abbrev found : tie.After-struct-known4 Inv-loop μ-loop → tie.After-sequence-at Inv-loop μ-loop
 found c = c .before
 
-abbrev behind : tie.After-struct-known3 Inv-loop μ-loop → tie.After-struct-known2 Inv-loop μ-loop
+abbrev behind : tie.After-struct-known4 Inv-loop μ-loop → tie.After-struct-known3 Inv-loop μ-loop
 behind c = c .before .before .before
 
 holds-requires-2 : tie.Need-holds-requires-2 Inv-loop μ-loop
@@ -121,8 +137,8 @@ holds-requires-2 c κs =
 same-length-2 : tie.Need-same-length-2 Inv-loop μ-loop
 same-length-2 c = ran (behind (c .before .before)) .1 .size
 
-returns-2 : tie.Need-returns-2 Inv-loop μ-loop
-returns-2 c =
+returns-3 : tie.Need-returns-3 Inv-loop μ-loop
+returns-3 c =
     let at-sequence = found (c .before .before) .sequence-at in
     let e = turn-more (ran (behind (c .before .before)) .1) (at-sequence .result) (at-sequence .ensures) (omega arith) in
     (c .holds2 .ensures ∙ ap (λ (o : Result). o .left) (sym e), ap (λ (o : Result). o .room) (sym e))
@@ -134,18 +150,18 @@ ended-requires : tie.Need-ended-requires Inv-loop μ-loop
 ended-requires c κs = search needs
 
 -- a whole sequence
-abbrev whole : tie.After-stops Inv-loop μ-loop → tie.After-struct-known3 Inv-loop μ-loop
+abbrev whole : tie.After-stops Inv-loop μ-loop → tie.After-struct-known4 Inv-loop μ-loop
 whole c = c .before .before
 
 same-length-3 : tie.Need-same-length-3 Inv-loop μ-loop
 same-length-3 c = ran (behind (whole (c .before .before))) .1 .size
 
-returns-3 : tie.Need-returns-3 Inv-loop μ-loop
-returns-3 c =
+returns-4 : tie.Need-returns-4 Inv-loop μ-loop
+returns-4 c =
     let at-stops = c .before .before in
     let at-sequence = found (whole at-stops) .sequence-at in
-    let k = stops-yes _ _ (sym (at-stops .stops .ensures) ∙ c .before .if3 .taken) in
-    let e = turn-report (ran (behind (whole at-stops)) .1) (at-sequence .result) (at-sequence .ensures) (at-stops .before .if2 .left)
+    let k = stops-yes _ _ (sym (at-stops .stops .ensures) ∙ c .before .if4 .taken) in
+    let e = turn-report (ran (behind (whole at-stops)) .1) (at-sequence .result) (at-sequence .ensures) (at-stops .before .if3 .left)
     (k .0) (k .1) in
     (c .ended .ensures ∙ ap (λ (o : Result). o .left) (sym e), ap (λ (o : Result). o .room) (sym e))
 
@@ -156,7 +172,7 @@ on c = c .before .before
 put-requires : tie.Need-put-requires Inv-loop μ-loop
 put-requires c κs =
     let at-sequence = found (whole (on c)) .sequence-at in
-    turn-space (ran (behind (whole (on c))) .1) (at-sequence .result) (at-sequence .ensures) (on c .before .if2 .left)
+    turn-space (ran (behind (whole (on c))) .1) (at-sequence .result) (at-sequence .ensures) (on c .before .if3 .left)
 
 feeds-requires : tie.Need-feeds-requires Inv-loop μ-loop
 feeds-requires c κs = search needs
@@ -170,7 +186,7 @@ add-lines-2 c =
     let at-stops = on (turned c) in
     let at-sequence = found (whole at-stops) .sequence-at in
     let R = ran (behind (whole at-stops)) .1 in
-    omega (arith, c .feeds .ensures, turn-fewer R (at-sequence .result) (at-sequence .ensures) (at-stops .before .if2 .left))
+    omega (arith, c .feeds .ensures, turn-fewer R (at-sequence .result) (at-sequence .ensures) (at-stops .before .if3 .left))
 
 cast-at : tie.Need-cast-at Inv-loop μ-loop
 cast-at c = search needs
@@ -180,14 +196,14 @@ add-at c =
     let at-stops = on (turned (c .before)) in
     let at-sequence = found (whole at-stops) .sequence-at in
     let R = ran (behind (whole at-stops)) .1 in
-    omega (arith, turn-at R (at-sequence .result) (at-sequence .ensures) (at-stops .before .if2 .left))
+    omega (arith, turn-at R (at-sequence .result) (at-sequence .ensures) (at-stops .before .if3 .left))
 
 loop-less : tie.Need-loop-less Inv-loop μ-loop
 loop-less c =
     let at-stops = on (turned (c .before)) in
     let at-sequence = found (whole at-stops) .sequence-at in
     let R = ran (behind (whole at-stops)) .1 in
-    let width = turn-width R (at-sequence .result) (at-sequence .ensures) (at-stops .before .if2 .left) in
+    let width = turn-width R (at-sequence .result) (at-sequence .ensures) (at-stops .before .if3 .left) in
     omega (arith, run (behind (whole at-stops) .before) .run-from .ensures .run .ahead, R .place, width)
 
 loop-again : tie.Need-loop-again Inv-loop μ-loop
@@ -196,9 +212,9 @@ loop-again c =
     let at-put = at-feeds .before .before .before .put in
     let at-stops = on (turned at-feeds) in
     let at-sequence = found (whole at-stops) .sequence-at in
-    let goes = stops-no _ _ (sym (at-stops .stops .ensures) ∙ turned at-feeds .before .if3 .left) in
+    let goes = stops-no _ _ (sym (at-stops .stops .ensures) ∙ turned at-feeds .before .if4 .left) in
     rw (at-put .ensures .0, at-put .ensures .1, at-feeds .feeds .ensures)
-    (turn-on (ran (behind (whole at-stops)) .1) (at-sequence .result) (at-sequence .ensures) (at-stops .before .if2 .left) goes)
+    (turn-on (ran (behind (whole at-stops)) .1) (at-sequence .result) (at-sequence .ensures) (at-stops .before .if3 .left) goes)
 
 pub read-all-spec : {M : Type 1} → statement M
 read-all-spec =
@@ -206,22 +222,26 @@ read-all-spec =
     (tie.spec
     Inv-loop
     μ-loop
+    cast-if1
+    add-if1
+    untouched-requires
+    returns
     loop-holds
     run-from-requires
     add-lines
-    cast-if1
-    add-if1
+    cast-if2
+    add-if2
     holds-requires
     same-length
-    returns
+    returns-2
     sequence-at-requires
     holds-requires-2
     same-length-2
-    returns-2
+    returns-3
     stops-requires
     ended-requires
     same-length-3
-    returns-3
+    returns-4
     put-requires
     feeds-requires
     add-lines-2

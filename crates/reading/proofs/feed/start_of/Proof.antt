@@ -1,64 +1,26 @@
-use mathlib.Core.Path.{sym, ap, _∙_}
 use mathlib.Core.List.{_++_}
 use native.Mathlib.Omega.{arith}
 use borrow.Author.Needs.{needs}
-use Rattle.reading.specs.Reading.{bytesOf, chosenOf}
-use Rattle.reading.proofs.Choosing.{choose-at}
-use Rattle.reading.proofs.Loop.{all-count}
+use Rattle.reading.specs.Reading.{bytesOf}
 use Rattle.reading.proofs.Staged.{starts-on, starts-first}
 use Rattle.reading.proofs.feed.start_of.Statement.{statement}
 use Rattle.reading.proofs.feed.start_of.Tie as tie
 
-reader-requires : tie.Need-reader-requires
-reader-requires c κs = search needs
+at-spot-requires : tie.Need-at-spot-requires
+at-spot-requires c κs = search needs
 
 returns : tie.Need-returns
 returns c =
     let a = c .before .before .before .args in
-    starts-on (a .encoding) (a .stage) (a .state) (a .flag) (bytesOf (a .held) ++ a .chunk .now) (c .reader .ensures) (omega arith)
+    starts-on (a .encoding) (a .stage) (a .state) (a .flag) (bytesOf (a .held) ++ a .chunk .now) (c .at-spot .ensures) (omega arith)
 
-byte-at-requires : tie.Need-byte-at-requires
-byte-at-requires c κs = search needs
-
-byte-at-requires-2 : tie.Need-byte-at-requires-2
-byte-at-requires-2 c κs = search needs
-
-byte-at-requires-3 : tie.Need-byte-at-requires-3
-byte-at-requires-3 c κs = search needs
-
-cast-choose : tie.Need-cast-choose
-cast-choose c = search needs
-
-add-choose : tie.Need-add-choose
-add-choose c = search needs
-
-choose-requires : tie.Need-choose-requires
-choose-requires c κs = search needs
-
-reader-requires-2 : tie.Need-reader-requires-2
-reader-requires-2 c κs = search needs
+at-choice-requires : tie.Need-at-choice-requires
+at-choice-requires c κs = search needs
 
 returns-2 : tie.Need-returns-2
 returns-2 c =
-    let at-choose = c .before in
-    let third = at-choose .before .before in
-    let a = third .before .before .before .before .before .args in
-    let xs = bytesOf (a .held) ++ a .chunk .now in
-    let found = at-choose .choose .ensures ∙ ap chosenOf (choose-at xs (sym (all-count (a .held) (a .chunk .now) (omega arith)))
-    (third .before .before .byte-at .ensures) (third .before .byte-at2 .ensures) (third .byte-at3 .ensures)) in
-    starts-first (a .encoding) (a .stage) (a .state) (a .flag) xs (omega arith) found (c .reader2 .ensures)
+    let a = c .before .before .before .args in
+    starts-first (a .encoding) (a .stage) (a .state) (a .flag) (bytesOf (a .held) ++ a .chunk .now) (c .at-choice .ensures) (omega arith)
 
 pub start-of-spec : {M : Type 1} → statement M
-start-of-spec =
-    tie.close
-    (tie.spec
-    reader-requires
-    returns
-    byte-at-requires
-    byte-at-requires-2
-    byte-at-requires-3
-    cast-choose
-    add-choose
-    choose-requires
-    reader-requires-2
-    returns-2)
+start-of-spec = tie.close (tie.spec at-spot-requires returns at-choice-requires returns-2)

@@ -1,5 +1,5 @@
 use Rattle.runs.proofs.Running.{runs-none}
-use Rattle.standard.proofs.Families.{family-utf8, family-windows-1252, family-single-byte, family-iso-2022-jp}
+use Rattle.standard.proofs.Families.{family-utf8, family-iso-2022-jp}
 use Rattle.standard.specs.Encodings.{family, lent}
 use native.Mathlib.Omega.{arith}
 use borrow.Author.Needs.{needs}
@@ -19,9 +19,6 @@ past-2 c = past-1 (c .before)
 abbrev past-3 : tie.Else3 → tie.Start
 past-3 c = past-2 (c .before)
 
-abbrev past-5 : tie.Else5 → tie.Start
-past-5 c = past-3 (c .before .before)
-
 utf8-run-requires : tie.Need-utf8-run-requires
 utf8-run-requires c κs = search needs
 
@@ -33,8 +30,8 @@ returns c =
     let args = start (c .before .before .before .before .before) .args in
     rw (family-utf8 (args .encoding) (omega arith)) (c .before .before .utf8-run .ensures (lent (args .t1 .now) (args .t2 .now)))
 
-windows-1252-run-requires : tie.Need-windows-1252-run-requires
-windows-1252-run-requires c κs = search needs
+iso-2022-jp-run-requires : tie.Need-iso-2022-jp-run-requires
+iso-2022-jp-run-requires c κs = search needs
 
 same-length-2 : tie.Need-same-length-2
 same-length-2 c = search needs
@@ -42,42 +39,20 @@ same-length-2 c = search needs
 returns-2 : tie.Need-returns-2
 returns-2 c =
     let args = past-1 (c .before .before .before .before .before) .args in
-    rw (family-windows-1252 (args .encoding) (omega arith)) (c .before .before .windows-1252-run .ensures (lent (args .t1 .now) (args .t2 .now)) (args .mode))
-
-single-byte-run-requires : tie.Need-single-byte-run-requires
-single-byte-run-requires c κs = search needs
-
-same-length-3 : tie.Need-same-length-3
-same-length-3 c = search needs
-
-returns-3 : tie.Need-returns-3
-returns-3 c =
-    let args = past-2 (c .before .before .before .before .before) .args in
-    rw (family-single-byte (args .encoding) (omega arith) (omega arith) (omega arith)) (c .before .before .single-byte-run .ensures)
-
-iso-2022-jp-run-requires : tie.Need-iso-2022-jp-run-requires
-iso-2022-jp-run-requires c κs = search needs
-
-same-length-4 : tie.Need-same-length-4
-same-length-4 c = search needs
-
-returns-4 : tie.Need-returns-4
-returns-4 c =
-    let args = past-3 (c .before .before .before .before .before) .args in
     rw (family-iso-2022-jp (args .encoding) (omega arith)) (c .before .before .iso-2022-jp-run .ensures)
 
 pairs-run-requires : tie.Need-pairs-run-requires
 pairs-run-requires c κs = search needs
 
-same-length-5 : tie.Need-same-length-5
-same-length-5 c = search needs
+same-length-3 : tie.Need-same-length-3
+same-length-3 c = search needs
 
-returns-5 : tie.Need-returns-5
-returns-5 c = c .before .before .pairs-run .ensures
+returns-3 : tie.Need-returns-3
+returns-3 c = c .before .before .pairs-run .ensures
 
-returns-6 : tie.Need-returns-6
-returns-6 c =
-    let args = past-5 c .args in
+returns-4 : tie.Need-returns-4
+returns-4 c =
+    let args = past-3 c .args in
     runs-none (lent (args .t1 .now) (args .t2 .now)) (family (args .encoding))
 
 pub by-number-spec : {M : Type 1} → statement M
@@ -87,16 +62,10 @@ by-number-spec =
     utf8-run-requires
     same-length
     returns
-    windows-1252-run-requires
+    iso-2022-jp-run-requires
     same-length-2
     returns-2
-    single-byte-run-requires
+    pairs-run-requires
     same-length-3
     returns-3
-    iso-2022-jp-run-requires
-    same-length-4
-    returns-4
-    pairs-run-requires
-    same-length-5
-    returns-5
-    returns-6)
+    returns-4)

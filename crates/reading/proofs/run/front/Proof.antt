@@ -3,7 +3,8 @@ use borrow.Author.Tests.{not-false}
 use lib.Dec.{T}
 use Rattle.standard.specs.Encodings.{family}
 use Rattle.standard.proofs.FamilyLaws.{keeps}
-use Rattle.reading.proofs.Counting.{counts-none, counts-ascii}
+use Rattle.word_runs.proofs.ByteRuns.{counts-none}
+use Rattle.reading.proofs.Counting.{counts-ascii}
 use native.Mathlib.Omega.{arith}
 use borrow.Author.Needs.{needs}
 use Rattle.reading.proofs.run.front.Statement.{statement}

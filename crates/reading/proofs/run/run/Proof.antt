@@ -1,7 +1,11 @@
 use Rattle.standard.proofs.Families.{family-utf-16be, family-utf-16le}
 use Rattle.standard.specs.Encodings.{Tables, family, lent}
-use Rattle.runs.proofs.Counting.{counting-fewer}
-use Rattle.reading.proofs.Counting.{fed, both, counts-on}
+use Prim.Native.Nat.{_+_}
+use lib.Dec.{eqb}
+use Rattle.standard.specs.Sequence.{shift}
+use Rattle.runs.specs.Run.{shiftAt, placed}
+use Rattle.runs.proofs.Counting.{Counting, counting-fewer}
+use Rattle.reading.proofs.Counting.{both}
 use native.Mathlib.Omega.{arith}
 use borrow.Author.Needs.{needs}
 use Rattle.reading.proofs.run.run.Statement.{statement}
@@ -17,18 +21,27 @@ past-1 c = start (c .before)
 abbrev past-2 : tie.Else2 → tie.Start
 past-2 c = past-1 (c .before)
 
--- the function's start, the front and the run behind it, from where the line feeds are counted
-abbrev read : tie.After-feeds → tie.After-by-number
-read c = c .before .before .before .before
+-- the function's start and the front, from the run behind it
+abbrev first : tie.After-counted-run → tie.After-front
+first c = c .before .before .before .before
 
-abbrev first : tie.After-feeds → tie.After-front
-first c = read c .before .before .before .before
-
-abbrev begin : tie.After-feeds → tie.Start
+abbrev begin : tie.After-counted-run → tie.Start
 begin c = past-2 (first c .before .before)
 
-abbrev tables : tie.After-feeds → Tables
+abbrev tables : tie.After-counted-run → Tables
 tables c = lent (begin c .args .t1 .now) (begin c .args .t2 .now)
+
+-- both runs, one behind the other
+all : (c : tie.After-counted-run) →
+    let args = begin c .args in
+    let r = c .counted-run .result in
+    Counting (tables c) (family (args .encoding)) (args .mode) (args .chunk .now) (args .p .at) (r .at) (shiftAt (args .p)) (shift (r .state) (eqb (r .flag) 1)) (args .p .written) (r .written)
+    (first c .front .result .lines + r .lines) (args .room .now) (c .counted-run .last .1 .1 .1 .1 .1 .0)
+all c =
+    let args = begin c .args in
+    let r = c .counted-run in
+    both (args .p) (first c .front .result) (placed (r .result .at) (r .result .written) (r .result .state) (r .result .flag)) (begin c .pre)
+    (first c .front .ensures (tables c) (args .mode)) (r .ensures .run) (r .ensures .lines)
 
 utf-16-run-requires : tie.Need-utf-16-run-requires
 utf-16-run-requires c κs = search needs
@@ -55,29 +68,21 @@ returns-2 c =
 front-requires : tie.Need-front-requires
 front-requires c κs = search needs
 
-by-number-requires : tie.Need-by-number-requires
-by-number-requires c κs = search needs
+counted-run-requires : tie.Need-counted-run-requires
+counted-run-requires c κs = search needs
 
-feeds-requires : tie.Need-feeds-requires
-feeds-requires c κs = search needs
-
-add-t23 : tie.Need-add-t23
-add-t23 c =
-    let at-feeds = c .before in
-    let args = begin at-feeds .args in
-    let all = both (args .p) (first at-feeds .front .result) (read at-feeds .by-number .result) (begin at-feeds .pre)
-    (first at-feeds .front .ensures (tables at-feeds) (args .mode)) (read at-feeds .by-number .ensures) (fed (tables at-feeds) (family (args .encoding)) (read at-feeds .by-number .ensures) (at-feeds .feeds .ensures)) in
-    omega (arith, counting-fewer all, all .going .here .fits)
+add-t20 : tie.Need-add-t20
+add-t20 c =
+    let both = all (c .before .before .before .before) in
+    omega (arith, counting-fewer both, both .going .here .fits)
 
 same-length-3 : tie.Need-same-length-3
 same-length-3 c = search needs
 
 returns-3 : tie.Need-returns-3
 returns-3 c =
-    let at-feeds = c .before in
-    let args = begin at-feeds .args in
-    counts-on (args .p) (first at-feeds .front .result) (read at-feeds .by-number .result) (begin at-feeds .pre)
-    (first at-feeds .front .ensures (tables at-feeds) (args .mode)) (read at-feeds .by-number .ensures) (fed (tables at-feeds) (family (args .encoding)) (read at-feeds .by-number .ensures) (at-feeds .feeds .ensures))
+    let both = all (c .before .before .before .before) in
+    record { run = both .going .runs; lines = both .lines }
 
 pub run-spec : {M : Type 1} → statement M
 run-spec =
@@ -90,8 +95,7 @@ run-spec =
     same-length-2
     returns-2
     front-requires
-    by-number-requires
-    feeds-requires
-    add-t23
+    counted-run-requires
+    add-t20
     same-length-3
     returns-3)

@@ -21,14 +21,14 @@ tested c = c .before .before .before .before
 joined-requires : tie.Need-joined-requires
 joined-requires c κs = search needs
 
-copy-each-requires : tie.Need-copy-each-requires
-copy-each-requires c κs = search needs
+copy-front-requires : tie.Need-copy-front-requires
+copy-front-requires c κs = search needs
 
 same-length : tie.Need-same-length
 same-length c = search needs
 
 returns : tie.Need-returns
-returns c = (c .before .before .copy-each .ensures .0, c .before .before .copy-each .ensures .1 (omega arith))
+returns c = c .before .before .copy-front .ensures
 
 shared-slice-read-wide : tie.Need-shared-slice-read-wide
 shared-slice-read-wide c = search needs
@@ -93,7 +93,7 @@ copy-eight-spec =
     tie.close
     (tie.spec
     joined-requires
-    copy-each-requires
+    copy-front-requires
     same-length
     returns
     shared-slice-read-wide

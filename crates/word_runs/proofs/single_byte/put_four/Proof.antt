@@ -97,13 +97,13 @@ returns c =
     let r0 = args .room .now in
     let o = args .o in
     let j = args .j in
-    let low = args .low .now in
+    let table = args .table .now in
     let ws = args .words .now in
     let h = start at1 .pre .4 in
-    let w1 = word-more low ws j r0 r0 _ o 0 j o (omega arith) (omega arith) (patch-none r0 o) (at1 .put-word .ensures) (omega arith) (omega arith) in
-    let w2 = word-more low ws j r0 _ _ o 2 (j + 1) (o + 2) (omega arith) refl w1 (at2 .put-word2 .ensures) (omega arith) (omega arith) in
-    let w3 = word-more low ws j r0 _ _ o 4 (j + 2) (o + 4) (omega arith) refl w2 (at3 .put-word3 .ensures) (omega arith) (omega arith) in
-    word-more low ws j r0 _ _ o 6 (j + 3) (o + 6) (omega arith) refl w3 (at4 .put-word4 .ensures) (omega arith) (omega arith)
+    let w1 = word-more table ws j r0 r0 _ o 0 j o (omega arith) (omega arith) (patch-none r0 o) (at1 .put-word .ensures) (omega arith) (omega arith) in
+    let w2 = word-more table ws j r0 _ _ o 2 (j + 1) (o + 2) (omega arith) refl w1 (at2 .put-word2 .ensures) (omega arith) (omega arith) in
+    let w3 = word-more table ws j r0 _ _ o 4 (j + 2) (o + 4) (omega arith) refl w2 (at3 .put-word3 .ensures) (omega arith) (omega arith) in
+    word-more table ws j r0 _ _ o 6 (j + 3) (o + 6) (omega arith) refl w3 (at4 .put-word4 .ensures) (omega arith) (omega arith)
 
 pub put-four-spec : {M : Type 1} → statement M
 put-four-spec =

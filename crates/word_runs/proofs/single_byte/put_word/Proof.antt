@@ -15,6 +15,9 @@ mul-both c = search needs
 shared-slice-read-both : tie.Need-shared-slice-read-both
 shared-slice-read-both c = search needs
 
+cast-both : tie.Need-cast-both
+cast-both c = omega (arith, c .before .pre .2 .small (c .before .args .word % 256) (omega arith))
+
 mul-both-2 : tie.Need-mul-both-2
 mul-both-2 c = search needs
 
@@ -61,8 +64,8 @@ returns c =
     let args = c .before .before .args in
     let h = c .before .before .pre .2 in
     let w = args .word in
-    let low = args .low .now in
-    let p = parts (getD low (w % 256) 0) (getD low (w / 256) 0) (getD (args .high .now) (w / 256) 0) (h .small (w % 256) (omega arith)) (h .upper (w / 256) (omega arith)) in
+    let table = args .table .now in
+    let p = parts (getD table (w % 256) 0) (getD table (w / 256) 0) (getD (args .high .now) (w / 256) 0) (h .small (w % 256) (omega arith)) (h .upper (w / 256) (omega arith)) in
     two-sets (args .room .now) (args .o) _ _ ∙ (λ i. sets (args .room .now) (args .o) (p .0 i ∷ p .1 i ∷ []))
 
 pub put-word-spec : {M : Type 1} → statement M
@@ -71,6 +74,7 @@ put-word-spec =
     (tie.spec
     mul-both
     shared-slice-read-both
+    cast-both
     mul-both-2
     shared-slice-read-both-2
     add-both

@@ -11,13 +11,13 @@ use Rattle.runs.proofs.Patches.{patch-none}
 use Rattle.word_runs.proofs.single_byte.put_words.Statement.{statement}
 use Rattle.word_runs.proofs.single_byte.put_words.Tie as tie
 
--- The invariant: the scalars of the first j words, a multiple of four, are written.
--- What is left of 256 falls by four at each turn.
+-- The invariant: the scalars of the first j words, a multiple of sixteen, are written.
+-- What is left of 192 falls by sixteen at each turn.
 abbrev Inv-loop : tie.InvT-loop
-Inv-loop low high words room₀ o j₀ room j = (j ≤ 256) × (j % 4 ≡ 0) × (length room ≡ length room₀) × (room ≡ patch o (values (λ (k : ℕ). getD low (byteOf words k) 0) (j * 2)) room₀)
+Inv-loop table high words room₀ o j₀ room j = (j ≤ 192) × (j % 16 ≡ 0) × (length room ≡ length room₀) × (room ≡ patch o (values (λ (k : ℕ). getD table (byteOf words k) 0) (j * 2)) room₀)
 
 abbrev μ-loop : tie.MeasureT-loop
-μ-loop low high words room₀ o j₀ room j = 256 - j
+μ-loop table high words room₀ o j₀ room j = 192 - j
 
 -- the function's start, from the loop's head
 abbrev start : tie.At-loop Inv-loop μ-loop → tie.Start Inv-loop μ-loop
@@ -29,14 +29,14 @@ loop-holds c =
     let args = c .before .before .before .before .args in
     (omega arith, refl, refl, patch-none (args .room .now) (args .o))
 
-mul-put-four : tie.Need-mul-put-four Inv-loop μ-loop
-mul-put-four c = search needs
+mul-put-sixteen : tie.Need-mul-put-sixteen Inv-loop μ-loop
+mul-put-sixteen c = search needs
 
-add-put-four : tie.Need-add-put-four Inv-loop μ-loop
-add-put-four c = search needs
+add-put-sixteen : tie.Need-add-put-sixteen Inv-loop μ-loop
+add-put-sixteen c = search needs
 
-put-four-requires : tie.Need-put-four-requires Inv-loop μ-loop
-put-four-requires c κs =
+put-sixteen-requires : tie.Need-put-sixteen-requires Inv-loop μ-loop
+put-sixteen-requires c κs =
     let at-loop = c .before .before .loop in
     let pre = start (c .before .before) .pre in
     (pre .0, pre .1, pre .2, omega (arith, pre .3, at-loop .inv .1), omega (arith, pre .4, at-loop .inv .1, at-loop .inv .2))
@@ -52,10 +52,10 @@ loop-again c =
     let began = start (c .before .before .before .before .before) in
     let args = began .args in
     let at-loop = c .before .before .before .before .before .loop in
-    let f : ℕ → ℕ = λ (k : ℕ). getD (args .low .now) (byteOf (args .words .now) k) 0 in
-    let z : at-loop .j * 2 + 8 ≡ (at-loop .j + 4) * 2 = omega arith in
-    let wrote = wrote-on (args .room .now) (at-loop .room) _ (args .o) f (λ (k : ℕ). f (at-loop .j * 2 + k)) (at-loop .j * 2) 8
-    (at-loop .inv .3) (c .before .before .put-four .ensures) (λ k l. refl) (omega (arith, began .pre .4)) in
+    let f : ℕ → ℕ = λ (k : ℕ). getD (args .table .now) (byteOf (args .words .now) k) 0 in
+    let z : at-loop .j * 2 + 32 ≡ (at-loop .j + 16) * 2 = omega arith in
+    let wrote = wrote-on (args .room .now) (at-loop .room) _ (args .o) f (λ (k : ℕ). f (at-loop .j * 2 + k)) (at-loop .j * 2) 32
+    (at-loop .inv .3) (c .before .before .put-sixteen .ensures) (λ k l. refl) (omega (arith, began .pre .4)) in
     (omega (arith, at-loop .inv .1), omega (arith, at-loop .inv .1), omega (arith, at-loop .inv .2), wrote ∙ ap (λ (n : ℕ). patch (args .o) (values f n) (args .room .now)) z)
 
 same-length : tie.Need-same-length Inv-loop μ-loop
@@ -65,8 +65,8 @@ returns : tie.Need-returns Inv-loop μ-loop
 returns c =
     let args = c .before .before .before .before .before .before .args in
     let at-loop = c .before .loop in
-    let all : at-loop .j ≡ 256 = omega arith in
-    at-loop .inv .3 ∙ ap (λ (n : ℕ). patch (args .o) (values (λ (k : ℕ). getD (args .low .now) (byteOf (args .words .now) k) 0) (n * 2)) (args .room .now)) all
+    let all : at-loop .j ≡ 192 = omega arith in
+    at-loop .inv .3 ∙ ap (λ (n : ℕ). patch (args .o) (values (λ (k : ℕ). getD (args .table .now) (byteOf (args .words .now) k) 0) (n * 2)) (args .room .now)) all
 
 pub put-words-spec : {M : Type 1} → statement M
 put-words-spec =
@@ -75,9 +75,9 @@ put-words-spec =
     Inv-loop
     μ-loop
     loop-holds
-    mul-put-four
-    add-put-four
-    put-four-requires
+    mul-put-sixteen
+    add-put-sixteen
+    put-sixteen-requires
     add-j
     loop-less
     loop-again

@@ -1,5 +1,6 @@
 use Prim.Native.Nat.{_-_}
 use native.Mathlib.Omega.{arith}
+use lib.ListN.{length}
 use mathlib.Core.Path.{refl}
 use Rattle.word_runs.specs.Bytes.{windowsScalar}
 use Rattle.word_runs.proofs.ByteRuns.{looked-up}
@@ -21,6 +22,9 @@ slice-aggregate-windows-bytes c = search needs
 windows-bytes-requires : tie.Need-windows-bytes-requires
 unfolding irregular
 windows-bytes-requires c κs = (refl, c .before .before .before .before .before .pre)
+
+in-bytes-requires : tie.Need-in-bytes-requires
+in-bytes-requires c κs = search needs
 
 same-length : tie.Need-same-length
 same-length c = search needs
@@ -52,7 +56,7 @@ returns-2 c =
     let args = start (c .before .before .before .before .before) .args in
     let found = c .before .before .look-up in
     let filled = c .before .before .before .before .before .before .fill-windows in
-    looked-up windowsScalar (filled .last .1 .0) (args .chunk .now) (args .from) (args .place) (args .room .now) (found .last .1 .1 .1 .0) (filled .ensures) (found .ensures)
+    (looked-up windowsScalar (filled .last .1 .0) (args .chunk .now) (args .from) (length (args .chunk .now) - args .from) (args .place) (args .room .now) (found .last .1 .1 .1 .0) (filled .ensures) (found .ensures .0), found .ensures .1)
 
 pub windows-scalars-spec : {M : Type 1} → statement M
 windows-scalars-spec =
@@ -61,6 +65,7 @@ windows-scalars-spec =
     sub-if1
     slice-aggregate-windows-bytes
     windows-bytes-requires
+    in-bytes-requires
     same-length
     returns
     slice-aggregate-fill-windows

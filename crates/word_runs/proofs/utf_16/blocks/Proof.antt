@@ -30,6 +30,13 @@ head c = read c .before .before .before
 abbrev start : tie.After-surrogates Inv-loop μ-loop → tie.Start Inv-loop μ-loop
 start c = head c .before .before .before .before
 
+-- where a block has been put, and searched, from where its line feeds are counted
+abbrev put : tie.After-feeds Inv-loop μ-loop → tie.After-put-units Inv-loop μ-loop
+put c = c .before .before .before .before
+
+abbrev clear : tie.After-feeds Inv-loop μ-loop → tie.Else1 Inv-loop μ-loop
+clear c = put c .before .before .before
+
 loop-holds : tie.Need-loop-holds Inv-loop μ-loop
 loop-holds c =
     let pre = c .before .before .before .pre in
@@ -56,19 +63,21 @@ same-length-2 c = search needs
 returns : tie.Need-returns Inv-loop μ-loop
 returns c = λ m. let C = head (c .before) .loop .inv .7 m in record { runs = C .going .runs; lines = C .lines }
 
+put-units-requires : tie.Need-put-units-requires Inv-loop μ-loop
+put-units-requires c κs = search needs
+
 feeds-requires : tie.Need-feeds-requires Inv-loop μ-loop
-feeds-requires c κs = search needs
+feeds-requires c κs =
+    let inv = head (c .before .before .before .before .before .before .before) .loop .inv in
+    omega (arith, inv .3, inv .5)
 
 cast-lines : tie.Need-cast-lines Inv-loop μ-loop
 cast-lines c = search needs
 
 add-lines : tie.Need-add-lines Inv-loop μ-loop
 add-lines c =
-    let inv = head (c .before .before .before) .loop .inv in
+    let inv = head (clear c .before) .loop .inv in
     omega (arith, c .feeds .ensures .1, inv .0, inv .1, inv .2, inv .3, inv .6, counting-fewer (inv .7 0), inv .7 0 .going .runs .size)
-
-put-units-requires : tie.Need-put-units-requires Inv-loop μ-loop
-put-units-requires c κs = search needs
 
 mul-i : tie.Need-mul-i Inv-loop μ-loop
 mul-i c = search needs
@@ -78,7 +87,7 @@ add-i c = search needs
 
 add-o : tie.Need-add-o Inv-loop μ-loop
 add-o c =
-    let inv = head (c .before .before .before .before .before .before .before .before) .loop .inv in
+    let inv = head (clear c .before) .loop .inv in
     omega (arith, inv .0, inv .1, inv .2, inv .6, inv .7 0 .going .runs .size)
 
 loop-less : tie.Need-loop-less Inv-loop μ-loop
@@ -86,18 +95,16 @@ loop-less c = search needs
 
 loop-again : tie.Need-loop-again Inv-loop μ-loop
 loop-again c =
-    let put = c .before .before in
-    let counted = put .before .before .before in
-    let searched = counted .before .before .before in
+    let searched = clear c .before in
     let args = start searched .args in
     let loop = head searched .loop in
     let inv = loop .inv in
     let words = read searched .read-words .ensures in
-    let clear = searched .surrogates .ensures (counted .before .before .if1 .left) in
+    let none = searched .surrogates .ensures (clear c .if1 .left) in
     let on : (m : ℕ) → Counting noTables (utf16Family (args .be)) m (args .chunk .now) (args .from) (loop .i + length (args .words .now) * 2) plain plain
-    (args .place) (loop .o + length (args .words .now)) (loop .lines + counted .feeds .result) (args .room .now) (put .put-units .last .1 .1 .0) =
+    (args .place) (loop .o + length (args .words .now)) (loop .lines + c .feeds .result) (args .room .now) (put c .put-units .last .1 .1 .0) =
     λ m. counting-put (args .be) m (args .chunk .now) (args .from) (loop .i) (args .place) (loop .o) (args .room .now) (loop .room) _ (loop .words) _
-    (inv .7 m) (length (args .words .now)) (inv .3) (words .0) (words .1) clear (omega (arith, inv .0, inv .1, inv .6)) (put .put-units .ensures) (counted .feeds .ensures .0) in
+    (inv .7 m) (length (args .words .now)) (inv .3) (words .0) (words .1) none (omega (arith, inv .0, inv .1, inv .6)) (put c .put-units .ensures) (c .feeds .ensures .0) in
     (inv .0, inv .1, inv .2, omega (arith, inv .3), inv .4, inv .5, on 0 .going .here, on)
 
 same-length-3 : tie.Need-same-length-3 Inv-loop μ-loop
@@ -123,10 +130,10 @@ blocks-spec =
     same-length
     same-length-2
     returns
+    put-units-requires
     feeds-requires
     cast-lines
     add-lines
-    put-units-requires
     mul-i
     add-i
     add-o
