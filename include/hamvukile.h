@@ -391,7 +391,8 @@ typedef struct {
 /* Encodes scalars in any encoding but replacement (36) and UTF-16 (37, 38): writes the bytes to the front of the room, and
  * changes nothing behind them. The tables are those of decoding, but for ISO-2022-JP's second. The room needs the bytes
  * that are written, and no more: at most 10 for each scalar, in ISO-2022-JP 13. A text may be cut anywhere: the state that
- * a call answers goes into the next one, and a finish ends the text.
+ * a call answers goes into the next one, and a finish ends the text. In an encoding of pairs a call has up to 140 KB of
+ * its own on the stack.
  *
  * EUC-JP and Shift_JIS write U+00A5 as 5C, U+203E as 7E and U+2212 as U+FF0D; ISO-2022-JP writes U+2212 as U+FF0D, and the
  * katakana of half width (U+FF61 to U+FF9F) as the characters of its second table. These are read back as another
@@ -409,9 +410,10 @@ hamvukile_written hamvukile_encode(uint8_t encoding, uint8_t mode, uint8_t state
                                    const uint32_t *second, size_t second_length, uint8_t *room, size_t room_length);
 
 /* Encodes scalars as `hamvukile_encode` does, with a reverse index of the first table (see above; of no cells for an
- * encoding without a first table), which is read and not altered. Scalars that are looked up in the first table are
- * found by it in a few steps; one that the table has not costs a search of the table, as it does without an index. It
- * pays with the tables of GBK, gb18030, Big5 and EUC-KR; with shorter tables a long call without an index is faster.
+ * encoding without a first table), which is read and not altered. It pays in calls of few scalars: each is found in a few
+ * steps, and only one that the table has not costs a search of the table. A long call reads the whole table once, and then
+ * finds nearly all without search or index: in an encoding of pairs from 32 scalars on that are not ASCII, with an index
+ * from 1,024 (in gb18030 from 64); in a single-byte encoding from 16 scalars on, with an index from 256.
  *
  * With a true index the answer and the bytes are those of `hamvukile_encode`. With any other cells of the right length
  * the answer is still the same, and as many bytes are written, which read back the same; where the table has a scalar in

@@ -18,7 +18,7 @@ const ENCODINGS: [Encoding; 7] = [
 ];
 
 /// The scalars of a call in which every pointer is searched for: with more of them a call makes slots.
-const SEARCHED: usize = 255;
+const SEARCHED: usize = 31;
 
 /// A scalar that no published index has.
 const MISSING: u32 = 0x1F4A9;
@@ -64,7 +64,7 @@ fn spread(encoding: Encoding, tables: Tables, converter: &mut Iconv) -> Vec<u32>
         .collect()
 }
 
-/// A row: microseconds with an index, without one in one call and in calls of 255, and by iconv where it writes the same.
+/// A row: microseconds with an index, without one in one call and in short calls, and by iconv where it writes the same.
 fn row(name: &str, times: &[Times], counts: &mut Counts) {
     let shown = |place: usize| match times.get(place) {
         Some(times) => format!("{:.0}", times.least * 1e6),

@@ -16,7 +16,7 @@ use Rattle.standard.proofs.Tests.{split, and-left, and-right, under, above}
 use Rattle.standard.specs.Ones.{One, wrote, cannot, answered, plainly}
 use Rattle.encoder_spec.specs.Writing.{Fault, Writing, later, onward, ahead, writing}
 use Rattle.encoder_spec.specs.Writer.{Outcome, answerOf, write}
-use Rattle.encoder.specs.WriterCode.{noScalar, given, plain, Space, Wrote}
+use Rattle.encoder.specs.WriterCode.{noScalar, given, plain, Space, Running, Wrote}
 use Rattle.encoder.proofs.Rooms.{sets-append}
 use Rattle.encoder_spec.specs.declared.Written.{Written}
 
@@ -162,17 +162,11 @@ module _ (one : ℕ → ℕ → One) (m : ℕ) where
           let z : n + r + q ≡ n + (r + q) = omega arith in
           rw z (counted-on t (es ++ us) e (r + q) (omega (arith, length-append es us, x, y)) l)
 
-    -- Writing: o bytes at the front of the room before the scalar at i, in state s; the rest of the room as it was.
-    pub record Running (room₀ room : List ℕ) (i o s : ℕ) : Type 0 where
-      pub inside : o ≤ length room
-      pub size : length room ≡ length room₀
-      pub same : writing one m s₀ cs ≡ onward i (take o room) (writing one m s (drop i cs))
-      pub rest : drop o room ≡ drop o room₀
-
-    pub running-start : (room : List ℕ) → Running room room 0 0 s₀
+    -- Writing: the start, and on from a scalar.
+    pub running-start : (room : List ℕ) → Running one m s₀ cs room room 0 0 s₀
     running-start room = record { inside = omega arith; size = refl; same = sym (onward-none (writing one m s₀ cs)); rest = refl }
 
-    module _ (room₀ room : List ℕ) (i o s : ℕ) (k : Running room₀ room i o s) where
+    module _ (room₀ room : List ℕ) (i o s : ℕ) (k : Running one m s₀ cs room₀ room i o s) where
       -- what is written here stays in the room
       least : Space (writing one m s₀ cs) room₀ → o + length (writing one m s (drop i cs) .bytes) ≤ length room
       least l = omega (
@@ -234,7 +228,7 @@ module _ (one : ℕ → ℕ → One) (m : ℕ) where
           length-take-le o room (k .inside),
         )
 
-        pub running-on : (r : ℕ) (after : List ℕ) → r ≡ o + length us → after ≡ sets room o us → Running room₀ after (i + 1) r t
+        pub running-on : (r : ℕ) (after : List ℕ) → r ≡ o + length us → after ≡ sets room o us → Running one m s₀ cs room₀ after (i + 1) r t
         running-on r after p q = rw (p, q) (record {
           inside = omega (arith, running-room, length-sets room o us);
           size = length-sets room o us ∙ k .size;
@@ -251,7 +245,7 @@ module _ (one : ℕ → ℕ → One) (m : ℕ) where
             omega (arith, running-room t (es ++ us) e l, length-append es us, p, ap length q, length-sets room o es)
 
         pub running-both : (r : ℕ) (after : List ℕ) → r ≡ o + length es → after ≡ sets room o es →
-            (r′ : ℕ) (after′ : List ℕ) → r′ ≡ r + length us → after′ ≡ sets after r us → Running room₀ after′ (i + 1) r′ t
+            (r′ : ℕ) (after′ : List ℕ) → r′ ≡ r + length us → after′ ≡ sets after r us → Running one m s₀ cs room₀ after′ (i + 1) r′ t
         running-both r after p q r′ after′ p′ q′ =
             running-on t (es ++ us) e l r′ after′ (omega (arith, length-append es us, p, p′))
             (q′ ∙ rw (p, q) (sym (sets-append room o es us)))

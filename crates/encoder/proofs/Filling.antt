@@ -26,7 +26,7 @@ use Rattle.standard.specs.Ones.{iso2022JpEncode}
 use Rattle.standard.proofs.Tests.{split, and-left, and-right}
 use Rattle.reverse_index_spec.specs.ReverseIndex.{lookUp}
 use Rattle.reverse_index_spec.proofs.LookUp.{no-index}
-use Rattle.pair_writers.specs.Pairs.{pairEncode, Ready}
+use Rattle.pair_writers.specs.Pairs.{pairEncode}
 use Rattle.encoder.specs.WriterCode.{given, encoderOf, Slots, entered}
 use Rattle.encoder.proofs.Scalars.{windows-self, windows-more}
 
@@ -39,11 +39,11 @@ module _ (x : ℕ) (h : mapped x ≡ true) where
   mapped-most = leb-true x 0x10FFFF (and-left (leb x 0x10FFFF) (not (within 0xD800 x 0xDFFF)) (and-right (leb 0x80 x) (isScalar x) h))
 
 -- a cell entered
-module _ (slots : List ℕ) (c p : ℕ) where
-  pub entered-not : mapped c ≡ false → slots ≡ entered slots c p
+module _ (slots : List ℕ) (c b : ℕ) where
+  pub entered-not : mapped c ≡ false → slots ≡ entered slots c b
   entered-not h = rw h
 
-  pub entered-there : mapped c ≡ true → set slots (c % 2048) (c * 256 + (p + 0x80)) ≡ entered slots c p
+  pub entered-there : mapped c ≡ true → set slots (c % 2048) (c * 256 + b) ≡ entered slots c b
   entered-there h = rw h
 
 -- What stands in slot k once the cells from p on are in: nothing, or a scalar of this remainder and its first pointer from p on.
@@ -100,14 +100,14 @@ module _ (table : List ℕ) (p : ℕ) (h : p < length table) (few : p < 128) whe
         subst (Slot table p k) (sym (getD-set-other slots (getD table p 0 % 2048) k value 0 n))
         (kept k (getD slots k 0) (λ c r. rw (ne-eqb (getD table p 0) c (λ w. n (sym r ∙ ap (λ (x : ℕ). x % 2048) (sym w)))) (and-false (mapped (getD table p 0)))) (f .slot k)))
 
-    one-more : Filled table p (entered slots (getD table p 0) p)
+    one-more : Filled table p (entered slots (getD table p 0) (p + 0x80))
     unfolding value
     one-more = split (mapped (getD table p 0))
         (λ e. rw e (record { size = length-set slots (getD table p 0 % 2048) value ∙ f .size; inside = omega (arith, f .inside); slot = put e }))
         (λ e. rw e (unmapped e))
 
 pub filled-on : (table slots after : List ℕ) (p : ℕ) → length table ≤ 128 → 0 < p → Filled table p slots →
-    after ≡ entered slots (getD table (p - 1) 0) (p - 1) → Filled table (p - 1) after
+    after ≡ entered slots (getD table (p - 1) 0) (p - 1 + 0x80) → Filled table (p - 1) after
 filled-on table slots after p few h f e =
     let q : p ≡ suc (p - 1) = omega arith in
     subst (Filled table (p - 1)) (sym e) (one-more table (p - 1) (omega (arith, f .inside)) (omega (arith, f .inside)) slots (subst (λ (n : ℕ). Filled table n slots) q f))
@@ -146,6 +146,27 @@ pub regular-on : (slots : List ℕ) (c : ℕ) → length slots ≡ 2048 → 0xA0
     Slots (singleByteEncode (searching windows1252)) (set slots c (c * 256 + c))
 regular-on slots c l h g s = slots-set (singleByteEncode (searching windows1252)) slots c (c * 256 + c) (omega arith) s
     (let d : (c * 256 + c) / 256 ≡ c = omega arith in let m : (c * 256 + c) % 256 ≡ c = omega arith in rw (d, m) (sym (windows-self c h (omega arith))))
+
+-- cells looked up: each entry is right by itself
+module _ (look : Lookup) where
+  pub record Looked (slots : List ℕ) : Type 0 where
+    pub size : length slots ≡ 2048
+    pub right : Slots (singleByteEncode look) slots
+
+  pub looked-start : (slots : List ℕ) → slots ≡ replicate 2048 0 → Looked slots
+  unfolding singleByteEncode
+  looked-start slots e = rw e (record { size = length-replicate {A = ℕ} 2048 0; right = record { right = λ k. rw (zeros 2048 k) refl } })
+
+  pub looked-on : (slots after : List ℕ) (c b : ℕ) → b < 256 → Looked slots → given c b ≡ singleByteEncode look c → after ≡ entered slots c b → Looked after
+  looked-on slots after c b h f g e =
+      let d : (c * 256 + b) / 256 ≡ c = omega arith in let m : (c * 256 + b) % 256 ≡ b = omega arith in
+      rw e (split (mapped c)
+      (λ z. rw z (record {
+        size = length-set slots (c % 2048) (c * 256 + b) ∙ f .size;
+        right = slots-set (singleByteEncode look) slots (c % 2048) (c * 256 + b) (omega (arith, f .size)) (f .right)
+            (rw (d, m) (sym g ∙ rw (lt-ltb b 256 h) refl));
+      }))
+      (λ z. rw z f))
 
 -- ASCII is its own byte in the encodings that write pairs, but for the controls of ISO-2022-JP
 pub pair-80 : (e : ℕ) (look : Lookup) (second : List ℕ) (c : ℕ) → c < 0x80 →
@@ -190,13 +211,7 @@ module _ (e : ℕ) (look : Lookup) where
   by-slot slots s k c q = rw (lt-ltb (getD slots k 0 % 256) 256 (omega arith)) (sym (s .right k) ∙ ap (encoderOf e look) q)
 
 -- Where there is no reverse index, a look-up is the search.
-pub nothing-lent : (links : List ℕ) → length links ≡ 0 → links ≡ []
-nothing-lent [] e = refl
-nothing-lent (l ∷ links) e = absurd (omega arith)
-
-pub slots-lent : (e : ℕ) (table links slots : List ℕ) → links ≡ [] → Slots (encoderOf e (searching table)) slots →
+pub slots-lent : (e : ℕ) (table links slots : List ℕ) → length links ≡ 0 → Slots (encoderOf e (searching table)) slots →
     Slots (encoderOf e (lookUp table links)) slots
-slots-lent e table links slots q s = rw (q, no-index table) s
-
-pub ready-lent : (e : ℕ) (table links slots : List ℕ) → links ≡ [] → Ready e table [] slots → Ready e table links slots
-ready-lent e table links slots q r = rw q r
+slots-lent e table [] slots q s = rw (no-index table) s
+slots-lent e table (l ∷ links) slots q s = absurd (omega arith)

@@ -2,8 +2,8 @@ pub mod Scalars
 pub mod Rooms
 pub mod Shifts
 pub mod Filling
-pub mod Memory
 pub mod Counting
 pub mod Most
 pub mod Ones
+pub mod PairSlots
 pub mod Calls

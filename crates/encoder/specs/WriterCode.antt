@@ -6,7 +6,7 @@ use mathlib.Core.List.{List, [], _∷_}
 use mathlib.Core.Option.{some}
 use Prim.Native.Nat.{ℕ, _+_, _*_, _/_, _%_, _≤_, _<_}
 use lib.Dec.{ltb, leb, eqb}
-use lib.ListN.{length, getD, set}
+use lib.ListN.{length, take, drop, getD, set}
 use Rattle.standard.specs.Base.{_then_else_, within, isScalar, scalars, mapped}
 use Rattle.standard.specs.Encodings.{family, Tables, lent, fits}
 use Rattle.standard.specs.Indexes.{windows1252}
@@ -16,12 +16,13 @@ use Rattle.standard.specs.Encoders.Utf8.{utf8-bytes, utf8Encode}
 use Rattle.standard.specs.Encoders.SingleByte.{singleByteEncode}
 use Rattle.standard.specs.Encoders.UserDefined.{userDefinedEncode}
 use Rattle.standard.specs.Writers.{stateless}
-use Rattle.standard.specs.Ones.{One, shiftTo, answered, encodeOne}
+use Rattle.standard.specs.Ones.{One, wrote, shiftTo, answered, encodeOne}
 use Rattle.index.specs.IndexCode.{pointerOf}
 use Rattle.index.specs.declared.Found.{Found}
 use Rattle.reverse_index_spec.specs.ReverseIndex.{lookUp}
-use Rattle.pair_writers.specs.Pairs.{pairEncode, pairState, cellsOf}
-use Rattle.encoder_spec.specs.Writing.{Writing, writing}
+use Rattle.pair_writers.specs.Pairs.{pairEncode, pairState, cellsOf, floorOf, bytesIn}
+use Rattle.pair_writers.specs.declared.One.{One as Answer}
+use Rattle.encoder_spec.specs.Writing.{Writing, onward, writing}
 use Rattle.encoder_spec.specs.Writer.{write}
 use Rattle.encoder_spec.specs.declared.Written.{Written}
 
@@ -84,13 +85,16 @@ lentOf look e t = pairs e then pairOf e look (t .second) else oneOf e look
 pub record Slots (encode : ℕ → Result) (slots : List ℕ) : Type 0 where
   pub right : (k : ℕ) → encode (getD slots k 0 / 256) ≡ tokens (getD slots k 0 % 256 ∷ [])
 
--- A memory of pairs: each number in it is 0, or a scalar of at least 0x80 that the encoder gives two bytes, times 65,536, and those bytes.
-abbrev pub entry : ℕ → ℕ → ℕ → ℕ
-entry c lead trail = c * 65536 + lead * 256 + trail
+-- Slots of the writers of pairs (`pair_writers`, `Right`): two bytes of a scalar put into its slot, or nothing.
+pub data Keeps (e : ℕ) (before : List ℕ) (c : ℕ) (o : Answer) : List ℕ → Type 0 where
+  same : Keeps e before c o before
+  put : o .count ≡ 2 → length before ≡ 0x10000 → c < 0x10000 → o .second < 256 → floorOf e ≤ o .first * 256 + o .second →
+      Keeps e before c o (set before c (o .first * 256 + o .second))
 
-pub record Recalls (encode : ℕ → Result) (memory : List ℕ) : Type 0 where
-  pub right : (k : ℕ) → (getD memory k 0 ≡ 0 → ⊥) →
-      encode (getD memory k 0 / 65536) ≡ tokens (getD memory k 0 / 256 % 256 ∷ getD memory k 0 % 256 ∷ [])
+-- Their numbers are the bytes of one scalar in a state, which it leaves as it is; in ISO-2022-JP in the two-byte state only.
+abbrev pub Stays : ℕ → ℕ → List ℕ → (ℕ → ℕ → One) → Type 0
+Stays e s slots one =
+    length slots ≡ 0x10000 → (e ≡ 33 → s ≡ 2) → (k : ℕ) → 256 ≤ getD slots k 0 → one s k ≡ wrote (bytesIn e (getD slots k 0)) s
 
 -- An encoding of one byte a scalar, with its table.
 abbrev pub OneByte : ℕ → List ℕ → Type 0
@@ -104,9 +108,9 @@ BySlots e table links slots = OneByte e table × Slots (encoderOf e (lookUp tabl
 abbrev pub Found128 : Found → Type 0
 Found128 found = (p : ℕ) → pointerOf found ≡ some p → p < 128
 
--- The cell at a pointer put into its slot, where it counts as mapped.
+-- A cell and its byte put into their slot, where it counts as mapped.
 abbrev pub entered : List ℕ → ℕ → ℕ → List ℕ
-entered slots c p = mapped c then set slots (c % 2048) (c * 256 + (p + 0x80)) else slots
+entered slots c b = mapped c then set slots (c % 2048) (c * 256 + b) else slots
 
 -- What an encoding writes of some scalars: one of one byte a scalar, one of pairs, and any.
 abbrev pub writingOf : Lookup → ℕ → ℕ → List ℕ → Writing
@@ -147,6 +151,14 @@ Space w room = length (w .bytes) ≤ length room
 pub record Wrote (w : Writing) (room : List ℕ) (answer : Written) (after : List ℕ) : Type 0 where
   pub answers : answer ≡ write w room .answer
   pub leaves : after ≡ write w room .room
+
+-- A writing of scalars from state s₀ that has come to the scalar at i, in state s: its bytes so far, o of them, stand at the front of the
+-- room, and the rest of the room is as it was.
+pub record Running (one : ℕ → ℕ → One) (m s₀ : ℕ) (cs room₀ room : List ℕ) (i o s : ℕ) : Type 0 where
+  pub inside : o ≤ length room
+  pub size : length room ≡ length room₀
+  pub same : writing one m s₀ cs ≡ onward i (take o room) (writing one m s (drop i cs))
+  pub rest : drop o room ≡ drop o room₀
 
 -- The refusal that depends on the scalars, with so many bytes of room, or 0: 8, 10, 7.
 unfoldable pub textRefusal : Lookup → ℕ → ℕ → ℕ → Tables → List ℕ → ℕ → ℕ

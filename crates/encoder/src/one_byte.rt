@@ -5,7 +5,6 @@ use crate::slots;
 use encoder_spec::Written;
 ghost use mathlib.Core.Path.{_≡_};
 ghost use mathlib.Core.Bool.{true};
-ghost use mathlib.Core.List.{[]};
 ghost use Prim.Native.Nat.{_≤_};
 ghost use lib.ListN.{length};
 ghost use Rattle.standard.specs.Base.{scalars as areScalars};
@@ -24,16 +23,6 @@ pub(crate) fn byte_of(encoding: u8, table: &[u32], links: &[u32], c: u32) -> u32
         return crate::single_byte::byte_of(table, links, c);
     }
     crate::user_defined::byte_of(c)
-}
-
-// Do slots save more time than they cost? Not beside a reverse index.
-fn pays(encoding: u8, links: &[u32], scalars: usize) -> bool
-    ensures { λ r. ⌜ (r ≡ true → now (links .entry) ≡ []) ⌝ }
-{
-    if links.len() != 0 {
-        return false;
-    }
-    slots::least(encoding) <= scalars
 }
 
 // How many bytes are written of the scalars, with slots.
@@ -71,11 +60,11 @@ pub(crate) fn count(encoding: u8, mode: u8, scalars: &[u32], table: &[u32], link
     requires { ⌜ OneByte encoding (now table) × (areScalars (now scalars) ≡ true) × (length (now scalars) ≤ 16384) ⌝ }
     ensures { λ r. ⌜ r ≡ length (writingOf (lookUp (now (table .entry)) (now (links .entry))) encoding mode (now (scalars .entry)) .bytes) ⌝ }
 {
-    if !pays(encoding, links, scalars.len()) {
+    if scalars.len() < slots::least(encoding, links) {
         return count_by(encoding, mode, scalars, table, links, &table[0..0]);
     }
     let mut filled = [0u32; 2048];
-    slots::fill(encoding, table, &mut filled);
+    slots::fill(encoding, table, links, &mut filled);
     count_by(encoding, mode, scalars, table, links, &filled)
 }
 
@@ -137,10 +126,10 @@ pub(crate) fn write(
     ensures { λ r. ⌜ Wrote (writingOf (lookUp (now (table .entry)) (now (links .entry)))
         encoding mode (now (scalars .entry))) (now (room .entry)) r (now (room .exit)) ⌝ }
 {
-    if !pays(encoding, links, scalars.len()) {
+    if scalars.len() < slots::least(encoding, links) {
         return write_by(encoding, mode, scalars, table, links, &table[0..0], room);
     }
     let mut filled = [0u32; 2048];
-    slots::fill(encoding, table, &mut filled);
+    slots::fill(encoding, table, links, &mut filled);
     write_by(encoding, mode, scalars, table, links, &filled, room)
 }

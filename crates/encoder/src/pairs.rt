@@ -7,86 +7,224 @@ use encoder_spec::Written;
 use pair_writers::One;
 ghost use mathlib.Core.Path.{_≡_};
 ghost use mathlib.Core.Bool.{true};
-ghost use mathlib.Core.List.{[], _∷_};
-ghost use Prim.Native.Nat.{_+_, _/_, _%_, _≤_, _<_};
-ghost use lib.ListN.{length, set};
+ghost use mathlib.Core.List.{List};
+ghost use Prim.Native.Nat.{ℕ, _+_, _≤_, _<_};
+ghost use lib.ListN.{length, getD};
 ghost use lib.Seq.{sets};
+ghost use Rattle.standard.specs.Base.{_then_else_};
 ghost use Rattle.standard.specs.Machine.{tokens};
 ghost use Rattle.reverse_index_spec.specs.ReverseIndex.{lookUp};
-ghost use Rattle.pair_writers.specs.Pairs.{bytesOf, told, pairEncode, cellsOf, Ready};
-ghost use Rattle.encoder.specs.WriterCode.{entry, Recalls, pairWriting, Space, Wrote};
+ghost use Rattle.pair_writers.specs.Fours.{Ordered};
+ghost use Rattle.pair_writers.specs.Pairs.{bytesOf, told, pairEncode, floorOf, bytesIn, cellsOf, Ready};
+ghost use Rattle.standard.specs.Ones.{One as Encoded};
+ghost use Rattle.encoder_spec.specs.Writing.{writing};
+ghost use Rattle.encoder.specs.WriterCode.{Keeps, Stays, Running, pairWriting, Space, Wrote};
+
+// An index behind some scalars, and the place behind their bytes.
+struct Reached {
+    index: usize,
+    written: usize,
+}
 
 // The bytes of a scalar; ASCII without a call.
-fn one_of(encoding: u8, table: &[u32], links: &[u32], second: &[u32], slots: &[u16], c: u32) -> One
-    requires { ⌜ Ready encoding (now table) (now links) (now slots) ⌝ }
+fn one_of(
+    encoding: u8,
+    table: &[u32],
+    links: &[u32],
+    second: &[u32],
+    ordered: bool,
+    slots: &[u16],
+    c: u32,
+) -> One
+    requires { ⌜ Ready encoding (now table) (now links) (now second) (now slots) × Ordered ordered (now second) ⌝ }
     ensures { λ r. ⌜ told r ≡ pairEncode encoding (lookUp (now (table .entry)) (now (links .entry))) (now (second .entry)) c ⌝ }
 {
     if c < 0x80 {
         return pair_writers::ascii(encoding, c as u8);
     }
-    pair_writers::bytes_of(encoding, table, links, second, slots, c)
+    pair_writers::bytes_of(encoding, table, links, second, ordered, slots, c)
 }
 
-// A byte as a wider number.
-fn wide(b: u8) -> u64
-    ensures { λ r. ⌜ (r ≡ b) × (b < 256) ⌝ }
+// The number in the slot of a scalar; 0 where there is none.
+fn kept(slots: &[u16], c: u32) -> u16
+    ensures { λ r. ⌜ (256 ≤ r → (length (now (slots .entry)) ≡ 0x10000) × (r ≡ getD (now (slots .entry)) c 0)) ⌝ }
 {
-    b as u64
+    if slots.len() != 65536 {
+        return 0;
+    }
+    if 0xFFFF < c {
+        return 0;
+    }
+    slots[c as usize]
 }
 
-// The two bytes of an entry of the memory.
-fn recalled(m: u64) -> One
-    ensures { λ r. ⌜ told r ≡ tokens (m / 256 % 256 ∷ m % 256 ∷ []) ⌝ }
+// From which number on a slot has two bytes.
+fn floor(encoding: u8) -> u16
+    ensures { λ r. ⌜ r ≡ floorOf encoding ⌝ }
 {
+    if encoding == 33 {
+        return 256;
+    }
+    0x8000
+}
+
+// The bytes of a number in a slot.
+fn recalled(encoding: u8, v: u16) -> One
+    ensures { λ r. ⌜ told r ≡ tokens (bytesIn encoding v) ⌝ }
+{
+    if v < floor(encoding) {
+        return One {
+            named: 0,
+            count: 1,
+            first: (v / 256) as u8,
+            second: 0,
+            third: 0,
+            fourth: 0,
+        };
+    }
     One {
         named: 0,
         count: 2,
-        first: (m / 256 % 256) as u8,
-        second: (m % 256) as u8,
+        first: (v / 256) as u8,
+        second: (v % 256) as u8,
         third: 0,
         fourth: 0,
     }
 }
 
-// Two bytes of a scalar, put into the memory.
-fn remember(memory: &mut [u64], k: usize, c: u32, one: One)
-    requires { ⌜ (k < length (now memory)) × (0x80 ≤ c) ⌝ }
-    ensures { λ r. ⌜ (one .first < 256) × (one .second < 256) × (now (memory .exit) ≡ set (now (memory .entry)) k (entry c (one .first) (one .second))) ⌝ }
+// A byte as a wider number.
+fn wide(b: u8) -> u16
+    ensures { λ r. ⌜ (r ≡ b) × (b < 256) ⌝ }
 {
-    memory[k] = (c as u64) * 65536 + wide(one.first) * 256 + wide(one.second);
+    b as u16
 }
 
-// The bytes of a scalar, by the memory where it has them, and remembered where they are two.
+// Two bytes of a scalar, put into its slot where there is one.
+fn remember(encoding: u8, slots: &mut [u16], c: u32, one: One)
+    ensures { λ r. ⌜ Keeps encoding (now (slots .entry)) c one (now (slots .exit)) ⌝ }
+{
+    if one.count != 2 {
+        return;
+    }
+    if slots.len() != 65536 {
+        return;
+    }
+    if 0xFFFF < c {
+        return;
+    }
+    let v = wide(one.first) * 256 + wide(one.second);
+    if v < floor(encoding) {
+        return;
+    }
+    slots[c as usize] = v;
+}
+
+// The bytes of a scalar, by its slot where that has them.
 fn one_by(
     encoding: u8,
     table: &[u32],
     links: &[u32],
     second: &[u32],
-    slots: &[u16],
-    memory: &mut [u64],
+    ordered: bool,
+    slots: &mut [u16],
     c: u32,
 ) -> One
-    requires { ⌜ Ready encoding (now table) (now links) (now slots) ×
-        Recalls (pairEncode encoding (lookUp (now table) (now links)) (now second)) (now memory) ⌝ }
+    requires { ⌜ Ready encoding (now table) (now links) (now second) (now slots) × Ordered ordered (now second) ⌝ }
     ensures { λ r. ⌜ (told r ≡ pairEncode encoding (lookUp (now (table .entry)) (now (links .entry))) (now (second .entry)) c) ×
-        Recalls (pairEncode encoding (lookUp (now (table .entry)) (now (links .entry))) (now (second .entry))) (now (memory .exit)) ⌝ }
+        Ready encoding (now (table .entry)) (now (links .entry)) (now (second .entry)) (now (slots .exit)) ⌝ }
 {
-    if memory.len() != 4096 {
-        return one_of(encoding, table, links, second, slots, c);
+    let v = kept(slots, c);
+    if 256 <= v {
+        return recalled(encoding, v);
     }
-    if c < 0x80 {
-        return one_of(encoding, table, links, second, slots, c);
-    }
-    let k = (c % 4096) as usize;
-    let m = memory[k];
-    if m / 65536 == c as u64 {
-        return recalled(m);
-    }
-    let one = one_of(encoding, table, links, second, slots, c);
-    if one.count == 2 {
-        remember(memory, k, c, one);
-    }
+    let one = one_of(encoding, table, links, second, ordered, slots, c);
+    remember(encoding, slots, c, one);
     one
+}
+
+// One of two bytes.
+fn choose(first: bool, a: u8, b: u8) -> u8
+    ensures { λ r. ⌜ r ≡ (first then a else b) ⌝ }
+{
+    if first { a } else { b }
+}
+
+// A place one or two further.
+fn behind(two: bool, at: usize) -> usize
+    requires { ⌜ at + 2 < 0x10000000000000000 ⌝ }
+    ensures { λ r. ⌜ r ≡ (two then at + 2 else at + 1) ⌝ }
+{
+    if two { at + 2 } else { at + 1 }
+}
+
+// The bytes of a number in a slot, written from a place on; the place behind them. The second cell is stored in any case, as it was where
+// there is one byte: no branch has to foresee the count.
+fn put_kept(room: &mut [u8], at: usize, encoding: u8, v: u16) -> usize
+    requires { ⌜ at + 2 ≤ length (now room) ⌝ }
+    ensures { λ r. ⌜ (r ≡ at + length (bytesIn encoding v)) × (now (room .exit) ≡ sets (now (room .entry)) at (bytesIn encoding v)) ⌝ }
+{
+    let two = floor(encoding) <= v;
+    room[at] = (v / 256) as u8;
+    room[at + 1] = choose(two, (v % 256) as u8, room[at + 1]);
+    behind(two, at)
+}
+
+// Does a scalar that is written by its slot leave the state as it is?
+fn stays(encoding: u8, state: u8) -> bool
+    ensures { λ r. ⌜ (r ≡ true → (encoding ≡ 33 → state ≡ 2)) ⌝ }
+{
+    if encoding != 33 {
+        return true;
+    }
+    state == 2
+}
+
+// Scalars whose slots have their bytes, from an index on, written from a place on: as far as they go.
+fn run(
+    encoding: u8,
+    state: u8,
+    slots: &[u16],
+    scalars: &[u32],
+    from: usize,
+    room: &mut [u8],
+    place: usize,
+) -> Reached
+    requires { ⌜ (from ≤ length (now scalars)) × (place ≤ length (now room)) ⌝ }
+    ensures { λ r. ⌜ (from ≤ r .index) × (r .index ≤ length (now (scalars .entry))) ×
+        ((one : ℕ → ℕ → Encoded) (mode begin : ℕ) (first : List ℕ) → Stays encoding state (now (slots .entry)) one →
+        Space (writing one mode begin (now (scalars .entry))) first →
+        Running one mode begin (now (scalars .entry)) first (now (room .entry)) from place state →
+        Running one mode begin (now (scalars .entry)) first (now (room .exit)) (r .index) (r .written) state) ⌝ }
+{
+    let mut i = from;
+    let mut o = place;
+    if !stays(encoding, state) {
+        return Reached {
+            index: i,
+            written: o,
+        };
+    }
+    while i < scalars.len() {
+        let v = kept(slots, scalars[i]);
+        if v < 256 {
+            return Reached {
+                index: i,
+                written: o,
+            };
+        }
+        if room.len() - o < 2 {
+            return Reached {
+                index: i,
+                written: o,
+            };
+        }
+        o = put_kept(room, o, encoding, v);
+        i += 1;
+    }
+    Reached {
+        index: i,
+        written: o,
+    }
 }
 
 // How many bytes.
@@ -129,9 +267,10 @@ fn count_by(
     table: &[u32],
     links: &[u32],
     second: &[u32],
-    slots: &[u16],
+    ordered: bool,
+    slots: &mut [u16],
 ) -> usize
-    requires { ⌜ (length (now scalars) ≤ 16384) × Ready encoding (now table) (now links) (now slots) ⌝ }
+    requires { ⌜ (length (now scalars) ≤ 16384) × Ready encoding (now table) (now links) (now second) (now slots) × Ordered ordered (now second) ⌝ }
     ensures { λ r. ⌜ r ≡ length (pairWriting (lookUp (now (table .entry)) (now (links .entry)))
         encoding mode state (now (second .entry)) (now (scalars .entry)) .bytes) ⌝ }
 {
@@ -140,7 +279,7 @@ fn count_by(
     let mut i: usize = 0;
     while i < scalars.len() {
         let c = scalars[i];
-        let one = one_of(encoding, table, links, second, slots, c);
+        let one = one_by(encoding, table, links, second, ordered, slots, c);
         let to = pair_writers::state_for(encoding, s, c, one.count);
         n += escapes::size(s, to);
         s = to;
@@ -182,15 +321,57 @@ fn others(scalars: &[u32]) -> u32
     n
 }
 
-// Do slots save more time than they cost? Not beside a reverse index.
-fn pays(links: &[u32], scalars: &[u32]) -> bool
-    requires { ⌜ length (now scalars) ≤ 16384 ⌝ }
-    ensures { λ r. ⌜ (r ≡ true → now (links .entry) ≡ []) ⌝ }
+// From how many scalars that are not ASCII on slots save more time than they cost beside a reverse index. gb18030 has many a scalar that
+// its table has not.
+fn least(encoding: u8) -> u32
+    ensures { λ r. ⌜ r ≤ 1024 ⌝ }
 {
-    if links.len() != 0 {
-        return false;
+    if encoding == 30 {
+        return 64;
     }
-    256 <= others(scalars)
+    1024
+}
+
+// The same, with filled slots. The array stands apart: its room on the stack costs the calls without slots nothing.
+fn count_filled(
+    encoding: u8,
+    mode: u8,
+    state: u8,
+    scalars: &[u32],
+    table: &[u32],
+    links: &[u32],
+    second: &[u32],
+) -> usize
+    requires { ⌜ (length (now scalars) ≤ 16384) × (length (now table) ≡ cellsOf encoding) ⌝ }
+    ensures { λ r. ⌜ r ≡ length (pairWriting (lookUp (now (table .entry)) (now (links .entry)))
+        encoding mode state (now (second .entry)) (now (scalars .entry)) .bytes) ⌝ }
+{
+    let mut slots = [0u16; 65536];
+    pair_writers::fill(encoding, table, &mut slots);
+    if pair_writers::ordered(encoding, second) {
+        return count_by(
+            encoding,
+            mode,
+            state,
+            scalars,
+            table,
+            links,
+            second,
+            true,
+            &mut slots,
+        );
+    }
+    count_by(
+        encoding,
+        mode,
+        state,
+        scalars,
+        table,
+        links,
+        second,
+        false,
+        &mut slots,
+    )
 }
 
 // The same, with slots where they save more time than they cost.
@@ -207,12 +388,16 @@ pub(crate) fn count(
     ensures { λ r. ⌜ r ≡ length (pairWriting (lookUp (now (table .entry)) (now (links .entry)))
         encoding mode state (now (second .entry)) (now (scalars .entry)) .bytes) ⌝ }
 {
-    if !pays(links, scalars) {
-        let none = [0u16; 1];
-        return count_by(encoding, mode, state, scalars, table, links, second, &none);
+    let n = others(scalars);
+    if links.len() == 0 {
+        if 32 <= n {
+            return count_filled(encoding, mode, state, scalars, table, links, second);
+        }
     }
-    let mut filled = [0u16; 16384];
-    pair_writers::fill(encoding, table, &mut filled);
+    if least(encoding) <= n {
+        return count_filled(encoding, mode, state, scalars, table, links, second);
+    }
+    let mut none = [0u16; 1];
     count_by(
         encoding,
         mode,
@@ -221,7 +406,8 @@ pub(crate) fn count(
         table,
         links,
         second,
-        &filled,
+        false,
+        &mut none,
     )
 }
 
@@ -234,13 +420,12 @@ fn write_by(
     table: &[u32],
     links: &[u32],
     second: &[u32],
-    slots: &[u16],
-    memory: &mut [u64],
+    ordered: bool,
+    slots: &mut [u16],
     room: &mut [u8],
 ) -> Written
-    requires { ⌜ Ready encoding (now table) (now links) (now slots) ×
-        Recalls (pairEncode encoding (lookUp (now table) (now links)) (now second)) (now memory) ×
-        Space (pairWriting (lookUp (now table) (now links)) encoding mode state (now second) (now scalars)) (now room) ⌝ }
+    requires { ⌜ Ready encoding (now table) (now links) (now second) (now slots) ×
+        Space (pairWriting (lookUp (now table) (now links)) encoding mode state (now second) (now scalars)) (now room) × Ordered ordered (now second) ⌝ }
     ensures { λ r. ⌜ Wrote (pairWriting (lookUp (now (table .entry)) (now (links .entry)))
         encoding mode state (now (second .entry)) (now (scalars .entry)))
         (now (room .entry)) r (now (room .exit)) ⌝ }
@@ -256,7 +441,13 @@ fn write_by(
             i += 1;
             continue;
         }
-        let one = one_by(encoding, table, links, second, slots, memory, c);
+        let r = run(encoding, s, slots, scalars, i, room, o);
+        o = r.written;
+        if i < r.index {
+            i = r.index;
+            continue;
+        }
+        let one = one_by(encoding, table, links, second, ordered, slots, c);
         let to = pair_writers::state_for(encoding, s, c, one.count);
         o = escapes::put(room, o, s, to);
         s = to;
@@ -284,8 +475,8 @@ fn write_by(
     }
 }
 
-// The same without slots; with a memory where there are many scalars.
-fn write_plainly(
+// The same, with filled slots, apart as for counting.
+fn write_filled(
     encoding: u8,
     mode: u8,
     state: u8,
@@ -301,23 +492,9 @@ fn write_plainly(
         encoding mode state (now (second .entry)) (now (scalars .entry)))
         (now (room .entry)) r (now (room .exit)) ⌝ }
 {
-    let none = [0u16; 1];
-    if scalars.len() < 512 {
-        let mut nothing = [0u64; 1];
-        return write_by(
-            encoding,
-            mode,
-            state,
-            scalars,
-            table,
-            links,
-            second,
-            &none,
-            &mut nothing,
-            room,
-        );
-    }
-    let mut memory = [0u64; 4096];
+    let ordered = pair_writers::ordered(encoding, second);
+    let mut slots = [0u16; 65536];
+    pair_writers::fill(encoding, table, &mut slots);
     write_by(
         encoding,
         mode,
@@ -326,8 +503,8 @@ fn write_plainly(
         table,
         links,
         second,
-        &none,
-        &mut memory,
+        ordered,
+        &mut slots,
         room,
     )
 }
@@ -349,12 +526,16 @@ pub(crate) fn write(
         encoding mode state (now (second .entry)) (now (scalars .entry)))
         (now (room .entry)) r (now (room .exit)) ⌝ }
 {
-    if !pays(links, scalars) {
-        return write_plainly(encoding, mode, state, scalars, table, links, second, room);
+    let n = others(scalars);
+    if links.len() == 0 {
+        if 32 <= n {
+            return write_filled(encoding, mode, state, scalars, table, links, second, room);
+        }
     }
-    let mut filled = [0u16; 16384];
-    pair_writers::fill(encoding, table, &mut filled);
-    let mut memory = [0u64; 4096];
+    if least(encoding) <= n {
+        return write_filled(encoding, mode, state, scalars, table, links, second, room);
+    }
+    let mut none = [0u16; 1];
     write_by(
         encoding,
         mode,
@@ -363,8 +544,8 @@ pub(crate) fn write(
         table,
         links,
         second,
-        &filled,
-        &mut memory,
+        false,
+        &mut none,
         room,
     )
 }

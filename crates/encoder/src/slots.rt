@@ -9,15 +9,15 @@ ghost use Rattle.standard.specs.Encoders.SingleByte.{singleByteEncode};
 ghost use Rattle.reverse_index_spec.specs.ReverseIndex.{lookUp};
 ghost use Rattle.encoder.specs.WriterCode.{given, encoderOf, Slots, OneByte, BySlots, entered};
 
-// The cell at a pointer, put into its slot where it counts as mapped.
-fn enter(slots: &mut [u32], c: u32, p: usize)
-    requires { ⌜ (length (now slots) ≡ 2048) × (p < 128) ⌝ }
-    ensures { λ r. ⌜ now (slots .exit) ≡ entered (now (slots .entry)) c p ⌝ }
+// A cell and its byte, put into their slot where the cell counts as mapped.
+fn enter(slots: &mut [u32], c: u32, b: u32)
+    requires { ⌜ (length (now slots) ≡ 2048) × (b < 256) ⌝ }
+    ensures { λ r. ⌜ now (slots .exit) ≡ entered (now (slots .entry)) c b ⌝ }
 {
     if !index::mapped(c) {
         return;
     }
-    slots[(c % 2048) as usize] = c * 256 + (p as u32 + 0x80);
+    slots[(c % 2048) as usize] = c * 256 + b;
 }
 
 // The cells of a table, from the last on, so that the first of equal cells stays.
@@ -28,7 +28,24 @@ fn fill_table(table: &[u32], slots: &mut [u32])
     let mut p = table.len();
     while 0 < p {
         p -= 1;
-        enter(slots, table[p], p);
+        enter(slots, table[p], p as u32 + 0x80);
+    }
+}
+
+// The cells of a table, each looked up by a reverse index of any cells.
+fn fill_looked(table: &[u32], links: &[u32], slots: &mut [u32])
+    requires { ⌜ (length (now table) ≤ 128) × (now slots ≡ replicate 2048 0) ⌝ }
+    ensures { λ r. ⌜ Slots (singleByteEncode (lookUp (now (table .entry)) (now (links .entry)))) (now (slots .exit)) ⌝ }
+{
+    let mut p: usize = 0;
+    while p < table.len() {
+        let c = table[p];
+        p += 1;
+        let b = crate::single_byte::byte_of(table, links, c);
+        if 256 <= b {
+            continue;
+        }
+        enter(slots, c, b);
     }
 }
 
@@ -45,22 +62,25 @@ fn fill_regular(slots: &mut [u32])
 }
 
 // From how many scalars on the slots save more time than they cost.
-pub(crate) fn least(encoding: u8) -> usize
+pub(crate) fn least(encoding: u8, links: &[u32]) -> usize
     ensures { λ r. ⌜ r ≤ 16385 ⌝ }
 {
+    if 28 < encoding {
+        return 16385;
+    }
     if encoding == 21 {
         return 256;
     }
-    if encoding <= 28 {
+    if links.len() == 0 {
         return 16;
     }
-    16385
+    256
 }
 
 // The slots of an encoding, from empty ones.
-pub(crate) fn fill(encoding: u8, table: &[u32], slots: &mut [u32])
+pub(crate) fn fill(encoding: u8, table: &[u32], links: &[u32], slots: &mut [u32])
     requires { ⌜ OneByte encoding (now table) × (now slots ≡ replicate 2048 0) ⌝ }
-    ensures { λ r. ⌜ Slots (encoderOf encoding (searching (now (table .entry)))) (now (slots .exit)) ⌝ }
+    ensures { λ r. ⌜ Slots (encoderOf encoding (lookUp (now (table .entry)) (now (links .entry)))) (now (slots .exit)) ⌝ }
 {
     if 28 < encoding {
         return;
@@ -68,6 +88,10 @@ pub(crate) fn fill(encoding: u8, table: &[u32], slots: &mut [u32])
     if encoding == 21 {
         fill_table(&index::IRREGULAR, slots);
         fill_regular(slots);
+        return;
+    }
+    if links.len() != 0 {
+        fill_looked(table, links, slots);
         return;
     }
     fill_table(table, slots);

@@ -1,13 +1,11 @@
--- gb18030's fallback: the loop over the pairs, the reading of a pointer, and the four bytes. Assumes nothing.
+-- gb18030's fallback: the last pair, the reading of a pointer, and the four bytes. Assumes nothing.
 use mathlib.Core.Path.{_≡_, refl, sym, ap, _∙_}
 use mathlib.Core.Bool.{Bool, true, false, _&&_, _||_, or-true}
 use mathlib.Core.List.{List, [], _∷_}
 use mathlib.Core.Option.{Option, some, none}
-use Prim.Native.Nat.{ℕ, suc, _+_, _*_, _/_, _≤_, _<_}
+use Prim.Native.Nat.{ℕ, _≤_, _<_}
 use native.Mathlib.Omega.{arith}
 use lib.Dec.{ltb, eqb, leb·suc-suc}
-use lib.ListN.{length, drop, getD, length-drop}
-use lib.Seq.{drop-cons}
 use borrow.Author.Tests.{lt-ltb, le-ltb, eqb-true, eqb-false, eq-eqb, ne-eqb}
 use Rattle.standard.specs.Base.{_then_else_, within, mapped}
 use Rattle.standard.specs.Indexes.{Range, lastPair, lastRange, rangeSum, rangesCodePoint, lastCodePoint, pointerSum, rangesPointer}
@@ -18,31 +16,17 @@ use Rattle.standard.specs.Encoders.Pairs.{pairOr, pairOrErrorWith}
 use Rattle.standard.specs.Encoders.Gb18030.{fourBytes, givesBack, fourOrErrorWith, gb18030Encode}
 use Rattle.standard.proofs.Tests.{split}
 use Rattle.layouts.specs.Rows.{layoutOf}
+use Rattle.layouts.specs.Ranges.{Ascending, notAbove, total, onward, lastSum}
 use Rattle.layouts.proofs.Rows.{layout-gb18030}
 use Rattle.pair_writers.specs.Pairs.{bytesOf, told}
-use Rattle.pair_writers.specs.Fours.{notAbove, total, onward, lastSum}
 use Rattle.pair_writers.specs.declared.One.{One}
 use Rattle.reverse_index_spec.specs.ReverseIndex.{lookUp}
 use Rattle.reverse_index_spec.proofs.LookUp.{none-passed}
 
--- the ranges, pair after pair
-module _ (back : Bool) (ranges : List ℕ) (x : ℕ) where
-  pub sum-step : (i f : ℕ) → i * 2 + 1 < length ranges → lastSum back (drop (i * 2) ranges) x f ≡
-      lastSum back (drop ((i + 1) * 2) ranges) x (onward back (getD ranges (i * 2) 0) (getD ranges (i * 2 + 1) 0) x f)
-  unfolding lastSum
-  sum-step i f h =
-      let e : i * 2 + 1 ≡ suc (i * 2) = omega arith in
-      let g : (i + 1) * 2 ≡ suc (suc (i * 2)) = omega arith in
-      rw (drop-cons ranges (i * 2) 0 (omega arith), drop-cons ranges (suc (i * 2)) 0 (omega arith), g, e)
-
-  pub sum-end : (i f : ℕ) → length ranges / 2 ≤ i → lastSum back (drop (i * 2) ranges) x f ≡ f
-  unfolding lastSum
-  sum-end i f h = go (drop (i * 2) ranges) (omega (arith, length-drop (i * 2) ranges))
-    where
-      go : (l : List ℕ) → length l ≤ 1 → lastSum back l x f ≡ f
-      go [] n = refl
-      go (a ∷ []) n = refl
-      go (a ∷ b ∷ l) n = absurd (omega arith)
+-- the order of one column
+pub column-of : (back : Bool) (ranges : List ℕ) → Ascending false ranges × Ascending true ranges → Ascending back ranges
+column-of false ranges h = h .0
+column-of true ranges h = h .1
 
 -- The last pair: the code keeps the answer so far, the standard searches from the end.
 abbrev sumOr : Bool → ℕ → ℕ → Option Range → ℕ

@@ -1,3 +1,5 @@
+pub mod Shapes
 pub mod Filling
 pub mod Encoders
+pub mod Known
 pub mod Fours

@@ -33,7 +33,7 @@ fn by_last(c: u32) -> bool
 
 // The pointers below 5,024 are passed over.
 pub(crate) fn bytes_of(table: &[u32], links: &[u32], slots: &[u16], c: u32) -> One
-    ensures { λ r. ⌜ (Helped 19782 big5Over (now (table .entry)) (now (links .entry)) (now (slots .entry)) →
+    ensures { λ r. ⌜ (Helped 19782 big5Over (now (table .entry)) (now (slots .entry)) →
         told r ≡ big5Encode (lookUp (now (table .entry)) (now (links .entry))) c) ⌝ }
 {
     if c < 0x80 {

@@ -10,7 +10,7 @@ ghost use Rattle.pair_writers.specs.Pairs.{told, Helped};
 
 // No pointer is passed over.
 pub(crate) fn bytes_of(table: &[u32], links: &[u32], slots: &[u16], c: u32) -> One
-    ensures { λ r. ⌜ (Helped 23940 (passOver 1 0) (now (table .entry)) (now (links .entry)) (now (slots .entry)) →
+    ensures { λ r. ⌜ (Helped 23940 (passOver 1 0) (now (table .entry)) (now (slots .entry)) →
         told r ≡ eucKrEncode (lookUp (now (table .entry)) (now (links .entry))) c) ⌝ }
 {
     if c < 0x80 {

@@ -4,6 +4,8 @@ use crate::One;
 use crate::pairs;
 use index::mapped;
 use layouts::gb18030::gap;
+use layouts::ranges::in_order;
+use layouts::ranges::search;
 ghost use mathlib.Core.Path.{_≡_};
 ghost use mathlib.Core.Bool.{_&&_};
 ghost use Prim.Native.Nat.{_+_, _-_, _≤_};
@@ -13,9 +15,10 @@ ghost use Rattle.standard.specs.Indexes.{rangesCodePoint, rangesPointer};
 ghost use Rattle.standard.specs.Machine.{tokens};
 ghost use Rattle.standard.specs.Search.{passOver};
 ghost use Rattle.standard.specs.Encoders.Gb18030.{fourBytes, givesBack, fourOrErrorWith, gb18030Encode};
+ghost use Rattle.layouts.specs.Ranges.{Ascending, onward, lastSum};
 ghost use Rattle.reverse_index_spec.specs.ReverseIndex.{lookUp};
 ghost use Rattle.pair_writers.specs.Pairs.{told, Helped};
-ghost use Rattle.pair_writers.specs.Fours.{onward, lastSum};
+ghost use Rattle.pair_writers.specs.Fours.{Ordered};
 
 // The other number of a pair plus the difference, where its number is not above x; else what was found before.
 fn sum(number: u32, other: u32, x: u32, found: u64) -> u64
@@ -37,8 +40,8 @@ fn onward(back: bool, p: u32, c: u32, x: u32, found: u64) -> u64
     sum(p, c, x, found)
 }
 
-// The last pair in list order that is not above x; `none` where there is none.
-fn last_sum(ranges: &[u32], back: bool, x: u32, none: u64) -> u64
+// By the last pair in list order that is not above x; `none` where there is none.
+fn by_all(ranges: &[u32], back: bool, x: u32, none: u64) -> u64
     ensures { λ r. ⌜ r ≡ lastSum back (now (ranges .entry)) x none ⌝ }
 {
     let mut found = none;
@@ -51,9 +54,40 @@ fn last_sum(ranges: &[u32], back: bool, x: u32, none: u64) -> u64
     found
 }
 
+// The same by halves, if the pairs are in order.
+fn by_halves(ranges: &[u32], back: bool, x: u32, none: u64) -> u64
+    ensures { λ r. ⌜ (Ascending back (now (ranges .entry)) → r ≡ lastSum back (now (ranges .entry)) x none) ⌝ }
+{
+    let k = search(ranges, back, x);
+    if ranges.len() / 2 <= k {
+        return none;
+    }
+    onward(back, ranges[k * 2], ranges[k * 2 + 1], x, none)
+}
+
+// The same, by halves where the pairs are in order.
+fn last_sum(ranges: &[u32], ordered: bool, back: bool, x: u32, none: u64) -> u64
+    ensures { λ r. ⌜ (Ordered ordered (now (ranges .entry)) → r ≡ lastSum back (now (ranges .entry)) x none) ⌝ }
+{
+    if ordered {
+        return by_halves(ranges, back, x, none);
+    }
+    by_all(ranges, back, x, none)
+}
+
+// Are the pairs in order, by pointer and by code point?
+pub(crate) fn ordered(ranges: &[u32]) -> bool
+    ensures { λ r. ⌜ Ordered r (now (ranges .entry)) ⌝ }
+{
+    if !in_order(ranges, false) {
+        return false;
+    }
+    in_order(ranges, true)
+}
+
 // Do the four bytes of a pointer read as a code point?
-fn reads(ranges: &[u32], p: u32, c: u32) -> bool
-    ensures { λ r. ⌜ r ≡ givesBack (rangesCodePoint (now (ranges .entry)) p) c ⌝ }
+fn reads(ranges: &[u32], ordered: bool, p: u32, c: u32) -> bool
+    ensures { λ r. ⌜ (Ordered ordered (now (ranges .entry)) → r ≡ givesBack (rangesCodePoint (now (ranges .entry)) p) c) ⌝ }
 {
     if gap(p) {
         return false;
@@ -61,7 +95,7 @@ fn reads(ranges: &[u32], p: u32, c: u32) -> bool
     if p == 7457 {
         return c == 0xE7C7;
     }
-    if last_sum(ranges, false, p, 0) != c as u64 {
+    if last_sum(ranges, ordered, false, p, 0) != c as u64 {
         return false;
     }
     mapped(c)
@@ -83,17 +117,18 @@ fn four_bytes(p: u32) -> One
 }
 
 // The four bytes of a code point's pointer by the ranges, where they read as it.
-fn four(ranges: &[u32], c: u32) -> One
-    ensures { λ r. ⌜ told r ≡ fourOrErrorWith (now (ranges .entry)) (rangesPointer (now (ranges .entry)) c) c ⌝ }
+fn four(ranges: &[u32], ordered: bool, c: u32) -> One
+    ensures { λ r. ⌜ (Ordered ordered (now (ranges .entry)) →
+        told r ≡ fourOrErrorWith (now (ranges .entry)) (rangesPointer (now (ranges .entry)) c) c) ⌝ }
 {
     if c == 0xE7C7 {
         return four_bytes(7457);
     }
-    let p = last_sum(ranges, true, c, 1237576);
+    let p = last_sum(ranges, ordered, true, c, 1237576);
     if 1237575 < p {
         return pairs::unwritable(c);
     }
-    if reads(ranges, p as u32, c) {
+    if reads(ranges, ordered, p as u32, c) {
         return four_bytes(p as u32);
     }
     pairs::unwritable(c)
@@ -115,10 +150,12 @@ pub(crate) fn bytes_of(
     table: &[u32],
     links: &[u32],
     ranges: &[u32],
+    ordered: bool,
     slots: &[u16],
     c: u32,
 ) -> One
-    ensures { λ r. ⌜ (Helped 23940 (passOver 1 0) (now (table .entry)) (now (links .entry)) (now (slots .entry)) →
+    ensures { λ r. ⌜ (Helped 23940 (passOver 1 0) (now (table .entry)) (now (slots .entry)) →
+        Ordered ordered (now (ranges .entry)) →
         told r ≡ gb18030Encode gbk (lookUp (now (table .entry)) (now (links .entry))) (now (ranges .entry)) c) ⌝ }
 {
     if c < 0x80 {
@@ -137,5 +174,5 @@ pub(crate) fn bytes_of(
     if gbk {
         return one;
     }
-    four(ranges, c)
+    four(ranges, ordered, c)
 }

@@ -48,7 +48,7 @@ fn changed(katakana: &[u32], c: u32) -> u32
 
 // The pointers behind the 94 rows are passed over.
 pub(crate) fn bytes_of(table: &[u32], links: &[u32], katakana: &[u32], slots: &[u16], c: u32) -> One
-    ensures { λ r. ⌜ (Helped 11280 jis0208Over (now (table .entry)) (now (links .entry)) (now (slots .entry)) →
+    ensures { λ r. ⌜ (Helped 11280 jis0208Over (now (table .entry)) (now (slots .entry)) →
         told r ≡ iso2022JpEncode (lookUp (now (table .entry)) (now (links .entry))) (now (katakana .entry)) c) ⌝ }
 {
     if c < 0x80 {

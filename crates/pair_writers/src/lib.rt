@@ -12,13 +12,15 @@ mod slots;
 
 ghost use mathlib.Core.Path.{_≡_};
 ghost use mathlib.Core.Bool.{true, _&&_};
-ghost use mathlib.Core.List.{[], _∷_};
+ghost use mathlib.Core.List.{List, [], _∷_};
+ghost use Prim.Native.Nat.{ℕ};
 ghost use lib.Dec.{eqb};
 ghost use Rattle.standard.specs.Base.{_then_else_};
 ghost use Rattle.standard.specs.Machine.{tokens, error-with};
 ghost use Rattle.standard.specs.Encoders.Iso2022Jp.{control};
 ghost use Rattle.reverse_index_spec.specs.ReverseIndex.{lookUp};
-ghost use Rattle.pair_writers.specs.Pairs.{told, byCount, pairEncode, pairState, Plain, lowOf, highOf, Ready, Fillable};
+ghost use Rattle.pair_writers.specs.Pairs.{told, byCount, pairEncode, pairState, Plain, lowOf, highOf, cellsOf, Ready, Fillable};
+ghost use Rattle.pair_writers.specs.Fours.{Ordered};
 
 // One, two or four bytes; or none, where the scalar is unwritable and an error names a code point.
 pub struct One {
@@ -30,21 +32,33 @@ pub struct One {
     pub fourth: u8,
 }
 
+// Are gb18030's ranges in order? Told once for many scalars.
+pub fn ordered(encoding: u8, second: &[u32]) -> bool
+    ensures { λ r. ⌜ Ordered r (now (second .entry)) ⌝ }
+{
+    if encoding != 30 {
+        return false;
+    }
+    gb18030::ordered(second)
+}
+
 // GBK (29) and gb18030, Big5 (31), EUC-JP (32), ISO-2022-JP (33) in the state that it is written in, Shift_JIS (34) and EUC-KR; by a
-// reverse index of any cells, or of none.
+// reverse index of any cells, or of none. `ordered` tells that gb18030's ranges are in order.
 pub fn bytes_of(
     encoding: u8,
     table: &[u32],
     links: &[u32],
     second: &[u32],
+    ordered: bool,
     slots: &[u16],
     c: u32,
 ) -> One
-    ensures { λ r. ⌜ (Ready encoding (now (table .entry)) (now (links .entry)) (now (slots .entry)) →
+    ensures { λ r. ⌜ (Ready encoding (now (table .entry)) (now (links .entry)) (now (second .entry)) (now (slots .entry)) →
+        Ordered ordered (now (second .entry)) →
         told r ≡ pairEncode encoding (lookUp (now (table .entry)) (now (links .entry))) (now (second .entry)) c) ⌝ }
 {
     if encoding <= 30 {
-        return gb18030::bytes_of(encoding == 29, table, links, second, slots, c);
+        return gb18030::bytes_of(encoding == 29, table, links, second, ordered, slots, c);
     }
     if encoding == 31 {
         return big5::bytes_of(table, links, slots, c);
@@ -134,16 +148,32 @@ fn high(encoding: u8) -> usize
     0
 }
 
-// Slots, from empty ones; where there is no reverse index.
+// The cells of its first table.
+fn cells(encoding: u8) -> usize
+    ensures { λ r. ⌜ r ≡ cellsOf encoding ⌝ }
+{
+    if encoding <= 30 {
+        return 23940;
+    }
+    if encoding == 31 {
+        return 19782;
+    }
+    if encoding <= 34 {
+        return 11280;
+    }
+    23940
+}
+
+// Slots, from empty ones: right by any reverse index and any second table.
 pub fn fill(encoding: u8, table: &[u32], slots: &mut [u16])
     ensures { λ r. ⌜ (Fillable encoding (now (table .entry)) (now (slots .entry)) →
-        Ready encoding (now (table .entry)) [] (now (slots .exit))) ⌝ }
+        (links second : List ℕ) → Ready encoding (now (table .entry)) links second (now (slots .exit))) ⌝ }
 {
-    if 65535 < table.len() {
+    if table.len() != cells(encoding) {
         return;
     }
-    if slots.len() != 16384 {
+    if slots.len() != 65536 {
         return;
     }
-    slots::fill(table, low(encoding), high(encoding), slots);
+    slots::fill(encoding, table, low(encoding), high(encoding), slots);
 }

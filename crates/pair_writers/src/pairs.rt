@@ -97,7 +97,7 @@ pub(crate) fn pair(
     c: u32,
 ) -> One
     ensures { λ r. ⌜ (InRows low high (now (table .entry)) (layoutOf encoding) →
-        Aids (passOver low high) (now (table .entry)) (now (links .entry)) (now (slots .entry)) → told r ≡ pairOrErrorWith
+        Aids (passOver low high) (now (table .entry)) (now (slots .entry)) → told r ≡ pairOrErrorWith
         (layoutOf encoding) (lookUp (now (table .entry)) (now (links .entry)) first (passOver low high) c) c) ⌝ }
 {
     at(

@@ -9,7 +9,7 @@ ghost use Rattle.pair_writers.specs.Pairs.{told, Helped};
 
 // The pointers of the user rows, and those before them that stand for the same cells, are passed over.
 pub(crate) fn bytes_of(table: &[u32], links: &[u32], slots: &[u16], c: u32) -> One
-    ensures { λ r. ⌜ (Helped 11280 shiftJisOver (now (table .entry)) (now (links .entry)) (now (slots .entry)) →
+    ensures { λ r. ⌜ (Helped 11280 shiftJisOver (now (table .entry)) (now (slots .entry)) →
         told r ≡ shiftJisEncode (lookUp (now (table .entry)) (now (links .entry))) c) ⌝ }
 {
     if c <= 0x80 {

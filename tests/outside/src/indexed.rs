@@ -192,6 +192,55 @@ fn text(
     Ok(whole.output != plain.output)
 }
 
+/// Long texts of the writers of pairs, for which a call makes slots: by published tables and others, with true, altered and any
+/// cells and without an index. In refusing mode most are of the table alone.
+pub fn long(published: &Published, seed: u64) -> Result<String, String> {
+    let mut random = Random::new(seed);
+    let lists = Lists::new(published, &mut random);
+    let (mut texts, mut others) = (0, 0);
+    for encoding in 29..=35u8 {
+        for variant in 0..VARIANTS {
+            let tables = lists.writer_tables(encoding, variant, 0);
+            for mode in 0..2 {
+                let index = cells(encoding, tables.first, &mut random);
+                let scalars: Vec<u32> = (0..LONG)
+                    .map(|place| match mode {
+                        1 if place < LONG - 30 => of_table(tables.first, &mut random),
+                        _ => scalar(tables.first, &mut random),
+                    })
+                    .collect();
+                let case = |error| {
+                    let name = name(encoding);
+                    format!("seed {seed}, {name}, variant {variant}, mode {mode}, {scalars:04X?}: {error}")
+                };
+                let all = text(encoding, mode, &scalars, tables, &index, &mut random);
+                others += usize::from(all.map_err(case)?);
+                for length in [31, 32, 33, 80, LONG] {
+                    let front = &scalars[..length];
+                    let room = BYTES * length;
+                    compare::encode(encoding, mode, 0, front, tables, None, room).map_err(case)?;
+                }
+                texts += 1;
+            }
+        }
+    }
+    Ok(format!(
+        "{texts} texts of {LONG} scalars in two ways of cutting, {others} of them with other bytes than without an index, seed {seed}"
+    ))
+}
+
+/// Scalars of a long text: well over 1,024 of them are not ASCII.
+const LONG: usize = 1300;
+
+/// A scalar of a table, ASCII now and then.
+fn of_table(table: &[u32], random: &mut Random) -> u32 {
+    let cell = random.pick(table);
+    match is_scalar(cell) && cell >= 0x80 && !random.one_in(12) {
+        true => cell,
+        false => 0x20 + random.below(0x5F) as u32,
+    }
+}
+
 /// Short texts of every writer, by published tables and others, with true, altered and any cells.
 pub fn random(published: &Published, seed: u64) -> Result<String, String> {
     let mut random = Random::new(seed);

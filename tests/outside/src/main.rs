@@ -86,6 +86,9 @@ fn compare_random(tables: &data::Published, number: usize, seed: u64) -> Result<
     show("random writing with an index", || {
         indexed::random(tables, seed)
     })?;
+    show("long writing with an index", || {
+        indexed::long(tables, seed)
+    })?;
     show("random lists", || list::random_lists(seed))?;
     show("long lists", || list::long_lists(seed))
 }

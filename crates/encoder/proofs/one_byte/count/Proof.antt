@@ -1,22 +1,16 @@
 -- `one_byte::count`: empty slots and filled ones are right. Assumes nothing.
-use mathlib.Core.Path.{_≡_, refl}
-use mathlib.Core.List.{[]}
+use mathlib.Core.Path.{refl}
 use borrow.Author.Needs.{needs}
-use borrow.Author.Tests.{not-false}
 use Rattle.reverse_index_spec.specs.ReverseIndex.{lookUp}
-use Rattle.encoder.proofs.Filling.{empty-slots, slots-lent}
+use Rattle.encoder.proofs.Filling.{empty-slots}
 use Rattle.encoder.proofs.one_byte.count.Statement.{statement}
 use Rattle.encoder.proofs.one_byte.count.Tie as tie
 
-abbrev start : tie.After-pays → tie.Start
+abbrev start : tie.After-least → tie.Start
 start c = c .before .before .before .before
 
--- with slots there is no reverse index
-none-lent : (c : tie.Else1) → start (c .before) .args .links .now ≡ []
-none-lent c = c .before .pays .ensures (not-false _ (c .if1 .left))
-
-pays-requires : tie.Need-pays-requires
-pays-requires c κs = search needs
+least-requires : tie.Need-least-requires
+least-requires c κs = search needs
 
 sub-count-by : tie.Need-sub-count-by
 sub-count-by c = search needs
@@ -48,7 +42,7 @@ count-by-requires-2 : tie.Need-count-by-requires-2
 count-by-requires-2 c κs =
     let at-fill = c .before .before in
     let s = start (at-fill .before .before .before) in
-    ((s .pre .0, slots-lent _ _ _ _ (none-lent (at-fill .before .before)) (at-fill .fill .ensures)), s .pre .1, s .pre .2)
+    ((s .pre .0, at-fill .fill .ensures), s .pre .1, s .pre .2)
 
 returns-2 : tie.Need-returns-2
 returns-2 c = c .count-by2 .ensures
@@ -57,7 +51,7 @@ pub count-spec : {M : Type 1} → statement M
 count-spec =
     tie.close
     (tie.spec
-    pays-requires
+    least-requires
     sub-count-by
     part-count-by-start
     part-count-by-end

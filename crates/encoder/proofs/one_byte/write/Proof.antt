@@ -1,22 +1,16 @@
 -- `one_byte::write`: empty slots and filled ones are right. Assumes nothing.
-use mathlib.Core.Path.{_≡_, refl}
-use mathlib.Core.List.{[]}
+use mathlib.Core.Path.{refl}
 use borrow.Author.Needs.{needs}
-use borrow.Author.Tests.{not-false}
 use Rattle.reverse_index_spec.specs.ReverseIndex.{lookUp}
-use Rattle.encoder.proofs.Filling.{empty-slots, slots-lent}
+use Rattle.encoder.proofs.Filling.{empty-slots}
 use Rattle.encoder.proofs.one_byte.write.Statement.{statement}
 use Rattle.encoder.proofs.one_byte.write.Tie as tie
 
-abbrev start : tie.After-pays → tie.Start
+abbrev start : tie.After-least → tie.Start
 start c = c .before .before .before .before .before
 
--- with slots there is no reverse index
-none-lent : (c : tie.Else1) → start (c .before) .args .links .now ≡ []
-none-lent c = c .before .pays .ensures (not-false _ (c .if1 .left))
-
-pays-requires : tie.Need-pays-requires
-pays-requires c κs = search needs
+least-requires : tie.Need-least-requires
+least-requires c κs = search needs
 
 sub-write-by : tie.Need-sub-write-by
 sub-write-by c = search needs
@@ -51,7 +45,7 @@ write-by-requires-2 : tie.Need-write-by-requires-2
 write-by-requires-2 c κs =
     let at-fill = c .before .before .before in
     let s = start (at-fill .before .before .before) in
-    ((s .pre .0, slots-lent _ _ _ _ (none-lent (at-fill .before .before)) (at-fill .fill .ensures)), s .pre .1)
+    ((s .pre .0, at-fill .fill .ensures), s .pre .1)
 
 same-length-2 : tie.Need-same-length-2
 same-length-2 c = search needs
@@ -63,7 +57,7 @@ pub write-spec : {M : Type 1} → statement M
 write-spec =
     tie.close
     (tie.spec
-    pays-requires
+    least-requires
     sub-write-by
     part-write-by-start
     part-write-by-end

@@ -8,8 +8,8 @@ use lib.ListN.{length, getD}
 use borrow.Author.Needs.{needs}
 use Rattle.standard.specs.Machine.{reference}
 use Rattle.reverse_index_spec.specs.ReverseIndex.{lookUp}
-use Rattle.encoder.specs.WriterCode.{encoderOf, oneOf}
-use Rattle.encoder.proofs.Counting.{Here, Running, running-start, running-end, running-here, running-room, running-on}
+use Rattle.encoder.specs.WriterCode.{encoderOf, oneOf, Running}
+use Rattle.encoder.proofs.Counting.{Here, running-start, running-end, running-here, running-room, running-on}
 use Rattle.encoder.proofs.Counting.{here-bytes, here-reference, here-stop, told-byte, told-none}
 use Rattle.encoder.proofs.one_byte.write_by.Statement.{statement}
 use Rattle.encoder.proofs.one_byte.write_by.Tie as tie

@@ -18,7 +18,7 @@ bytes-of-requires : tie.Need-bytes-of-requires
 bytes-of-requires c κs = search needs
 
 returns-2 : tie.Need-returns-2
-returns-2 c = c .bytes-of .ensures (c .before .before .before .before .before .before .pre)
+returns-2 c = let p = c .before .before .before .before .before .before .pre in c .bytes-of .ensures (p .0) (p .1)
 
 pub one-of-spec : {M : Type 1} → statement M
 one-of-spec = tie.close (tie.spec cast-ascii ascii-requires returns bytes-of-requires returns-2)

@@ -37,6 +37,12 @@ shared-slice-read-enter c =
     let at-loop-test = c .before .before .loop-test in
     omega (arith, at-loop .inv .inside, at-loop-test .taken)
 
+cast-enter : tie.Need-cast-enter Inv-loop μ-loop
+cast-enter c = search needs
+
+add-enter : tie.Need-add-enter Inv-loop μ-loop
+add-enter c = search needs
+
 enter-requires : tie.Need-enter-requires Inv-loop μ-loop
 enter-requires c κs =
     let at-loop = c .before .before .before in
@@ -74,6 +80,8 @@ fill-table-spec =
     sub-p
     mul-enter
     shared-slice-read-enter
+    cast-enter
+    add-enter
     enter-requires
     loop-less
     loop-again

@@ -1,9 +1,9 @@
 -- `utf8::write`. The loop's invariant: the bytes of the i scalars before this one stand at the front of the room, the rest of the room is as it was.
 -- What falls at each turn is the number of scalars left. Assumes nothing.
 use mathlib.Core.List.{List}
-use Rattle.encoder.proofs.Counting.{Here, Running, running-start, running-end, running-room, running-on, here-bytes, told-bytes, scalar-at}
+use Rattle.encoder.proofs.Counting.{Here, running-start, running-end, running-room, running-on, here-bytes, told-bytes, scalar-at}
 use Rattle.encoder.proofs.Scalars.{utf8-tokens}
-use Rattle.encoder.specs.WriterCode.{utf8Of, plain}
+use Rattle.encoder.specs.WriterCode.{utf8Of, plain, Running}
 use Rattle.standard.specs.Encoders.Utf8.{utf8Encode}
 use lib.ListN.{length, getD}
 use Prim.Native.Nat.{ℕ, _-_}

@@ -25,13 +25,13 @@ one-byte-requires : tie.Need-one-byte-requires
 one-byte-requires c κs = search needs
 
 returns : tie.Need-returns
-returns c = λ h. c .one-byte .ensures ∙ gb-self _ _ _ _ _ (c .before .if1 .taken)
+returns c = λ h g. c .one-byte .ensures ∙ gb-self _ _ _ _ _ (c .before .if1 .taken)
 
 unwritable-requires : tie.Need-unwritable-requires
 unwritable-requires c κs = search needs
 
 returns-2 : tie.Need-returns-2
-returns-2 c = λ h. c .unwritable .ensures ∙ gb-E5E5 _ _ _ _ _ (c .before .if2 .taken)
+returns-2 c = λ h g. c .unwritable .ensures ∙ gb-E5E5 _ _ _ _ _ (c .before .if2 .taken)
 
 euro-requires : tie.Need-euro-requires
 euro-requires c κs = search needs
@@ -42,7 +42,7 @@ one-byte-requires-2 c κs = search needs
 returns-3 : tie.Need-returns-3
 returns-3 c =
     let t = c .before .before in
-    λ h. c .one-byte2 .ensures ∙
+    λ h g. c .one-byte2 .ensures ∙
     gb-euro _ _ _ _ _ (t .before .before .if1 .left) (t .before .if2 .left) (sym (t .euro .ensures) ∙ c .before .if3 .taken)
 
 pair-requires : tie.Need-pair-requires
@@ -52,14 +52,14 @@ returns-4 : tie.Need-returns-4
 returns-4 c =
     let p = c .before .before in
     let e = before-euro p in
-    λ h. gb-pair _ _ _ (start p .args .ranges .now) _ (e .before .if1 .left) (e .if2 .left) (no-euro p) (p .pair .result)
+    λ h g. gb-pair _ _ _ (start p .args .ranges .now) _ (e .before .if1 .left) (e .if2 .left) (no-euro p) (p .pair .result)
     (p .pair .ensures (gb18030-rows (start p .args .table .now) (h .0)) (h .1)) (c .if4 .taken)
 
 returns-5 : tie.Need-returns-5
 returns-5 c =
     let p = c .before .before .before in
     let e = before-euro p in
-    λ h. gb-gbk _ _ _ (start p .args .ranges .now) _ (e .before .if1 .left) (e .if2 .left) (no-euro p) (p .pair .result)
+    λ h g. gb-gbk _ _ _ (start p .args .ranges .now) _ (e .before .if1 .left) (e .if2 .left) (no-euro p) (p .pair .result)
     (p .pair .ensures (gb18030-rows (start p .args .table .now) (h .0)) (h .1)) (c .if5 .taken)
 
 four-requires : tie.Need-four-requires
@@ -70,7 +70,7 @@ returns-6 c =
     let d = c .before .before in
     let p = d .before .before in
     let e = before-euro p in
-    λ h. c .four .ensures ∙
+    λ h g. c .four .ensures g ∙
     gb-four _ _ _ (start p .args .ranges .now) _ (e .before .if1 .left) (e .if2 .left) (no-euro p) (p .pair .result)
     (p .pair .ensures (gb18030-rows (start p .args .table .now) (h .0)) (h .1)) (d .if4 .left) (c .before .if5 .left)
 

@@ -9,7 +9,7 @@ four-bytes-requires : tie.Need-four-bytes-requires
 four-bytes-requires c κs = search needs
 
 returns : tie.Need-returns
-returns c = c .four-bytes .ensures ∙ four-7457 _ _ (c .before .if1 .taken)
+returns c = λ h. c .four-bytes .ensures ∙ four-7457 _ _ (c .before .if1 .taken)
 
 last-sum-requires : tie.Need-last-sum-requires
 last-sum-requires c κs = search needs
@@ -20,7 +20,7 @@ unwritable-requires c κs = search needs
 returns-2 : tie.Need-returns-2
 returns-2 c =
     let s = c .before .before in
-    c .unwritable .ensures ∙ four-past _ _ (s .before .if1 .left) _ (s .last-sum .ensures) (c .before .if2 .taken)
+    λ h. c .unwritable .ensures ∙ four-past _ _ (s .before .if1 .left) _ (s .last-sum .ensures h) (c .before .if2 .taken)
 
 cast-reads : tie.Need-cast-reads
 cast-reads c = search needs
@@ -38,8 +38,8 @@ returns-3 : tie.Need-returns-3
 returns-3 c =
     let t = c .before .before in
     let s = t .before .before in
-    c .four-bytes2 .ensures ∙ sym (rw (c .before .if3 .taken)) ∙
-    four-read _ _ (s .before .if1 .left) _ (s .last-sum .ensures) (t .reads .result) (t .reads .ensures)
+    λ h. c .four-bytes2 .ensures ∙ sym (rw (c .before .if3 .taken)) ∙
+    four-read _ _ (s .before .if1 .left) _ (s .last-sum .ensures h) (t .reads .result) (t .reads .ensures h)
 
 unwritable-requires-2 : tie.Need-unwritable-requires-2
 unwritable-requires-2 c κs = search needs
@@ -48,8 +48,8 @@ returns-4 : tie.Need-returns-4
 returns-4 c =
     let t = c .before .before in
     let s = t .before .before in
-    c .unwritable2 .ensures ∙ sym (rw (c .before .if3 .left)) ∙
-    four-read _ _ (s .before .if1 .left) _ (s .last-sum .ensures) (t .reads .result) (t .reads .ensures)
+    λ h. c .unwritable2 .ensures ∙ sym (rw (c .before .if3 .left)) ∙
+    four-read _ _ (s .before .if1 .left) _ (s .last-sum .ensures h) (t .reads .result) (t .reads .ensures h)
 
 pub four-spec : {M : Type 1} → statement M
 four-spec =

@@ -16,10 +16,10 @@ gap-requires : tie.Need-gap-requires
 gap-requires c κs = search needs
 
 returns : tie.Need-returns
-returns c = reads-gap _ _ _ (sym (c .before .gap .ensures) ∙ c .if1 .taken)
+returns c = λ h. reads-gap _ _ _ (sym (c .before .gap .ensures) ∙ c .if1 .taken)
 
 returns-2 : tie.Need-returns-2
-returns-2 c = reads-7457 _ _ _ (c .if2 .taken)
+returns-2 c = λ h. reads-7457 _ _ _ (c .if2 .taken)
 
 last-sum-requires : tie.Need-last-sum-requires
 last-sum-requires c κs = search needs
@@ -28,7 +28,7 @@ returns-3 : tie.Need-returns-3
 returns-3 c =
     let s = c .before in
     let e = s .before in
-    reads-other _ _ _ (out e) (e .if2 .left) _ (s .last-sum .ensures) (c .if3 .taken)
+    λ h. reads-other _ _ _ (out e) (e .if2 .left) _ (s .last-sum .ensures h) (c .if3 .taken)
 
 mapped-requires : tie.Need-mapped-requires
 mapped-requires c κs = search needs
@@ -37,7 +37,7 @@ returns-4 : tie.Need-returns-4
 returns-4 c =
     let s = c .before .before in
     let e = s .before in
-    c .mapped .ensures ∙ reads-same _ _ _ (out e) (e .if2 .left) _ (s .last-sum .ensures) (c .before .if3 .left)
+    λ h. c .mapped .ensures ∙ reads-same _ _ _ (out e) (e .if2 .left) _ (s .last-sum .ensures h) (c .before .if3 .left)
 
 pub reads-spec : {M : Type 1} → statement M
 reads-spec =

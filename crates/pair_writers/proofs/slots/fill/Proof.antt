@@ -1,69 +1,72 @@
--- `slots::fill`. The loop's invariant: there are 16,384 slots, and from empty ones on each has what the pointers from p on give it.
--- What falls at each turn is p. Assumes nothing.
-use mathlib.Core.Path.{_≡_, ap, _∙_}
-use Prim.Native.Nat.{ℕ, _≤_}
-use lib.ListN.{length, replicate, length-set}
-use Rattle.standard.specs.Search.{passOver}
-use Rattle.pair_writers.specs.Pairs.{Filled}
-use Rattle.pair_writers.proofs.Filling.{filled-start, filled-on}
-use borrow.Author.Needs.{needs}
+-- `slots::fill`: the trails, all rows, ASCII, and the exceptions. Assumes nothing.
+use mathlib.Core.Path.{_∙_}
+use Prim.Native.Nat.{_≤_}
 use native.Mathlib.Omega.{arith}
+use Rattle.pair_writers.proofs.Shapes.{divisor-small}
+use Rattle.pair_writers.proofs.Filling.{filled-start}
+use Rattle.pair_writers.proofs.Known.{slots-right}
+use borrow.Author.Needs.{needs}
 use Rattle.pair_writers.proofs.slots.fill.Statement.{statement}
 use Rattle.pair_writers.proofs.slots.fill.Tie as tie
 
-abbrev Inv-loop : tie.InvT-loop
-Inv-loop table low high slots₀ p₀ slots p = (p ≤ length table) × (length slots ≡ 16384) × (slots₀ ≡ replicate 16384 0 → Filled (passOver low high) table p slots)
+divisor-requires : tie.Need-divisor-requires
+divisor-requires c κs = search needs
 
-abbrev μ-loop : tie.MeasureT-loop
-μ-loop table low high slots₀ p₀ slots p = p
+slice-aggregate-fill-trails : tie.Need-slice-aggregate-fill-trails
+slice-aggregate-fill-trails c = search needs
 
-loop-holds : tie.Need-loop-holds Inv-loop μ-loop
-loop-holds c = (omega arith, c .before .before .pre .1, λ e. filled-start _ _ _ e)
+fill-trails-requires : tie.Need-fill-trails-requires
+fill-trails-requires c κs = (c .before .divisor .ensures, omega (arith, c .before .divisor .ensures, divisor-small (c .before .before .before .before .args .encoding) .1))
 
-sub-p : tie.Need-sub-p Inv-loop μ-loop
-sub-p c = search needs
+slice-aggregate-fill-rows : tie.Need-slice-aggregate-fill-rows
+slice-aggregate-fill-rows c = search needs
 
-mul-enter : tie.Need-mul-enter Inv-loop μ-loop
-mul-enter c = search needs
+fill-rows-requires : tie.Need-fill-rows-requires
+fill-rows-requires c κs =
+    let at-trails = c .before .before .before in
+    let at-width = at-trails .before .before in
+    let s = at-width .before .before .before in
+    let w = at-width .divisor .ensures in
+    let small : at-width .divisor .result ≤ 190 = omega (arith, w, divisor-small (s .args .encoding) .1) in
+    record {
+      cells = s .pre .0;
+      is-low = s .pre .1;
+      is-high = s .pre .2;
+      is-width = w;
+      columns = omega (arith, small, at-trails .fill-trails .kept .1 .1 .0);
+      trail = at-trails .fill-trails .ensures;
+      size = s .pre .3;
+    }
 
-shared-slice-read-enter : tie.Need-shared-slice-read-enter Inv-loop μ-loop
-shared-slice-read-enter c = search needs
+fill-ascii-requires : tie.Need-fill-ascii-requires
+fill-ascii-requires c κs = search needs
 
-enter-requires : tie.Need-enter-requires Inv-loop μ-loop
-enter-requires c κs = search needs
+except-requires : tie.Need-except-requires
+except-requires c κs = search needs
 
-loop-less : tie.Need-loop-less Inv-loop μ-loop
-loop-less c = search needs
-
-loop-again : tie.Need-loop-again Inv-loop μ-loop
-loop-again c =
-    let at-enter = c .before .before in
-    let at-loop = at-enter .before .before .before .before in
-    let inv = at-loop .loop .inv in
-    let taken = at-enter .before .before .before .loop-test .taken in
-    let told = at-enter .enter .ensures in
-    (omega (arith, inv .0), at-enter .enter .kept .0 ∙ inv .1, λ e. filled-on _ _ _ _ _ taken (inv .0) (inv .2 e) told)
-
-same-length : tie.Need-same-length Inv-loop μ-loop
+same-length : tie.Need-same-length
 same-length c = search needs
 
-returns : tie.Need-returns Inv-loop μ-loop
+returns : tie.Need-returns
 returns c =
-    let z : c .before .loop .p ≡ 0 = omega (arith, c .loop-test .left) in
-    λ e. rw z at (c .before .loop .inv .2 e)
+    let at-except = c .before .before in
+    let at-ascii = at-except .before .before .before .before in
+    let at-rows = at-ascii .before .before .before .before in
+    let s = at-rows .before .before .before .before .before .before .before .before .before in
+    λ z links second. slots-right (s .args .encoding) (s .args .table .now) links second _ _ _
+    (at-rows .fill-rows .ensures (filled-start _ _ _ z)) (at-ascii .fill-ascii .ensures) (at-except .except .ensures)
+    (at-except .except .kept .0 ∙ at-ascii .fill-ascii .kept .1 .0 ∙ at-rows .fill-rows .kept .1 .1 .1 .1 .1 .1 .0 ∙ s .pre .3)
 
 pub fill-spec : {M : Type 1} → statement M
 fill-spec =
     tie.close
     (tie.spec
-    Inv-loop
-    μ-loop
-    loop-holds
-    sub-p
-    mul-enter
-    shared-slice-read-enter
-    enter-requires
-    loop-less
-    loop-again
+    divisor-requires
+    slice-aggregate-fill-trails
+    fill-trails-requires
+    slice-aggregate-fill-rows
+    fill-rows-requires
+    fill-ascii-requires
+    except-requires
     same-length
     returns)
