@@ -19,7 +19,8 @@ ghost use Rattle.line_feeds.specs.Parts.{part};
 ghost use Rattle.runs.specs.Run.{Run, Ready};
 ghost use Rattle.runs.specs.Counts.{counted, Counts};
 
-// A run from a place on, of an encoding whose line feeds are counted behind it.
+// A run from a place on, of an encoding whose line feeds are counted behind it. An answer with a name of its own is not copied while it is
+// still being stored.
 fn by_number(
     encoding: u8,
     mode: u8,
@@ -32,13 +33,16 @@ fn by_number(
     ensures { λ r. ⌜ Run (lent (now (t1 .entry)) (now (t2 .entry))) (family encoding) mode (now (chunk .entry)) p r (now (room .entry)) (now (room .exit)) ⌝ }
 {
     if encoding == 0 {
-        return utf8_run(mode, chunk, room, p);
+        let r = utf8_run(mode, chunk, room, p);
+        return r;
     }
     if encoding == 33 {
-        return iso_2022_jp_run(mode, chunk, t1, t2, room, p);
+        let r = iso_2022_jp_run(mode, chunk, t1, t2, room, p);
+        return r;
     }
     if encoding <= 35 {
-        return pairs_run(encoding, mode, chunk, t1, t2, room, p);
+        let r = pairs_run(encoding, mode, chunk, t1, t2, room, p);
+        return r;
     }
     p
 }
@@ -140,11 +144,13 @@ fn counted_run(
     ensures { λ r. ⌜ Counts (lent (now (t1 .entry)) (now (t2 .entry))) (family encoding) mode (now (chunk .entry)) p r (now (room .entry)) (now (room .exit)) ⌝ }
 {
     if encoding == 21 {
-        return windows_1252_run(chunk, room, p);
+        let r = windows_1252_run(chunk, room, p);
+        return r;
     }
     if encoding != 0 {
         if encoding <= 28 {
-            return single_byte_run(mode, chunk, t1, t2, room, p);
+            let r = single_byte_run(mode, chunk, t1, t2, room, p);
+            return r;
         }
     }
     then_counted(encoding, mode, chunk, t1, t2, room, p)
@@ -164,12 +170,17 @@ pub(crate) fn run(
     ensures { λ r. ⌜ Counts (lent (now (t1 .entry)) (now (t2 .entry))) (family encoding) mode (now (chunk .entry)) p r (now (room .entry)) (now (room .exit)) ⌝ }
 {
     if encoding == 37 {
-        return utf_16_run(true, mode, chunk, room, p);
+        let r = utf_16_run(true, mode, chunk, room, p);
+        return r;
     }
     if encoding == 38 {
-        return utf_16_run(false, mode, chunk, room, p);
+        let r = utf_16_run(false, mode, chunk, room, p);
+        return r;
     }
     let a = front(encoding, chunk, room, p);
+    if a.at == chunk.len() {
+        return a;
+    }
     let here = Place {
         at: a.at,
         written: a.written,

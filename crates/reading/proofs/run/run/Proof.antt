@@ -23,7 +23,7 @@ past-2 c = past-1 (c .before)
 
 -- the function's start and the front, from the run behind it
 abbrev first : tie.After-counted-run → tie.After-front
-first c = c .before .before .before .before
+first c = c .before .before .before .before .before .before
 
 abbrev begin : tie.After-counted-run → tie.Start
 begin c = past-2 (first c .before .before)
@@ -68,6 +68,15 @@ returns-2 c =
 front-requires : tie.Need-front-requires
 front-requires c κs = search needs
 
+same-length-3 : tie.Need-same-length-3
+same-length-3 c = search needs
+
+returns-3 : tie.Need-returns-3
+returns-3 c =
+    let front = c .before .before .before .before in
+    let args = past-2 (front .before .before) .args in
+    front .front .ensures (lent (args .t1 .now) (args .t2 .now)) (args .mode)
+
 counted-run-requires : tie.Need-counted-run-requires
 counted-run-requires c κs = search needs
 
@@ -76,11 +85,11 @@ add-t20 c =
     let both = all (c .before .before .before .before) in
     omega (arith, counting-fewer both, both .going .here .fits)
 
-same-length-3 : tie.Need-same-length-3
-same-length-3 c = search needs
+same-length-4 : tie.Need-same-length-4
+same-length-4 c = search needs
 
-returns-3 : tie.Need-returns-3
-returns-3 c =
+returns-4 : tie.Need-returns-4
+returns-4 c =
     let both = all (c .before .before .before .before) in
     record { run = both .going .runs; lines = both .lines }
 
@@ -95,7 +104,9 @@ run-spec =
     same-length-2
     returns-2
     front-requires
+    same-length-3
+    returns-3
     counted-run-requires
     add-t20
-    same-length-3
-    returns-3)
+    same-length-4
+    returns-4)
