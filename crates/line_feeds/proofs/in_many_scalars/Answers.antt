@@ -1,0 +1,35 @@
+use mathlib.Core.Path.{refl}
+use Prim.Native.Nat.{◌+◌, ◌-◌, ◌≤◌, ◌<◌}
+use lib.ListN.{length}
+use Rattle.line_feeds.proofs.Parts.{Counted, none_yet, part_more, last_part, at_most}
+use borrow.Author.Rules.{rules}
+use native.Mathlib.Omega.{arith}
+use Rattle.line_feeds.proofs.in_many_scalars.Goals as goal
+
+-- a block more
+block : (c : goal.After-in_few_scalars) →
+    let args = c.args in
+    let at-loop = c.loop-k in
+    Counted args.cells.now args.at (at-loop.k + 1024) (at-loop.count + c.in_few_scalars.result)
+block c = part_more (c.args.at + c.loop-k.k) 1024 refl c.loop-k.invariant.3 c.in_few_scalars.ensures
+
+-- and what is left
+rest : (c : goal.After-in_few_scalars-2) →
+    let args = c.args in
+    Counted args.cells.now args.at args.n (c.loop-k.count + c.in_few_scalars-2.result)
+rest c = last_part (c.args.at + c.loop-k.k) _ refl (omega arith) c.loop-k.invariant.3 c.in_few_scalars-2.ensures
+
+pub loop-k-init : goal.loop-k-init
+loop-k-init c = (omega arith, omega arith, omega arith, none_yet)
+
+pub overflow_add-count : goal.overflow_add-count
+overflow_add-count c = omega (arith, at_most (block c))
+
+pub loop-k-preserved : goal.loop-k-preserved
+loop-k-preserved c = (omega arith, omega arith, omega arith, block c)
+
+pub overflow_add-result : goal.overflow_add-result
+overflow_add-result c = omega (arith, at_most (rest c))
+
+pub returns : goal.returns
+returns c = (rest c).is
