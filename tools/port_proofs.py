@@ -31,7 +31,7 @@ def blocks(text):
                 now[1].append(line)
             elif said:
                 said.append(line)
-        elif line[0].isspace():
+        elif line[0].isspace() or line.startswith(("unfolding ", "}", ")")):
             now[1].append(line)
         else:
             if now and said:
@@ -68,12 +68,15 @@ class Names:
             self.steps[bare(so)] = sn
             self.steps[bare(so) + "-test"] = sn + "-test"
         self.changed = d["changed"]
+        self.own = {}
+        for (_, n), (_, at) in zip(d["needs"], d["asked_at"]):
+            self.own.setdefault(n, at)
         self.stem = d["stem"]
 
     def need(self, tail):
         """The new name of a goal: its old name with or without the word before its kind."""
         t = bare(tail)
-        for k in (t, re.sub(r"^(overflow|nonzero)-", "", t)):
+        for k in (t, re.sub(r"^(overflow|nonzero)-", "", t), re.sub(r"^slice-bounds-", "part-", t), re.sub(r"^array-read-", "element-copy-out-", t)):
             if k in self.needs:
                 return self.needs[k]
         return None
@@ -100,6 +103,36 @@ def strip_args(text):
     return out + text[i:]
 
 
+def negated(step, way):
+    """The fact of a test `!x` as it was: `not x ≡ true`, and not `x ≡ false`."""
+    way = {"taken": "true", "left": "false"}.get(way, way)
+    return "(not_from_%s _ %s.%s)" % ({"true": "false", "false": "true"}[way], step, way)
+
+
+REF = r"[A-Za-z_][\w'₀-₉-]*(?:\.before)*"
+
+
+def put(body, var, ref):
+    return re.sub(r"(?<![\w.'-])%s(?![\w'-])" % re.escape(var), lambda m: ref, body)
+
+
+def apply(text, name, var, body, paren):
+    """Calls `name REF` in the text by the body."""
+    def go(m):
+        b = put(body, var, m.group(2))
+        plain = re.fullmatch(REF, b)
+        if m.group(1) == "(" and m.group(3) == ")":
+            return b if plain else "(" + b + ")"
+        return m.group(1) + (b if plain or not paren else "(" + b + ")") + m.group(3)
+
+    for _ in range(6):
+        new = re.sub(r"(\(|(?<=[=→×,] )|(?<=\n    )|(?<=in ))%s (%s)(\)|(?=[\s,;)]))" % (re.escape(name), REF), go, text)
+        if new == text:
+            return text
+        text = new
+    return text
+
+
 def convert(path, d, crate, where):
     names = Names(d)
     text = open(path, encoding="utf-8").read()
@@ -122,17 +155,52 @@ def convert(path, d, crate, where):
         elif c:
             defs[n][0] += c
         defs[n][1] += ls
+    # helpers that only go back from one place to another
+    raw = {n: "\n".join(ls).rstrip() for n, (c, ls) in defs.items()}
+    for _ in range(4):
+        for n in list(raw):
+            m = re.match(r"^abbrev (?:pub )?%s :\s+(?:tie|lts)\.[A-Z][^\n]*(?:\n    [^\n]*)*\n%s (\w+) =\s+(%s)$" % (re.escape(n), re.escape(n), REF), raw[n])
+            if m and re.search(r"→\s+(tie|lts)\.[A-Z]", raw[n]):
+                var, body = m.group(1), m.group(2)
+                del raw[n]
+                for k in raw:
+                    raw[k] = apply(raw[k], n, var, body, False)
+    helpers = {}
+    for n in raw:
+        m = re.match(r"^(?:abbrev )?(?:pub )?%s :\s+(?:\(\w+ : )?(?:tie|lts)\.([A-Z][^\s(){};,.]*)" % re.escape(n), raw[n])
+        if m and not m.group(1).startswith("Need-") and bare(m.group(1)) in names.places:
+            helpers[n] = names.places[bare(m.group(1))]
     inv, ans = [], []
     inv_names = set()
 
-    def fix(body):
-        """Places, steps and goals by their new names."""
+    named = set()
+
+    def fix(body, new=None, own=None, params=()):
+        """Places, steps and goals by their new names. `new` is the name of the definition, `own` its place."""
         body = strip_args(body)
+        chains = {}
+        for v, e in re.findall(r"let ([\w'₀-₉-]+) = ([^\n]*?) in(?=\s|$)", body):
+            if re.fullmatch(REF, e):
+                chains[v] = chains.get(e.split(".")[0], e.split(".")[0])
+
+        def ask(m):
+            h, root = m.group(1), m.group(2).split(".")[0]
+            root = chains.get(root, root)
+            if h not in helpers or new is None:
+                return m.group(0)
+            named.add(helpers[h])
+            if m.group(2) == root and helpers[h] == own:
+                return m.group(0)
+            return f"{h} (goal.at.{new} {root}).{helpers[h]}"
+
+        if helpers:
+            body = re.sub(r"(?<![\w.'-])(%s) (%s)(?![\w'.-])" % ("|".join(re.escape(h) for h in helpers), REF), ask, body)
 
         def place(m):
             k = bare(m.group(1))
             if k in names.places:
-                return "goal." + names.places[k]
+                named.add(names.places[k])
+                return names.places[k]
             if k.startswith("Need-") and names.need(k[5:]):
                 return "goal." + names.need(k[5:])
             notes.append("no place " + k)
@@ -140,27 +208,46 @@ def convert(path, d, crate, where):
 
         body = re.sub(r"goal\.([A-Z][^\s(){};,.]*)", place, body)
 
+        # places: the parameters of the definition, and what goes back from them
+        roots = {re.match(r"\w*", x).group(0) for x in params}
+        for m in re.finditer(r"(?m)^[^\s:=]+((?: [A-Za-z_][\w'₀-₉-]*)+) =", body):
+            roots.update(m.group(1).split())
+        roots.update(re.findall(r"\((\w+) : [A-Z]", body))
+        for v, e in re.findall(r"let ([\w'₀-₉-]+) = ([^\n]*?) in(?=\s|$)", body):
+            if re.fullmatch(REF, e) and e.split(".")[0] in roots:
+                roots.add(v)
+
         def step(m):
-            k = bare(m.group(3))
+            root, back, k = m.group(1), m.group(2), bare(m.group(3))
+            if not back and root not in roots:
+                return m.group(0)
+            if k not in names.steps and k.endswith("-lem"):
+                k = k[:-4]
             if k in names.steps:
-                return m.group(1) + "." + names.steps[k]
+                return root + "." + names.steps[k]
             if k in ("args", "requires", "ranges"):
-                return m.group(1) + "." + m.group(3)
+                return root + "." + m.group(3)
             return m.group(0)
 
-        body = re.sub(r"([\w'₀-₉-]+|\))((?:\.before)+)\.([^\s(){};,.\[\]]+)", step, body)
-        # a step read off a value with no `.before`
-        def field(m):
-            k = bare(m.group(1))
-            return "." + names.steps[k] if k in names.steps else m.group(0)
-
-        body = re.sub(r"(?<=[\w)'])\.([^\s(){};,.\[\]]+)(?=\.)", field, body)
+        body = re.sub(r"((?<![\w.'₀-₉-])[A-Za-z_][\w'₀-₉-]*|\))((?:\.before)*)\.(?!before(?![\w-]))([^\s(){};,.\[\]]+)", step, body)
+        body = re.sub(r"(\.(?:if|loop)-[^\s(){};,.\[\]]+)\.taken(?![\w-])", r"\1.true", body)
+        body = re.sub(r"(\.(?:if|loop)-[^\s(){};,.\[\]]+)\.left(?![\w-])", r"\1.false", body)
+        for v in re.findall(r"let ([\w'-]+) = [\w'.-]+\.if-not-[^\s(){};,.\[\]]+ in", body):
+            body = re.sub(r"(?<![\w.'-])%s\.(true|false|taken|left)(?![\w-])" % re.escape(v), lambda m: negated(v, m.group(1)), body)
+        body = re.sub(r"([A-Za-z_][\w'.₀-₉-]*\.if-not-[^\s(){};,.\[\]]+)\.(true|false)(?![\w-])", lambda m: negated(m.group(1), m.group(2)), body)
+        body = re.sub(r"\(not-(?:true|false) _ \(not_from_(?:true|false) _ ([^\s()]+)\)\)", r"\1", body)
+        body = re.sub(r"not-(?:true|false) _ \(not_from_(?:true|false) _ ([^\s()]+)\)", r"\1", body)
+        for v in re.findall(r"let ([\w'-]+) = [\w'.-]+\.(?:if|loop)-[^\s(){};,.\[\]]+ in", body):
+            body = re.sub(r"(?<![\w.'-])%s\.taken(?![\w-])" % re.escape(v), v + ".true", body)
+            body = re.sub(r"(?<![\w.'-])%s\.left(?![\w-])" % re.escape(v), v + ".false", body)
         return body
 
     for n in order:
-        said, ls = defs[n]
-        body = "\n".join(ls).rstrip()
-        head = ls[0]
+        if n not in raw:
+            continue
+        said = defs[n][0]
+        body = raw[n]
+        head = body.split("\n")[0]
         if re.search(r"(tie|lts)\.spec\b", body) or ": statement" in body or "statement M" in body or "{M : Type 1} → " in body:
             continue
         m = re.match(r"^abbrev (?:pub )?((invariant|decreases)-(loop[\w-]*)) : tie\.(invariant|decreases)-", head)
@@ -202,6 +289,8 @@ def convert(path, d, crate, where):
             m2 = re.match(r"^(?:pub )?(\S+) :\s*\n?\s*(tie|lts)\.Need-([^\s]+)", body)
             m = m2
         if m:
+            if re.search(r"=\s+search (rules|\(rules\))( depth \d+)?\s*$", body) and "unfolding" not in body:
+                continue
             new = names.need(m.group(3))
             if new is None:
                 notes.append("no goal for " + m.group(3))
@@ -220,13 +309,13 @@ def convert(path, d, crate, where):
                 notes.append("no body of " + own)
                 continue
             params = [p for p in q.group(1).split() if p != "κs"]
-            value = fix(rest[q.end():])
+            value = fix(rest[q.end():], new, names.own.get(new), params)
             if re.fullmatch(r"\s*search (rules|\(rules\))( depth \d+)?\s*", value) and not pre:
                 continue
             ans.append(([s for s in said if not re.match(r"^-- src/", s)], f"pub {new} : goal.{new}\n" + ("\n".join(pre) + "\n" if pre else "") + f"{new} {' '.join(params)} ={value}", own))
             continue
         # a definition of the file's own
-        ans.append((said, fix(body), n))
+        ans.append((said, fix(body, helpers.get(n), helpers.get(n)), n))
     # definitions that invariants cite go beside them
     moved = []
     for a in list(ans):
@@ -254,8 +343,13 @@ def convert(path, d, crate, where):
         open(os.path.join(folder, "Invariants.antt"), "w", encoding="utf-8").write("\n".join(out).rstrip() + "\n")
         lead = []
     if ans:
+        used = "\n".join(a[1] for a in ans)
+        nots = [w for w in ("not_from_true", "not_from_false") if re.search(r"(?<![\w-])%s(?![\w-])" % w, used) and not any(re.search(r"[{ ]%s[,}]" % w, u) for u in use_lines)]
+        if nots:
+            use_lines = use_lines + ["use Rattle.std.proofs.lemmas.Bool.{%s}" % ", ".join(nots)]
         extra = [f"use {goal}.Invariants.{{{', '.join(a[2] for a in moved)}}}"] if moved else []
-        out = [l for l in lead] + use_lines + extra + [f"use {goal}.Goals as goal", ""]
+        places = [f"use {goal}.Goals.{{{', '.join(sorted(named))}}}"] if named else []
+        out = [l for l in lead] + use_lines + extra + [f"use {goal}.Goals as goal"] + places + [""]
         for said, b, _ in ans:
             out += said + [b, ""]
         open(os.path.join(folder, "Answers.antt"), "w", encoding="utf-8").write("\n".join(out).rstrip() + "\n")

@@ -1,0 +1,6 @@
+-- `first_fits`: the test of the length. Assumes nothing.
+use borrow.Author.Rules.{rules}
+use Rattle.index.proofs.first_fits.Goals as goal
+
+pub returns : goal.returns
+returns c = rw c.first_cells.ensures
