@@ -73,6 +73,23 @@ class Names:
             self.own.setdefault(n, at)
         self.stem = d["stem"]
 
+    def step(self, k):
+        """A step's old name as the file of names has it."""
+        if k not in self.steps and k.endswith("-lem"):
+            k = k[:-4]
+        if k not in self.steps and k[:1].isupper():
+            k = k[:1].lower() + k[1:]
+        m = re.fullmatch(r"fits(\d)", k)
+        if m:
+            k = "fits" if m.group(1) == "2" else "fits%d" % (int(m.group(1)) - 1)
+        return k
+
+    def place(self, k):
+        m = re.fullmatch(r"After-fits(\d)", k)
+        if m:
+            k = "After-fits" if m.group(1) == "2" else "After-fits%d" % (int(m.group(1)) - 1)
+        return k
+
     def need(self, tail):
         """The new name of a goal: its old name with or without the word before its kind."""
         t = bare(tail)
@@ -126,7 +143,7 @@ def apply(text, name, var, body, paren):
         return m.group(1) + (b if plain or not paren else "(" + b + ")") + m.group(3)
 
     for _ in range(6):
-        new = re.sub(r"(\(|(?<=[=→×,] )|(?<=\n    )|(?<=in ))%s (%s)(\)|(?=[\s,;)]))" % (re.escape(name), REF), go, text)
+        new = re.sub(r"(\(|(?<=[=→×,] )|(?<=\n    )|(?<=in ))%s (%s)(\)|(?=[\s,;)]|$))" % (re.escape(name), REF), go, text)
         if new == text:
             return text
         text = new
@@ -155,8 +172,15 @@ def convert(path, d, crate, where):
         elif c:
             defs[n][0] += c
         defs[n][1] += ls
-    # helpers that only go back from one place to another
     raw = {n: "\n".join(ls).rstrip() for n, (c, ls) in defs.items()}
+    # other names of places
+    for n in list(raw):
+        m = re.match(r"^abbrev (?:pub )?%s : Type 0\n%s =\s+((?:tie|lts)\.[A-Z].*)$" % (re.escape(n), re.escape(n)), raw[n], re.S)
+        if m:
+            del raw[n]
+            for k in raw:
+                raw[k] = put(raw[k], n, m.group(1))
+    # helpers that only go back from one place to another
     for _ in range(4):
         for n in list(raw):
             m = re.match(r"^abbrev (?:pub )?%s :\s+(?:tie|lts)\.[A-Z][^\n]*(?:\n    [^\n]*)*\n%s (\w+) =\s+(%s)$" % (re.escape(n), re.escape(n), REF), raw[n])
@@ -165,6 +189,7 @@ def convert(path, d, crate, where):
                 del raw[n]
                 for k in raw:
                     raw[k] = apply(raw[k], n, var, body, False)
+    raw = {n: re.sub(r"\.inv(?![\w-])", ".invariant", b) for n, b in raw.items()}
     helpers = {}
     for n in raw:
         m = re.match(r"^(?:abbrev )?(?:pub )?%s :\s+(?:\(\w+ : )?(?:tie|lts)\.([A-Z][^\s(){};,.]*)" % re.escape(n), raw[n])
@@ -197,7 +222,7 @@ def convert(path, d, crate, where):
             body = re.sub(r"(?<![\w.'-])(%s) (%s)(?![\w'.-])" % ("|".join(re.escape(h) for h in helpers), REF), ask, body)
 
         def place(m):
-            k = bare(m.group(1))
+            k = names.place(bare(m.group(1)))
             if k in names.places:
                 named.add(names.places[k])
                 return names.places[k]
@@ -221,12 +246,11 @@ def convert(path, d, crate, where):
             root, back, k = m.group(1), m.group(2), bare(m.group(3))
             if not back and root not in roots:
                 return m.group(0)
-            if k not in names.steps and k.endswith("-lem"):
-                k = k[:-4]
+            k = names.step(k)
             if k in names.steps:
                 return root + "." + names.steps[k]
-            if k in ("args", "requires", "ranges"):
-                return root + "." + m.group(3)
+            if k in ("args", "requires", "ranges", "pre"):
+                return root + "." + m.group(3).replace("pre", "requires")
             return m.group(0)
 
         body = re.sub(r"((?<![\w.'₀-₉-])[A-Za-z_][\w'₀-₉-]*|\))((?:\.before)*)\.(?!before(?![\w-]))([^\s(){};,.\[\]]+)", step, body)

@@ -1,0 +1,16 @@
+use mathlib.Core.Path.{◌≡◌}
+use Prim.Native.Nat.{◌+◌, ◌-◌, ◌≤◌}
+use borrow.Author.Rules.{rules}
+use native.Mathlib.Omega.{arith}
+use lib.ListN.{length}
+use lib.Seq.{slice}
+use Rattle.list_spec.specs.Lines.{before}
+use Rattle.list.proofs.Characters.{before_here, before_on, before_end}
+use Rattle.list.proofs.search.find.Given as goal
+
+-- The first x from i on is the first from a on. What falls is the places that are left.
+abbrev pub invariant-loop-i : goal.invariant-loop-i
+invariant-loop-i l = (l.a ≤ l.i) × (l.i ≤ l.e) × (l.e ≤ length l.s) × (l.i + before l.x (slice l.i l.e l.s) ≡ l.a + before l.x (slice l.a l.e l.s))
+
+abbrev pub decreases-loop-i : goal.decreases-loop-i
+decreases-loop-i l = l.e - l.i

@@ -1,0 +1,17 @@
+use mathlib.Core.Path.{◌≡◌, sym, ap, ◌∙◌}
+use Prim.Native.Nat.{ℕ, ◌*◌, ◌/◌, ◌-◌, ◌≤◌, ◌<◌}
+use borrow.Author.Rules.{rules}
+use native.Mathlib.Omega.{arith}
+use lib.ListN.{length}
+use lib.Seq.{slice}
+use Rattle.list.specs.Slots.{hash_from, slot_of}
+use Rattle.list.proofs.Slotted.{hash_on, hash_end, hash_fits, hash_slot}
+use Rattle.list.proofs.slots.slot_of.Given as goal
+
+-- The hash of the characters from i on, from h on, is that of all. What falls is the characters that are left.
+abbrev pub invariant-loop-i : goal.invariant-loop-i
+invariant-loop-i l = (l.i ≤ l.e) × (l.e ≤ length l.s) × (0 < l.slots) × (l.slots ≤ 65536) × (l.h < 4294967296) ×
+    (hash_from l.h (slice l.i l.e l.s) ≡ hash_from 0 (slice l.a l.e l.s))
+
+abbrev pub decreases-loop-i : goal.decreases-loop-i
+decreases-loop-i l = l.e - l.i

@@ -1,0 +1,37 @@
+use native.Mathlib.Omega.{arith}
+use mathlib.Core.Path.{refl, sym, ◌∙◌}
+use Prim.Native.Nat.{◌+◌}
+use lib.ListN.{length}
+use borrow.Author.Tests.{leb-true, leb-false}
+use borrow.Author.Rules.{rules}
+use Rattle.program_text.proofs.put_hexadecimal.Goals as goal
+
+pub put_hexadecimal-requires : goal.put_hexadecimal-requires
+put_hexadecimal-requires c = omega (
+  arith,
+  leb-true (c.args.at + 8) (length c.args.out.now)
+      (sym c.fits.ensures ∙ c.if-fits.true),
+)
+
+pub returns-then-fits : goal.returns-then-fits
+returns-then-fits c = record {
+  put = λ h. c.put_hexadecimal.ensures;
+  none = λ h. absurd
+      (omega (
+        arith,
+        leb-true (c.args.at + 8)
+            (length c.args.out.now)
+            (sym c.fits.ensures ∙ c.if-fits.true),
+      ));
+}
+
+pub returns : goal.returns
+returns c = record {
+  put = λ h. absurd
+      (omega (
+        arith,
+        leb-false (c.args.at + 8) (length c.args.out.now)
+            (sym c.fits.ensures ∙ (c).if1.false),
+      ));
+  none = λ h. (refl, refl);
+}

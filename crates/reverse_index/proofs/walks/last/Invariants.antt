@@ -1,0 +1,21 @@
+-- `last`. The loop's invariant: the definition's walk from here on, with the links that are left, gives the answer; the index's length.
+-- What falls: the links that are left. Assumes nothing.
+use mathlib.Core.Path.{◌≡◌, ap, ◌∙◌}
+use mathlib.Core.Bool.{Bool}
+use Prim.Native.Nat.{◌+◌, ◌<◌}
+use lib.ListN.{length}
+use Rattle.standard.specs.Base.{◌then◌else◌}
+use Rattle.standard.specs.Search.{pass_over, last}
+use Rattle.reverse_index_spec.specs.ReverseIndex.{hit, walk_last, walk}
+use Rattle.reverse_index_spec.proofs.Building.{fits_facts}
+use Rattle.reverse_index.proofs.Turns.{starts_last, last_low, last_high, last_end, last_on}
+use borrow.Author.Rules.{rules}
+use native.Mathlib.Omega.{arith}
+use Rattle.reverse_index.proofs.walks.last.Given as goal
+
+abbrev pub invariant-loop-k : goal.invariant-loop-k
+invariant-loop-k l = (walk_last (hit (pass_over l.low l.high) l.table l.c) l.index (length l.table) l.k l.link l.best ≡ walk l.table l.index last (pass_over l.low l.high) l.c) ×
+    (length l.index ≡ length l.table + length l.table) × (length l.table < 0x100000000)
+
+abbrev pub decreases-loop-k : goal.decreases-loop-k
+decreases-loop-k l = l.k
