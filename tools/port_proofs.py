@@ -81,8 +81,8 @@ class Names:
         """A step's old name as the file of names has it."""
         if k not in self.steps and k.endswith("-lem"):
             k = k[:-4]
-        if k not in self.steps and k[:1].isupper():
-            k = k[:1].lower() + k[1:]
+        if k not in self.steps and k.lower() in self.steps:
+            k = k.lower()
         m = re.fullmatch(r"fits(\d)", k)
         if m:
             k = "fits" if m.group(1) == "2" else "fits%d" % (int(m.group(1)) - 1)
@@ -196,7 +196,8 @@ def convert(path, d, crate, where):
             for n, (var, body) in back.items():
                 for k in raw:
                     raw[k] = apply(raw[k], n, var, body, False)
-    raw = {n: re.sub(r"\.inv(?![\w-])", ".invariant", b) for n, b in raw.items()}
+    old_words = {"inv": "invariant", "good": "well_formed", "kept": "auto", "last": "new"}
+    raw = {n: re.sub(r"\.(inv|good|kept|last)(?![\w-])", lambda m: "." + old_words[m.group(1)], b) for n, b in raw.items()}
     helpers = {}
     for n in raw:
         m = re.match(r"^(?:abbrev )?(?:pub )?%s :\s+(?:\(\w+ : )?(?:tie|lts)\.([A-Z][^\s(){};,.]*)" % re.escape(n), raw[n])
@@ -259,11 +260,16 @@ def convert(path, d, crate, where):
             k = names.step(k)
             if k in names.steps:
                 return root + "." + names.steps[k]
-            if k in ("args", "requires", "ranges", "pre"):
+            if k in ("args", "requires", "ranges", "pre", "well-formed"):
                 return root + "." + m.group(3).replace("pre", "requires")
             return m.group(0)
 
         body = re.sub(r"((?<![\w.'₀-₉-])[A-Za-z_][\w'₀-₉-]*|\))((?:\.before)*)\.(?!before(?![\w-]))([^\s(){};,.\[\]]+)", step, body)
+        # a step has its name at each place behind it
+        for v in list(chains):
+            if not re.search(r"(?<![\w.'₀-₉-])%s(?![\w'₀-₉.-])" % re.escape(v), re.sub(r"let %s = " % re.escape(v), "", body)):
+                body = re.sub(r"([ ]*)let %s = %s in(\n|[ ])" % (re.escape(v), REF), lambda m: "" if m.group(2) == "\n" else m.group(1), body)
+                body = re.sub(r"(?<![\w.'₀-₉-])%s(?:\.before)*\." % re.escape(v), chains[v] + ".", body)
         # what a call leaves, by the names of its parameters
         steps = {v: e.split(".")[-1] for v, e in re.findall(r"let ([\w'₀-₉-]+) = ([^\n ]*?) in(?=\s|$)", body)}
 
@@ -367,7 +373,7 @@ def convert(path, d, crate, where):
     moved = []
     for a in list(ans):
         n = a[2]
-        if n in inv_names and "goal." not in a[1]:
+        if n in inv_names and "goal." not in a[1] and not any(re.search(r"(?<![\w.'-])%s(?![\w'-])" % re.escape(q), a[1]) for q in named):
             moved.append(a)
             ans.remove(a)
     use_lines = []
