@@ -68,6 +68,10 @@ class Names:
             self.steps[bare(so)] = sn
             self.steps[bare(so) + "-test"] = sn + "-test"
         self.changed = d["changed"]
+        self.params = {}
+        for (_, _, (_, sn), callee, _) in d["places"]:
+            if callee and callee in d["params"]:
+                self.params[sn] = d["params"][callee]
         self.own = {}
         for (_, n), (_, at) in zip(d["needs"], d["asked_at"]):
             self.own.setdefault(n, at)
@@ -181,20 +185,23 @@ def convert(path, d, crate, where):
             for k in raw:
                 raw[k] = put(raw[k], n, m.group(1))
     # helpers that only go back from one place to another
-    for _ in range(4):
+    back = {}
+    for _ in range(5):
         for n in list(raw):
             m = re.match(r"^abbrev (?:pub )?%s :\s+(?:tie|lts)\.[A-Z][^\n]*(?:\n    [^\n]*)*\n%s (\w+) =\s+(%s)$" % (re.escape(n), re.escape(n), REF), raw[n])
             if m and re.search(r"→\s+(tie|lts)\.[A-Z]", raw[n]):
-                var, body = m.group(1), m.group(2)
+                back[n] = (m.group(1), m.group(2))
                 del raw[n]
+        for _ in range(4):
+            for n, (var, body) in back.items():
                 for k in raw:
                     raw[k] = apply(raw[k], n, var, body, False)
     raw = {n: re.sub(r"\.inv(?![\w-])", ".invariant", b) for n, b in raw.items()}
     helpers = {}
     for n in raw:
         m = re.match(r"^(?:abbrev )?(?:pub )?%s :\s+(?:\(\w+ : )?(?:tie|lts)\.([A-Z][^\s(){};,.]*)" % re.escape(n), raw[n])
-        if m and not m.group(1).startswith("Need-") and bare(m.group(1)) in names.places:
-            helpers[n] = names.places[bare(m.group(1))]
+        if m and not m.group(1).startswith("Need-") and names.place(bare(m.group(1))) in names.places:
+            helpers[n] = names.places[names.place(bare(m.group(1)))]
     inv, ans = [], []
     inv_names = set()
 
@@ -235,9 +242,12 @@ def convert(path, d, crate, where):
 
         # places: the parameters of the definition, and what goes back from them
         roots = {re.match(r"\w*", x).group(0) for x in params}
-        for m in re.finditer(r"(?m)^[^\s:=]+((?: [A-Za-z_][\w'₀-₉-]*)+) =", body):
-            roots.update(m.group(1).split())
-        roots.update(re.findall(r"\((\w+) : [A-Z]", body))
+        if not params and new is not None:
+            for m in re.finditer(r"(?m)^[^\s:=]+ ([A-Za-z_]\w*)[^=\n]*=", body):
+                roots.add(m.group(1))
+        for w, q in re.findall(r"\((\w+) : ([A-Z][^\s(){};,.]*)\)", body):
+            if q in named:
+                roots.add(w)
         for v, e in re.findall(r"let ([\w'₀-₉-]+) = ([^\n]*?) in(?=\s|$)", body):
             if re.fullmatch(REF, e) and e.split(".")[0] in roots:
                 roots.add(v)
@@ -254,6 +264,19 @@ def convert(path, d, crate, where):
             return m.group(0)
 
         body = re.sub(r"((?<![\w.'₀-₉-])[A-Za-z_][\w'₀-₉-]*|\))((?:\.before)*)\.(?!before(?![\w-]))([^\s(){};,.\[\]]+)", step, body)
+        # what a call leaves, by the names of its parameters
+        steps = {v: e.split(".")[-1] for v, e in re.findall(r"let ([\w'₀-₉-]+) = ([^\n ]*?) in(?=\s|$)", body)}
+
+        def left(m):
+            s = m.group(1).split(".")[-1]
+            ps = names.params.get(s) or names.params.get(steps.get(s, ""))
+            i = m.group(3).count(".1")
+            if not ps or i >= len(ps):
+                notes.append("no parameter for " + m.group(0))
+                return m.group(0)
+            return f"{m.group(1)}.{m.group(2)}.{ps[i]}"
+
+        body = re.sub(r"([A-Za-z_][^\s(){};,]*)\.(auto|new)((?:\.1)*\.0)(?![\w])", left, body)
         body = re.sub(r"(\.(?:if|loop)-[^\s(){};,.\[\]]+)\.taken(?![\w-])", r"\1.true", body)
         body = re.sub(r"(\.(?:if|loop)-[^\s(){};,.\[\]]+)\.left(?![\w-])", r"\1.false", body)
         for v in re.findall(r"let ([\w'-]+) = [\w'.-]+\.if-not-[^\s(){};,.\[\]]+ in", body):
