@@ -1,11 +1,8 @@
-use mathlib.Core.Path.{◌≡◌, sym, ◌∙◌}
+use mathlib.Core.Path.{◌≡◌}
 use Prim.Native.Nat.{◌+◌, ◌-◌, ◌≤◌}
-use borrow.Author.Rules.{rules}
-use native.Mathlib.Omega.{arith}
 use lib.ListN.{length}
 use lib.Seq.{slice}
 use Rattle.list_spec.specs.Lines.{same as sameAs}
-use Rattle.list.proofs.Characters.{same_differ, same_on, same_off, same_end}
 use Rattle.list.proofs.search.same.Given as goal
 
 -- The characters are the same if those from i and j on are, which are as far from the ends. What falls is the places that are left.
