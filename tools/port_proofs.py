@@ -197,7 +197,7 @@ def convert(path, d, crate, where):
                 for k in raw:
                     raw[k] = apply(raw[k], n, var, body, False)
     old_words = {"inv": "invariant", "good": "well_formed", "kept": "auto", "last": "new"}
-    raw = {n: re.sub(r"\.(inv|good|kept|last)(?![\w-])", lambda m: "." + old_words[m.group(1)], b) for n, b in raw.items()}
+    raw = {n: re.sub(r"(\.[^\s(){};,.]+)\.(inv|good|kept|last)(?=[\s(){};,.])(?!\.(?:ensures|result|requires)\b)", lambda m: m.group(0) if m.group(1) == ".args" else m.group(1) + "." + old_words[m.group(2)], b + " ").rstrip() for n, b in raw.items()}
     helpers = {}
     for n in raw:
         m = re.match(r"^(?:abbrev )?(?:pub )?%s :\s+(?:\(\w+ : )?(?:tie|lts)\.([A-Z][^\s(){};,.]*)" % re.escape(n), raw[n])

@@ -6,7 +6,7 @@ use Rattle.encoder.proofs.pairs.one_by.Goals as goal
 
 pub returns-then-v-ge256 : goal.returns-then-v-ge256
 returns-then-v-ge256 c =
-    let known = c.auto.ensures c.if-v-ge256.true in
+    let known = c.kept-v.ensures c.if-v-ge256.true in
     (c.recalled.ensures ∙ kept_told c.args.encoding _ _ _ _ c.args.c _ c.requires.0 known c.if-v-ge256.true, c.requires.0)
 
 pub returns : goal.returns

@@ -37,11 +37,11 @@ loop-i-preserved c =
     let jis = c.stays.ensures c.if-not-stays.false in (
       omega (arith, inv.0),
       omega (arith, c.loop-i-test.true),
-      omega (arith, c.put_kept-o.auto, c.put_kept-o.ensures.0, bytes_most c.args.encoding c.auto.result, c.if-room-o-lt2.false, inv.2),
+      omega (arith, c.put_kept-o.auto, c.put_kept-o.ensures.0, bytes_most c.args.encoding c.kept-v.result, c.if-room-o-lt2.false, inv.2),
       omega (arith, c.put_kept-o.auto, inv.3),
       λ one mode begin first stays space r.
-          let wrote = stays_here c.args.encoding _ c.args.slots.now one stays jis _ _ (c.auto.ensures large) large in
-          running_on _ _ _ _ _ _ _ _ _ (inv.4 one mode begin first stays space r) _ (bytes_in c.args.encoding c.auto.result)
+          let wrote = stays_here c.args.encoding _ c.args.slots.now one stays jis _ _ (c.kept-v.ensures large) large in
+          running_on _ _ _ _ _ _ _ _ _ (inv.4 one mode begin first stays space r) _ (bytes_in c.args.encoding c.kept-v.result)
           (here_bytes _ _ _ _ _ c.loop-i-test.true wrote) space _ _ c.put_kept-o.ensures.0 c.put_kept-o.ensures.1,
     )
 

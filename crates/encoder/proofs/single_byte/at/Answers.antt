@@ -8,15 +8,15 @@ use Rattle.encoder.proofs.single_byte.at.Goals as goal
 
 pub overflow_cast-result : goal.overflow_cast-result
 overflow_cast-result c =
-    omega (arith, c.requires _ (ap pointer_of c.found-1.given.1))
+    omega (arith, c.requires _ (ap pointer_of c.in-At.is))
 
 pub overflow_add-result : goal.overflow_add-result
 overflow_add-result c =
-    record { fits = omega (arith, c.requires _ (ap pointer_of c.found-1.given.1)) }
+    record { fits = omega (arith, c.requires _ (ap pointer_of c.in-At.is)) }
 
 pub returns-in-At : goal.returns-in-At
 returns-in-At c =
-    by_at _ _ _ c.found-1.given.1 (c.requires _ (ap pointer_of c.found-1.given.1))
+    by_at _ _ _ c.in-At.is (c.requires _ (ap pointer_of c.in-At.is))
 
 pub returns-in-Missing : goal.returns-in-Missing
-returns-in-Missing c = by_missing _ _ c.enum_told-1.given.1
+returns-in-Missing c = by_missing _ _ c.in-Missing.is
