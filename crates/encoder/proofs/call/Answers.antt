@@ -16,7 +16,7 @@ write-requires c =
     let args = c.args in
     let k = accepted (look_up args.t1.now args.links.now) _ _ _ _ (lent args.t1.now args.t2.now) _ args.room.now
     (sym c.refusal-refused.ensures ∙ c.if-refused-ne0.false) in
-    ((k.are_scalars, k.few, k.tabled), k.space)
+    record { scalars_value = (k.are_scalars, k.few, k.tabled); space = k.space }
 
 pub returns : goal.returns
 returns c =

@@ -25,4 +25,4 @@ bounds-room-at-3 c = simp length-set (omega (arith, three (goal.at.bounds-room-a
 
 pub returns : goal.returns
 returns c =
-    shifts_put c.args.from c.args.to _ _ c.if-from-to.false _ _ c.middle.ensures c.new.ensures
+    shifts_put c.args.from c.args.to _ _ c.if-from-to.false _ _ c.middle.ensures c.last.ensures

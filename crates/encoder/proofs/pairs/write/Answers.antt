@@ -7,4 +7,4 @@ use Rattle.encoder.proofs.pairs.write.Goals as goal
 
 pub write_by-requires : goal.write_by-requires
 write_by-requires c =
-    ((c.requires.0.1, λ l. absurd (omega (arith, l))), c.requires.1, λ e. let z : ◌≡◌ {A = ℕ} 0 1 = cc in absurd (omega arith))
+    ((c.requires.scalars_len_bound.1, λ l. absurd (omega (arith, l))), c.requires.space, λ e. let z : ◌≡◌ {A = ℕ} 0 1 = cc in absurd (omega arith))

@@ -5,4 +5,4 @@ use Rattle.encoder.proofs.pairs.write_filled.Goals as goal
 
 pub write_by-requires : goal.write_by-requires
 write_by-requires c =
-    (c.fill.ensures (c.requires.0, refl) _ _, c.requires.1, c.ordered-ordered.ensures)
+    (c.fill.ensures (c.requires.table_len, refl) _ _, c.requires.space, c.ordered-ordered.ensures)

@@ -1,5 +1,5 @@
 use Rattle.encoder.proofs.Counting.{all_end, all_on}
-use Rattle.standard.specs.Base.{scalars as areScalars}
+use Rattle.standard.specs.Base.{scalars as are_scalars}
 use mathlib.Core.Path.{◌≡◌, refl, ◌∙◌}
 use mathlib.Core.Bool.{◌&&◌}
 use lib.Dec.{eqb}

@@ -29,7 +29,7 @@ does_not c = sym c.pairs.ensures ∙ c.if-pairs.false
 pub write-written-requires : goal.write-written-requires
 write-written-requires c =
     let e = utf8_writing (look (goal.at.write-written-requires c).Start) c.args.encoding c.args.mode c.args.state (tables (goal.at.write-written-requires c).Start) c.args.scalars.now c.if-encoding-eq0.true in
-    (c.requires.0.0, omega (arith, c.requires.1, ap (λ (w : Writing). length w.bytes) e))
+    (c.requires.scalars_value.0, omega (arith, c.requires.space, ap (λ (w : Writing). length w.bytes) e))
 
 pub returns-then-encoding-eq0 : goal.returns-then-encoding-eq0
 returns-then-encoding-eq0 c =
@@ -39,7 +39,10 @@ returns-then-encoding-eq0 c =
 pub write-requires : goal.write-requires
 write-requires c =
     let e = pairs_writing (look (goal.at.write-requires c).Start) c.args.encoding c.args.mode c.args.state (tables (goal.at.write-requires c).Start) c.args.scalars.now (does (goal.at.write-requires c).Then-pairs) in
-    ((c.requires.0.1, c.requires.0.2.of_pairs (does (goal.at.write-requires c).Then-pairs)), omega (arith, c.requires.1, ap (λ (w : Writing). length w.bytes) e))
+    record {
+      scalars_len_bound = (c.requires.scalars_value.1, c.requires.scalars_value.2.of_pairs (does (goal.at.write-requires c).Then-pairs));
+      space = omega (arith, c.requires.space, ap (λ (w : Writing). length w.bytes) e);
+    }
 
 pub returns-then-pairs : goal.returns-then-pairs
 returns-then-pairs c =
@@ -49,8 +52,8 @@ returns-then-pairs c =
 pub write-w-requires : goal.write-w-requires
 write-w-requires c =
     let w = bytes_writing (look (goal.at.write-w-requires c).Start) c.args.encoding c.args.mode c.args.state (tables (goal.at.write-w-requires c).Start) c.args.scalars.now (does_not (goal.at.write-w-requires c).Else-pairs) in (
-      (omega (arith, c.if-encoding-eq0.false), c.requires.0.2.of_bytes (does_not (goal.at.write-w-requires c).Else-pairs)),
-      omega (arith, c.requires.1, ap (λ (w : Writing). length w.bytes) w),
+      (omega (arith, c.if-encoding-eq0.false), c.requires.scalars_value.2.of_bytes (does_not (goal.at.write-w-requires c).Else-pairs)),
+      omega (arith, c.requires.space, ap (λ (w : Writing). length w.bytes) w),
     )
 
 pub returns : goal.returns

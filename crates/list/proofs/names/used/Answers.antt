@@ -1,6 +1,6 @@
 use Rattle.std.proofs.Common.{◌≡◌, refl, sym, ap, ◌∙◌, List, ℕ, ◌+◌, arith, rules}
 use Rattle.std.proofs.Math.Seq.{slice}
-use Rattle.list_spec.specs.Lines.{same as sameAs, line, name_of}
+use Rattle.list_spec.specs.Lines.{same as same_as, line, name_of}
 use Rattle.list_spec.proofs.Parts.{name_part}
 use Rattle.list.proofs.Known.{used_hit, used_on, used_end}
 use Rattle.list.proofs.Spanned.{Spanned, spanned}
@@ -19,10 +19,10 @@ lies l = spanned (text l) l.loop-p.p l.next_line-l.result (omega arith) l.next_l
 
 -- the name of the line is the one that is compared
 compared : (c : After-same) → let l = (goal.at.After-same c).After-next_line-l in
-    c.same.result ≡ sameAs (name_of (text l) (line c.loop-p.invariant.4.0 c.loop-p.p c.next_line-l.result.stop)) (name l)
+    c.same.result ≡ same_as (name_of (text l) (line c.loop-p.invariant.4.0 c.loop-p.p c.next_line-l.result.stop)) (name l)
 compared c =
     let l = (goal.at.After-same c).After-next_line-l in
-    c.same.ensures ∙ ap (λ (x : List ℕ). sameAs x (name l)) (name_part (text l) c.loop-p.invariant.4.0 c.loop-p.p
+    c.same.ensures ∙ ap (λ (x : List ℕ). same_as x (name l)) (name_part (text l) c.loop-p.invariant.4.0 c.loop-p.p
     c.next_line-l.result.stop c.find-tab.result (lies l).low (lies l).high c.find-tab.ensures.0)
 
 pub loop-p-init : goal.loop-p-init
