@@ -5,7 +5,7 @@ use mathlib.Core.List.{List, [], ◌∷◌, append-nil}
 use mathlib.Core.Option.{Option, some, none}
 use Prim.Native.Nat.{ℕ, ◌+◌, ◌≤◌}
 use native.Mathlib.Omega.{arith}
-use lib.Dec.{ltb, eqb}
+use lib.Dec.{ltb}
 use lib.ListN.{length}
 use borrow.Author.Tests.{ltb-false}
 use Rattle.standard.specs.Base.{◌then◌else◌, Bytes, line_feeds}
@@ -25,7 +25,7 @@ use Rattle.demands.specs.Statements.{account, reports}
 use Rattle.demands.specs.Whole.{stopped, completed, dealt, whole_account}
 use Rattle.demands.proofs.Cutting.{cut_is_whole}
 use Rattle.demands.proofs.Theorems.{demand_2, whole_is_standard}
-use Rattle.clean.specs.Checking.{check_refusal, clean, faulty, refuse, judge, checking}
+use Rattle.clean.specs.Checking.{check_refusal, clean, faulty, checking}
 use Rattle.clean.specs.Statements.{told, told_by, Checks}
 use Rattle.clean.specs.declared.Checked.{Checked}
 

@@ -1,4 +1,5 @@
 // Document 02, Ask 10: is a list clean? Its bytes are decoded part by part in refusing mode into a room of the call's own.
+#![tactic(auto)]
 
 ghost use Rattle.std.specs.Prelude.{◌≡◌, ◌+◌, ◌≤◌, ◌<◌, min, length};
 ghost use Rattle.standard.specs.Encodings.{lent};

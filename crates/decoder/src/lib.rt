@@ -1,5 +1,6 @@
 // The decoder: its record, opening, feed and finish.
 // A slice that is passed on is lent anew (`&*`): docs/DECISIONS.md, 45.
+#![tactic(auto)]
 
 mod record;
 mod refusals;

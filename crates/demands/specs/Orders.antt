@@ -1,5 +1,5 @@
 -- The order of the refusals of opening, feed and finish: for each two causes that can hold at once, which number is given. Assumes nothing.
-use Rattle.std.specs.Prelude.{◌≡◌, List, [], ◌∷◌, ℕ, length, replicate}
+use Rattle.std.specs.Prelude.{◌≡◌, List, [], ◌∷◌, ℕ, replicate}
 use Rattle.standard.specs.Encodings.{no_tables}
 use Rattle.standard.specs.Sequence.{plain}
 use Rattle.standard.specs.Choice.{spot}

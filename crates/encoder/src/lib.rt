@@ -1,4 +1,5 @@
 // Writing: document 01, "Writing rules" and "Refusal numbers"; 02, Asks 6 and 8.
+#![tactic(auto)]
 
 mod escapes;
 mod one_byte;

@@ -1,5 +1,7 @@
 // The public calls by their C names: include/hamvukile.h is their manual. Each answers what the call of its own crate answers.
 // A slice is a pointer and a length. Trimming, whose result is part of the caller's bytes, reaches C as start and length of the label call.
+#![tactic(auto)]
+
 ghost use Rattle.std.specs.Prelude.{◌≡◌};
 ghost use Rattle.standard.specs.Encodings.{lent};
 ghost use Rattle.labels_spec.specs.Labels.{label, naming};

@@ -8,7 +8,7 @@ use lib.Dec.{eqb}
 use Rattle.standard.specs.Base.{◌then◌else◌}
 use Rattle.standard.specs.Encodings.{Tables}
 use Rattle.demands.specs.Histories.{Call, History, outcome, after_one, after, start}
-use Rattle.demands.specs.Statements.{Report, reported, reports, Account, account, untaken, Demand2, Demand3}
+use Rattle.demands.specs.Statements.{Report, reported, reports, account, untaken, Demand3}
 use Rattle.demands.proofs.Theorems.{demand_2, demand_3}
 use Rattle.in_place.specs.Forms.{Form, by_value, lent, Formed, calls, after_form, after_forms, reports_forms, account_forms, Mixed, MixedDemands}
 

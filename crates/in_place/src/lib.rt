@@ -1,5 +1,6 @@
 // Feed and finish of a decoder that is lent and altered where it stands. Each is its by-value call: the record is handed over as it stands,
 // and what the call left of it is stored.
+#![tactic(auto)]
 
 ghost use Rattle.standard.specs.Encodings.{lent};
 ghost use Rattle.decoder.specs.Calls.{feeding, finishing};

@@ -1,4 +1,5 @@
 // Index tables: document 01, "Tables the caller lends" and "Index line".
+#![tactic(auto)]
 
 mod lengths;
 mod reading;

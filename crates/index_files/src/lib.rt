@@ -1,4 +1,5 @@
 // The names of the published index files, for hosts and programs that load them.
+#![tactic(auto)]
 
 ghost use Rattle.std.specs.Prelude.{◌≡◌, ◌++◌, ◌+◌, ◌≤◌, ◌<◌, length, take, drop, get_or};
 ghost use Rattle.index_files.specs.Files.{file_naming};

@@ -1,15 +1,14 @@
 -- One byte of a file, and the started line. Assumes nothing.
-use mathlib.Core.Path.{◌≡◌, refl, sym, ap, ◌∙◌, subst}
-use mathlib.Core.Bool.{Bool, true, false}
-use mathlib.Core.List.{List, [], ◌∷◌, ◌++◌}
-use Prim.Native.Nat.{ℕ, suc, ◌+◌, ◌≤◌, ◌<◌}
+use mathlib.Core.Path.{◌≡◌, refl, ap, ◌∙◌, subst}
+use mathlib.Core.List.{List, [], ◌∷◌}
+use Prim.Native.Nat.{ℕ, ◌+◌, ◌≤◌, ◌<◌}
 use native.Mathlib.Numerals.{add-one}
 use native.Mathlib.Omega.{arith}
-use lib.Dec.{eqb, lit≤}
+use lib.Dec.{lit≤}
 use lib.ListN.{length, set, get_or, take, drop}
 use lib.Seq.{take-suc-set, length-take-le, drop-cons}
 use borrow.Author.Tests.{eq-eqb, ne_eqb, lt-ltb, le-ltb}
-use Rattle.index_spec.specs.IndexCall.{Outcome, index_line}
+use Rattle.index_spec.specs.IndexCall.{index_line}
 use Rattle.index_spec.specs.declared.Line.{Line}
 use Rattle.index_loading.specs.Steps.{Place, close, on_byte, on_bytes, on_end, at, most, placed, Stands}
 use Rattle.index_loading.specs.declared.Loading.{Loading}

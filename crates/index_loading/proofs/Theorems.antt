@@ -2,19 +2,19 @@
 use mathlib.Core.Path.{◌≡◌, refl, sym, ap, ◌∙◌}
 use mathlib.Core.Bool.{Bool, true, false}
 use mathlib.Core.List.{List, [], ◌∷◌, ◌++◌}
-use Prim.Native.Nat.{ℕ, ◌+◌, ◌≤◌, ◌<◌}
+use Prim.Native.Nat.{ℕ, ◌≤◌, ◌<◌}
 use native.Mathlib.Omega.{arith}
 use lib.Dec.{ltb, eqb}
 use lib.ListN.{length, take, length-take, length-append}
 use lib.Seq.{take_all, take-append-le}
-use borrow.Author.Tests.{eqb-true, eqb-false, eq-eqb, ltb-true, ltb-false, lt-ltb}
-use Rattle.standard.specs.Base.{◌then◌else◌, mapped}
+use borrow.Author.Tests.{eqb-true, eqb-false, ltb-true, ltb-false, lt-ltb}
+use Rattle.standard.specs.Base.{◌then◌else◌}
 use Rattle.standard.specs.Text.{bytes}
 use Rattle.standard.proofs.Tests.{split}
 use Rattle.index_spec.specs.IndexLine.{value}
 use Rattle.index_spec.specs.IndexRead.{front, behind, fits, read}
 use Rattle.index_spec.specs.IndexCall.{Outcome, index_line}
-use Rattle.index_loading.specs.Loading.{Loaded, load_from, loading}
+use Rattle.index_loading.specs.Loading.{load_from}
 use Rattle.index_loading.specs.Steps.{Place, close, on_byte, on_bytes, on_end, loaded_at}
 use Rattle.index_loading.specs.Statements.{fresh, joined, after_parts, Loads}
 use Rattle.index_loading.proofs.Bytes.{stays}

@@ -2,7 +2,7 @@
 -- `loading` is proved. Assumes nothing.
 use Rattle.std.specs.Prelude.{◌≡◌, List, [], ◌∷◌, ◌++◌, ℕ, ◌≤◌, ◌<◌, ltb, eqb, length, take}
 use Rattle.standard.specs.Base.{◌then◌else◌}
-use Rattle.index_spec.specs.IndexCall.{Outcome, index_line}
+use Rattle.index_spec.specs.IndexCall.{index_line}
 use Rattle.index_loading.specs.Loading.{Loaded}
 use Rattle.index_loading.specs.declared.Loading.{Loading}
 

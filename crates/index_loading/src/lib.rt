@@ -1,4 +1,5 @@
 // A table filled from a published index file, in parts of any length.
+#![tactic(auto)]
 
 ghost use Rattle.std.specs.Prelude.{◌≡◌, ◌≤◌, ◌<◌, length};
 ghost use Rattle.index_loading.specs.Steps.{at, most, placed, close, on_byte, on_bytes, on_end, Stands, GoesOn};

@@ -1,4 +1,5 @@
 // What the index line call answers. No code: crate index has it.
+#![tactic(auto)]
 
 // The entry's pointer or 0, the refusal number of document 01 or 0, and 1 where the line is an entry, else 0.
 #[repr(C)]

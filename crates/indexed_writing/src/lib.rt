@@ -1,1 +1,3 @@
+#![tactic(auto)]
+
 // What a writer writes by a reverse index. No code: crate pair_writers has it.

@@ -1,4 +1,5 @@
 // Runs of ISO-2022-JP.
+#![tactic(auto)]
 
 ghost use Rattle.std.specs.Prelude.{◌≡◌, Bool, true, false, ◌||◌, List, ◌∷◌, [], ℕ, ◌+◌, ◌-◌, ◌≤◌, ◌<◌, eqb, length, drop, get_or};
 ghost use Rattle.standard.specs.Encodings.{Tables, ISO-2022-JP, lent};

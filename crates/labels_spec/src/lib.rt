@@ -1,4 +1,5 @@
 // What the label call and the name call answer. No code: crate labels has it.
+#![tactic(auto)]
 
 // The label call: where the trimmed label lies in the caller's bytes, the refusal number or 0, and the encoding number.
 #[repr(C)]

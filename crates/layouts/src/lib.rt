@@ -1,4 +1,5 @@
 // Rows, columns and pointers of an index by the bytes of a pair. 32768 is none: it is past the end of every table.
+#![tactic(auto)]
 
 pub mod gb18030;
 pub mod ranges;

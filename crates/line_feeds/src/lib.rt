@@ -1,5 +1,6 @@
 // How many line feeds there are in a part of some bytes or scalars: many at a time, by narrow counts.
 // A slice that is passed on is lent anew (`&*`): docs/DECISIONS.md, 45.
+#![tactic(auto)]
 
 ghost use Rattle.std.specs.Prelude.{◌≡◌, ◌∷◌, [], ◌+◌, ◌-◌, ◌≤◌, length};
 ghost use Rattle.standard.specs.Base.{line_feeds};

@@ -1,4 +1,5 @@
 // What the list call answers, and what the list's record answers at a place. No code: crate list has it.
+#![tactic(auto)]
 
 // The list call: the options handed out, 0 where it is refused; the line at fault, counted from 1, or 0; the refusal number or 0.
 #[repr(C)]

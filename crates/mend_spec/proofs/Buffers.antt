@@ -1,11 +1,11 @@
 -- Buffer after buffer: what the steps give is what the whole text gives. Assumes nothing.
-use mathlib.Core.Path.{◌≡◌, refl, sym, ap, ◌∙◌, subst}
-use mathlib.Core.Bool.{Bool, true, false, ◌&&◌, not, and-false}
+use mathlib.Core.Path.{◌≡◌, refl, sym, ap, ◌∙◌}
+use mathlib.Core.Bool.{Bool, true, false, and-false}
 use mathlib.Core.List.{List, [], ◌∷◌, ◌++◌, append_assoc, append-nil}
 use Prim.Native.Nat.{ℕ, ◌+◌, ◌-◌, ◌*◌, ◌≤◌, ◌<◌}
 use native.Mathlib.Omega.{arith}
-use lib.Dec.{T, ltb, eqb, lit≤}
-use lib.ListN.{length, take, drop, length-append, length-take}
+use lib.Dec.{ltb, eqb, lit≤}
+use lib.ListN.{length, take, drop, length-append}
 use lib.Seq.{take_all, take-append-le, take-append-add, take-append_seam, length-take-le}
 use borrow.Author.Tests.{lt-ltb, le-ltb, ltb-true, ltb-false}
 use Rattle.standard.specs.Base.{◌then◌else◌, line_feeds}
@@ -17,7 +17,7 @@ use Rattle.standard.proofs.Stages.{Rests, parsing, chunks_from, all_rest, all_cu
 use Rattle.standard.proofs.Tests.{split}
 use Rattle.decoder.specs.Record.{holding}
 use Rattle.decoder.specs.Valid.{valid}
-use Rattle.decoder.specs.Calls.{Outcome, feed_refusal, feeding, finish_refusal, finishing}
+use Rattle.decoder.specs.Calls.{Outcome, feed_refusal, feeding, finish_refusal}
 use Rattle.decoder.specs.declared.Decoder.{Decoder}
 use Rattle.decoder.proofs.Parts.{parts}
 use Rattle.demands.proofs.Steps.{read_of, end_of, onward, feed_holding, finish_holding}
@@ -25,14 +25,14 @@ use Rattle.demands.proofs.Steps.{fed as fed-step}
 use Rattle.demands.proofs.Validity.{valid_step}
 use Rattle.replacements_spec.specs.Replaced.{replaced, cells}
 use Rattle.replacements_spec.specs.Calls.{Handed, telling, feed_tell_refusal, feed_telling, finish_tell_refusal, finish_telling}
-use Rattle.replacements_spec.specs.Statements.{Piece, joined, told}
+use Rattle.replacements_spec.specs.Statements.{Piece, joined}
 use Rattle.replacements_spec.proofs.Spans.{replaced_append, cells_append, cells_front}
-use Rattle.replacements_spec.proofs.Telling.{feed_tells, finish_tells, feed_leaves, further}
+use Rattle.replacements_spec.proofs.Telling.{feed_tells, finish_tells, further}
 use Rattle.program_text.specs.Lines.{refused}
 use Rattle.program_text.specs.Utf8.{utf8}
 use Rattle.program_text.proofs.Utf8Texts.{utf8_append}
-use Rattle.mend_spec.specs.Mended.{Streams, span_lines, mends, ends, mended_text}
-use Rattle.mend_spec.specs.Program.{fitting, over, step_number, last_line, gives, fed, joins, nothing, text_by}
+use Rattle.mend_spec.specs.Mended.{Streams, span_lines, mends, ends}
+use Rattle.mend_spec.specs.Program.{step_number, last_line, gives, joins, nothing, text_by}
 use Rattle.mend_spec.specs.Statements.{Roomy}
 use Rattle.mend_spec.proofs.Report.{lines_of}
 

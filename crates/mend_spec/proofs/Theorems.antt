@@ -1,10 +1,9 @@
 -- The theorem of the program, and its samples. Assumes nothing.
 use mathlib.Core.Path.{◌≡◌, refl, sym, ap, ◌∙◌}
-use mathlib.Core.Bool.{true, false}
+use mathlib.Core.Bool.{true}
 use mathlib.Core.List.{List, [], ◌++◌}
 use Prim.Native.Nat.{ℕ, ◌+◌, ◌-◌, ◌≤◌}
 use native.Mathlib.Nat.{zero-add, sub-zero}
-use native.Mathlib.Omega.{arith}
 use lib.Dec.{ltb, lit≤}
 use lib.ListN.{length, take}
 use borrow.Author.Tests.{le-ltb}
@@ -35,7 +34,7 @@ use Rattle.replacements_spec.specs.Replaced.{replaced, cells}
 use Rattle.replacements_spec.specs.Statements.{Piece, joined}
 use Rattle.program_text.specs.Lines.{first_line, after_line, digits}
 use Rattle.program_text.specs.Utf8.{utf8}
-use Rattle.mend_spec.specs.Mended.{Streams, span_lines, mends as given, ends, mended_text, encoding_refusal, mended}
+use Rattle.mend_spec.specs.Mended.{span_lines, mends as given, ends, mended_text, encoding_refusal, mended}
 use Rattle.mend_spec.specs.Program.{text_by}
 use Rattle.mend_spec.specs.Statements.{Roomy, Mends}
 use Rattle.mend_spec.proofs.Buffers.{text_from_lem}

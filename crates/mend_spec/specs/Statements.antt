@@ -1,6 +1,6 @@
 -- What is proved of the program: read through buffers, any input and index file give what document 02 says of the whole. Assumes nothing.
 use Rattle.std.specs.Prelude.{◌≡◌, true, List, [], ◌∷◌, ◌++◌, ℕ, ◌+◌, ◌*◌, ◌≤◌, ◌<◌, length, replicate}
-use Rattle.std.proofs.Math.Option.{Option, some, none}
+use Rattle.std.proofs.Math.Option.{Option, none}
 use Rattle.standard.specs.Text.{bytes}
 use Rattle.standard.specs.Encodings.{family, Tables, fits, lent}
 use Rattle.decoder.specs.Calls.{opening}

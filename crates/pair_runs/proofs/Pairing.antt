@@ -1,6 +1,6 @@
 -- Pairs by rows and columns, in the encodings of one and two bytes and in gb18030. Assumes nothing.
-use mathlib.Core.Path.{◌≡◌, refl, sym, subst, ap, ◌∙◌}
-use mathlib.Core.Bool.{true, false, and-false}
+use mathlib.Core.Path.{◌≡◌, refl, sym, ap, ◌∙◌}
+use mathlib.Core.Bool.{true, false}
 use mathlib.Core.List.{List, [], ◌∷◌}
 use Prim.Native.Nat.{ℕ, ◌+◌, ◌-◌, ◌*◌, ◌≤◌, ◌<◌}
 use native.Mathlib.Omega.{arith}
@@ -18,9 +18,9 @@ use Rattle.standard.specs.Sequences.EucKr.{euc_kr}
 use Rattle.standard.specs.Sequences.Gb18030.{gb18030}
 use Rattle.standard.specs.Sequences.ShiftJis.{shift_jis}
 use Rattle.standard.proofs.Families.{beyond, is_gb18030, is_big5, is_euc_jp, is_shift_jis, is_euc_kr}
-use Rattle.standard.proofs.Layouts.{Proper, least, ranges_under, number_below, pair_led, pair_under, gb18030_regular, big5_regular, euc_jp-regular, shift_jis-regular, euc_kr-regular}
+use Rattle.standard.proofs.Layouts.{Proper, least, ranges_under, number_below, pair_led, gb18030_regular, big5_regular, euc_jp-regular, shift_jis-regular, euc_kr-regular}
 use Rattle.standard.proofs.UserRows.{shift_jis-other}
-use Rattle.standard.proofs.Tests.{split, under, above, out_above, within_low, within_high}
+use Rattle.standard.proofs.Tests.{split, above, out_above, within_low, within_high}
 use Rattle.index.proofs.Cells.{cell_out}
 use Rattle.layouts.specs.Rows.{no_cell, place, layout_of}
 use Rattle.layouts.specs.Rows.{row as row_in, column as column_in}

@@ -1,5 +1,6 @@
 // The bytes of one scalar in the encodings that write pairs: document 02, Asks 5 to 8. Slots help the search where a text is long and no
 // reverse index is lent.
+#![tactic(auto)]
 
 mod big5;
 mod euc_jp;

@@ -1,1 +1,3 @@
+#![tactic(auto)]
+
 // What is written reads back: specs/ and proofs/. No code.

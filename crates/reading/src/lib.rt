@@ -1,6 +1,7 @@
 // Reading by encoding number: the choice, the run, the feed loop and the end of input.
 // Numbers and the bytes held go in, not a decoder's record.
 // A slice that is passed on is lent anew (`&*`): docs/DECISIONS.md, 45.
+#![tactic(auto)]
 
 pub mod choice;
 pub mod feed;

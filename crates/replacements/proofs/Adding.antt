@@ -5,7 +5,7 @@ use Prim.Native.Nat.{ℕ, ◌+◌, ◌*◌, ◌≤◌}
 use native.Mathlib.Numerals.{add-one}
 use native.Mathlib.Nat.{add-zero}
 use native.Mathlib.Omega.{arith}
-use lib.ListN.{length, set, take, drop, length-append, length-take, take-append-drop}
+use lib.ListN.{length, set, take, drop, length-append, take-append-drop}
 use lib.Seq.{sets-eq, take_at, length-take-le, drop-append-add, drop-drop}
 use Rattle.replacements_spec.specs.Replaced.{Replaced, cells}
 use Rattle.replacements_spec.proofs.Spans.{cells_append, cells_length}

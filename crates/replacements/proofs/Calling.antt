@@ -1,27 +1,24 @@
 -- What the calls leave, by the code's tests. Assumes nothing.
 use mathlib.Core.Path.{◌≡◌, refl, sym, ap, ◌∙◌, subst}
 use mathlib.Core.Bool.{Bool, true, false, ◌&&◌, not}
-use mathlib.Core.List.{List, [], ◌∷◌, ◌++◌}
-use Prim.Native.Nat.{ℕ, ◌+◌, ◌-◌, ◌*◌, ◌≤◌, ◌<◌}
+use mathlib.Core.List.{List, []}
+use Prim.Native.Nat.{ℕ, ◌+◌, ◌-◌, ◌*◌, ◌≤◌}
 use native.Mathlib.Omega.{arith}
 use native.Mathlib.Nat.{zero-add}
 use lib.Dec.{T, ltb, eqb}
 use lib.ListN.{length, take, drop, length-append}
 use lib.Seq.{take-append_seam}
-use borrow.Author.Tests.{eqb-true, eqb-false, ne_eqb, eq-eqb, ltb-true, ltb-false, lt-ltb}
+use borrow.Author.Tests.{eqb-true, eqb-false, ne_eqb, eq-eqb, ltb-true, lt-ltb}
 use Rattle.standard.specs.Base.{◌then◌else◌}
 use Rattle.standard.specs.Encodings.{Tables, family, fits}
-use Rattle.standard.specs.Items.{Item, shown, broken, before}
-use Rattle.standard.specs.Choice.{Parsed}
+use Rattle.standard.specs.Items.{Item, shown, broken}
 use Rattle.decoder.specs.Record.{holding, closed}
 use Rattle.decoder.specs.Valid.{valid}
 use Rattle.decoder.specs.Calls.{Outcome, refuse, hand_out, feed_refusal, read_on, feeding, finish_refusal, read_end, finishing}
 use Rattle.decoder.specs.declared.Decoder.{Decoder}
 use Rattle.decoder.specs.declared.Answer.{Answer}
-use Rattle.demands.proofs.Steps.{handed_is, feed_is, finish_is}
-use Rattle.replacements_spec.specs.Replaced.{Replaced, replaced, cells}
-use Rattle.replacements_spec.specs.Calls.{Handed, Leaves, telling, untold, replaced_by, spans_refusal, feed_tell_refusal, feed_telling, finish_tell_refusal, finish_telling}
-use Rattle.replacements_spec.specs.declared.Replacing.{Replacing}
+use Rattle.replacements_spec.specs.Replaced.{Replaced, cells}
+use Rattle.replacements_spec.specs.Calls.{Handed, Leaves, telling, untold, spans_refusal}
 use Rattle.replacements.specs.Walks.{Adds}
 
 -- What a feed or finish hands out with its items `is`, in mode m: refused with a number, or not.

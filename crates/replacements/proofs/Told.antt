@@ -1,26 +1,24 @@
 -- What accepted calls are to tell, by the code's tests. Assumes nothing.
 use mathlib.Core.Path.{◌≡◌, refl, sym, ap, ◌∙◌, subst}
 use mathlib.Core.Bool.{Bool, true, false, ◌&&◌, not}
-use mathlib.Core.List.{List, [], ◌∷◌, ◌++◌, append-nil}
-use Prim.Native.Nat.{ℕ, zero, suc, ◌+◌, ◌-◌, ◌*◌, ◌/◌, ◌≤◌, ◌<◌}
+use mathlib.Core.List.{List, [], ◌∷◌, ◌++◌}
+use Prim.Native.Nat.{ℕ, suc, ◌+◌, ◌-◌, ◌≤◌}
 use native.Mathlib.Omega.{arith}
 use native.Mathlib.Nat.{add-zero, zero-add}
-use lib.Dec.{T, ltb, leb, eqb, lit≤}
-use lib.ListN.{length, get_or, take, drop, length-append, length-drop}
-use lib.Seq.{take-append_seam}
-use borrow.Author.Tests.{eqb-true, eqb-false, ne_eqb, eq-eqb, ltb-false, leb-true, lt-ltb, le-ltb}
-use Rattle.standard.specs.Base.{◌then◌else◌, line_feeds}
+use lib.Dec.{T, ltb, leb, eqb}
+use lib.ListN.{length, get_or, take, drop, length-drop}
+use borrow.Author.Tests.{eqb-false, ne_eqb, eq-eqb, ltb-false, leb-true}
+use Rattle.standard.specs.Base.{◌then◌else◌}
 use Rattle.standard.specs.Encodings.{Tables, ISO-2022-JP, family, fits, no_tables}
-use Rattle.standard.specs.Sequence.{Shift, Out, text, error, Next, more, item, shift, plain}
+use Rattle.standard.specs.Sequence.{Shift, Out, text, error, Next, more, shift, plain}
 use Rattle.standard.specs.Next.{next}
-use Rattle.standard.specs.Decode.{Item, span, Read, decode, last_out, iso_end, ending, everything, shown, broken, widths}
-use Rattle.standard.specs.Choice.{Choice, waiting, label, marked, choose, reader, spot, Parsed, chosen, read_from, end_from, rests}
-use Rattle.standard.specs.Widths.{Widths}
-use Rattle.standard.proofs.Tests.{and_left, and_right, split}
+use Rattle.standard.specs.Decode.{Item, span, Read, decode, last_out, iso_end, ending, everything, shown, widths}
+use Rattle.standard.specs.Choice.{Choice, waiting, label, marked, choose, reader, spot, chosen, read_from, end_from, rests}
+use Rattle.standard.proofs.Tests.{and_left}
 use Rattle.standard.proofs.Stages.{at_mark, read_on_lem, read_choice}
 use Rattle.standard.proofs.Reading.{ending_any, no_bytes}
 use Rattle.standard.proofs.Widths.{all_widths}
-use Rattle.sequences.specs.Code.{next_of, out_of, front}
+use Rattle.sequences.specs.Code.{next_of, front}
 use Rattle.sequences.specs.declared.Sequence.{Sequence}
 use Rattle.reading.specs.Reading.{chosen_of, start_of}
 use Rattle.reading.specs.declared.feed.Start.{Start}
@@ -28,15 +26,13 @@ use Rattle.reading.proofs.Loop.{item_of}
 use Rattle.reading.proofs.Ends.{iso_end-any, one_byte, other_error}
 use Rattle.decoder.specs.Record.{spot_of, held_of}
 use Rattle.decoder.specs.Valid.{possible_at, valid_rest, valid}
-use Rattle.decoder.specs.Calls.{Outcome, refuse, feed_refusal, read_on, feeding, finish_refusal, read_end, finishing}
+use Rattle.decoder.specs.Calls.{feed_refusal, finish_refusal, read_end}
 use Rattle.decoder.specs.declared.Decoder.{Decoder}
-use Rattle.decoder.specs.declared.Answer.{Answer}
 use Rattle.decoder.proofs.Parts.{parts}
-use Rattle.replacements_spec.specs.Replaced.{Replaced, replaced, cells}
-use Rattle.replacements_spec.specs.Calls.{Handed, Leaves, telling, untold, replaced_by, spans_refusal, feed_tell_refusal, feed_telling, finish_tell_refusal, finish_telling}
-use Rattle.replacements_spec.specs.declared.Replacing.{Replacing}
+use Rattle.replacements_spec.specs.Replaced.{Replaced, replaced}
+use Rattle.replacements_spec.specs.Calls.{replaced_by}
 use Rattle.replacements_spec.proofs.Spans.{replaced_append, sound_none, decode_wide, replaced_few}
-use Rattle.replacements.specs.Walks.{at, replacing, is_error, read_by, Walks, Adds, Fed, Finished}
+use Rattle.replacements.specs.Walks.{at, replacing, is_error, read_by, Walks, Adds}
 use Rattle.replacements.specs.declared.Walked.{Walked}
 use Rattle.replacements.proofs.Scan.{unshown_sound}
 

@@ -8,9 +8,9 @@ use lib.ListN.{length, take, drop, length-append, length-drop}
 use lib.Seq.{take_at, drop-append-add, drop-drop}
 use borrow.Author.Tests.{ne_eqb, eq-eqb}
 use Rattle.standard.specs.Encodings.{Tables, family}
-use Rattle.standard.specs.Sequence.{Shift, Out, text, error, more, item, shift}
+use Rattle.standard.specs.Sequence.{Shift, Out, text, error, item, shift}
 use Rattle.standard.specs.Next.{next}
-use Rattle.standard.specs.Decode.{Item, span, Read, put, decode, widths}
+use Rattle.standard.specs.Decode.{span, Read, put, decode, widths}
 use Rattle.standard.proofs.FamilyLaws.{keeps, next_laws}
 use Rattle.standard.proofs.Walk.{at_item, decode_more, decode_item}
 use Rattle.sequences.specs.Code.{next_of, out_of}

@@ -1,15 +1,12 @@
 -- What the functions within the calls answer. A wrong line here would break a proof. Assumes nothing.
-use Rattle.std.specs.Prelude.{◌≡◌, Bool, true, false, ◌||◌, List, [], ◌∷◌, ◌++◌, ℕ, ◌+◌, ◌-◌, ◌*◌, ◌≤◌, eqb, length, take, drop}
-use Rattle.standard.specs.Encodings.{Tables, family, no_tables}
+use Rattle.std.specs.Prelude.{◌≡◌, Bool, true, false, ◌||◌, List, [], ◌∷◌, ◌++◌, ℕ, ◌+◌, ◌*◌, ◌≤◌, eqb, length, take, drop}
+use Rattle.standard.specs.Encodings.{Tables, family}
 use Rattle.standard.specs.Sequence.{Out, text, error, shift}
-use Rattle.standard.specs.Items.{Item, span, Read, shown}
+use Rattle.standard.specs.Items.{span, Read, shown}
 use Rattle.standard.specs.Next.{next}
 use Rattle.standard.specs.Decode.{decode}
-use Rattle.standard.specs.Choice.{Parsed}
 use Rattle.sequences.specs.Code.{out_of}
 use Rattle.sequences.specs.declared.Sequence.{Sequence}
-use Rattle.reading.specs.declared.Held.{Held}
-use Rattle.decoder.specs.Record.{held_of}
 use Rattle.decoder.specs.Calls.{feed_refusal, read_on, finish_refusal}
 use Rattle.decoder.specs.declared.Decoder.{Decoder}
 use Rattle.replacements_spec.specs.Replaced.{Replaced, replaced, cells}

@@ -1,4 +1,5 @@
 // Document 02, Ask 12: a feed and a finish that also tell which sequences were replaced, each with its place and its width.
+#![tactic(auto)]
 
 ghost use Rattle.std.specs.Prelude.{◌≡◌, not, ◌++◌, ◌∷◌, [], ◌+◌, ◌-◌, ◌*◌, ◌≤◌, ◌<◌, ltb, eqb, length, take, drop};
 ghost use Rattle.standard.specs.Base.{◌then◌else◌};

@@ -1,12 +1,11 @@
 -- Items share the bytes out: each byte has one item, and the replaced sequences are those of the errors. Assumes nothing.
-use mathlib.Core.Path.{◌≡◌, refl, sym, ap, ◌∙◌}
+use mathlib.Core.Path.{◌≡◌, refl, ◌∙◌}
 use mathlib.Core.Bool.{Bool, true, false, ◌&&◌, and-false}
 use mathlib.Core.List.{List, [], ◌∷◌}
 use Prim.Native.Nat.{ℕ, ◌+◌, ◌≤◌, ◌<◌}
 use native.Mathlib.Omega.{arith}
 use lib.Dec.{ltb, leb}
 use borrow.Author.Tests.{lt-ltb, le-ltb, le-leb, lt-leb, ltb-true, ltb-false}
-use Rattle.standard.specs.Base.{◌then◌else◌}
 use Rattle.standard.specs.Sequence.{Out, text, error}
 use Rattle.standard.specs.Items.{Item, span, widths}
 use Rattle.replacements_spec.specs.Replaced.{Replaced, replaced}

@@ -1,18 +1,18 @@
 -- The replaced sequences of items joined, their cells, and that every item has a byte or more. Assumes nothing.
 use mathlib.Core.Path.{◌≡◌, refl, sym, ap, ◌∙◌, subst}
-use mathlib.Core.Bool.{Bool, true, false, ◌&&◌}
-use mathlib.Core.List.{List, [], ◌∷◌, ◌++◌, append_assoc}
-use Prim.Native.Nat.{ℕ, suc, ◌+◌, ◌*◌, ◌≤◌}
+use mathlib.Core.Bool.{Bool, true, false}
+use mathlib.Core.List.{List, [], ◌∷◌, ◌++◌}
+use Prim.Native.Nat.{ℕ, ◌+◌, ◌*◌, ◌≤◌}
 use native.Mathlib.Omega.{arith}
 use lib.Dec.{T, eqb, lit≤}
-use lib.ListN.{length, take, drop, length-append}
+use lib.ListN.{length, take}
 use lib.Seq.{take_at}
 use Rattle.standard.specs.Base.{◌then◌else◌}
 use Rattle.standard.specs.Encodings.{Tables, Family, UTF-8, single-byte, windows-1252, GB18030, Big5, EUC-JP, ISO-2022-JP, Shift-JIS, EUC-KR, Replacement, UTF-16BE, UTF-16LE, x-user-defined, family, no_tables}
-use Rattle.standard.specs.Sequence.{Shift, Out, text, error, Next, plain}
+use Rattle.standard.specs.Sequence.{Shift, text, error, plain}
 use Rattle.standard.specs.Next.{next}
-use Rattle.standard.specs.Decode.{Item, span, Read, decode, one_error, iso_end, ending, everything, shown, broken, widths, reach}
-use Rattle.standard.specs.Choice.{Choice, waiting, label, marked, choose, reader, mark_width, Spot, Parsed, chosen, read_from, end_from, everything_from}
+use Rattle.standard.specs.Decode.{Item, span, decode, one_error, iso_end, ending, everything, broken, widths, reach}
+use Rattle.standard.specs.Choice.{Choice, waiting, label, marked, choose, reader, mark_width, Spot, chosen, read_from, end_from, everything_from}
 use Rattle.standard.proofs.FamilyLaws.{keeps, next_laws}
 use Rattle.standard.proofs.Walk.{at_item, walk}
 use Rattle.standard.proofs.Stages.{at_mark, read_on_lem, read_choice}

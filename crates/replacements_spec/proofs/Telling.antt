@@ -1,23 +1,23 @@
 -- What accepted calls tell, and the decoder they leave. Assumes nothing.
 use mathlib.Core.Path.{◌≡◌, refl, sym, ap, ◌∙◌, subst}
-use mathlib.Core.Bool.{Bool, true, false, ◌&&◌}
+use mathlib.Core.Bool.{Bool, true, false}
 use mathlib.Core.List.{List, [], ◌∷◌, ◌++◌, append-nil, append_assoc}
-use Prim.Native.Nat.{ℕ, ◌+◌, ◌-◌, ◌*◌, ◌≤◌}
+use Prim.Native.Nat.{ℕ, ◌+◌, ◌-◌, ◌≤◌}
 use native.Mathlib.Omega.{arith}
-use lib.Dec.{T, ltb, eqb}
-use lib.ListN.{length, take, drop, length-append}
-use borrow.Author.Tests.{eqb-true, eqb-false, ltb-false}
-use Rattle.standard.specs.Base.{◌then◌else◌, line_feeds}
+use lib.Dec.{eqb}
+use lib.ListN.{length, length-append}
+use borrow.Author.Tests.{eqb-true}
+use Rattle.standard.specs.Base.{line_feeds}
 use Rattle.standard.specs.Encodings.{Tables}
 use Rattle.standard.specs.Items.{Item, shown, widths}
-use Rattle.standard.specs.Choice.{Spot, Parsed, everything_from}
+use Rattle.standard.specs.Choice.{Spot, everything_from}
 use Rattle.standard.proofs.Stages.{Rests, rests_few, parsing, all_rest, all_cut}
 use Rattle.decoder.specs.Record.{holding}
-use Rattle.decoder.specs.Calls.{Outcome, feed_refusal, feeding, finish_refusal, finishing}
+use Rattle.decoder.specs.Calls.{Outcome, feed_refusal, feeding, finishing}
 use Rattle.decoder.proofs.Records.{bit_back, held_holding}
 use Rattle.decoder.specs.declared.Decoder.{Decoder}
-use Rattle.demands.proofs.Steps.{read_of, end_of, onward, feed_holding, finish_holding}
-use Rattle.replacements_spec.specs.Replaced.{Replaced, replaced, cells}
+use Rattle.demands.proofs.Steps.{read_of, end_of, onward, feed_holding}
+use Rattle.replacements_spec.specs.Replaced.{replaced, cells}
 use Rattle.replacements_spec.specs.Calls.{Handed, telling, spans_refusal, feed_tell_refusal, feed_telling, finish_tell_refusal, finish_telling}
 use Rattle.replacements_spec.specs.Statements.{Piece, joined, told, fed, told_by, Accepts}
 use Rattle.replacements_spec.proofs.Spans.{replaced_append, cells_append, cells_front}

@@ -1,15 +1,15 @@
 -- The theorems of specs/Statements.antt. Assumes nothing.
 use mathlib.Core.Path.{◌≡◌, refl, sym, ap, ◌∙◌, subst}
 use mathlib.Core.Logic.{◌↔◌}
-use mathlib.Core.Bool.{Bool, true, false, ◌&&◌}
-use mathlib.Core.List.{List, [], ◌∷◌, ◌++◌}
-use Prim.Native.Nat.{ℕ, ◌+◌, ◌≤◌, ◌<◌}
+use mathlib.Core.Bool.{Bool, true, false}
+use mathlib.Core.List.{List, [], ◌∷◌}
+use Prim.Native.Nat.{ℕ, ◌+◌}
 use native.Mathlib.Omega.{arith}
 use native.Mathlib.Nat.{zero-add}
-use lib.Dec.{T, lit≤}
-use lib.ListN.{length, replicate, length-append}
-use Rattle.standard.specs.Base.{◌then◌else◌, line_feeds}
-use Rattle.standard.specs.Encodings.{Tables, no_tables}
+use lib.Dec.{lit≤}
+use lib.ListN.{length, length-append}
+use Rattle.standard.specs.Base.{line_feeds}
+use Rattle.standard.specs.Encodings.{Tables}
 use Rattle.standard.specs.Items.{Item, broken, before, widths, reach}
 use Rattle.standard.specs.Choice.{Spot, everything_from, read_from, end_from}
 use Rattle.standard.proofs.Items.{widths_append}
@@ -18,7 +18,7 @@ use Rattle.decoder.specs.Record.{new_spot}
 use Rattle.decoder.specs.Calls.{open_refusal}
 use Rattle.decoder.specs.declared.Decoder.{Decoder}
 use Rattle.demands.specs.Histories.{History, start}
-use Rattle.demands.specs.Statements.{cutting, Report, reports, Account, account}
+use Rattle.demands.specs.Statements.{cutting, reports, Account, account}
 use Rattle.demands.specs.Statements.{Piece as Feed, joined as joined_feeds, Accepts as AcceptsFeeds}
 use Rattle.demands.specs.Whole.{dealt, whole_account}
 use Rattle.demands.proofs.Cutting.{cut_is_whole}

@@ -9,7 +9,7 @@ use Rattle.standard.specs.Choice.{everything_from}
 use Rattle.decoder.specs.Record.{new_spot}
 use Rattle.decoder.specs.declared.Decoder.{Decoder}
 use Rattle.demands.specs.Histories.{start}
-use Rattle.demands.specs.Statements.{cutting, Report, reports}
+use Rattle.demands.specs.Statements.{cutting, reports}
 use Rattle.demands.specs.Statements.{Piece as Feed, joined as joined_feeds, Accepts as AcceptsFeeds}
 use Rattle.replacements_spec.specs.Replaced.{Replaced, replaced, cells}
 use Rattle.replacements_spec.specs.Calls.{Handed, feed_tell_refusal, feed_telling, finish_tell_refusal, finish_telling}

@@ -1,4 +1,5 @@
 // What a feed and a finish answer that also tell what was replaced. No code: crate replacements has it.
+#![tactic(auto)]
 
 use decoder::Answer;
 

@@ -1,4 +1,5 @@
 // An index beside a table, by the upper part of the code point: document 02, Ask 8.
+#![tactic(auto)]
 
 mod links;
 mod walks;

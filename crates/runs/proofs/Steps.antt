@@ -5,7 +5,7 @@ use Prim.Native.Nat.{ℕ, ◌+◌, ◌≤◌}
 use native.Mathlib.Omega.{arith}
 use lib.ListN.{length, drop, set, length-drop}
 use Rattle.standard.specs.Encodings.{Family, Tables}
-use Rattle.standard.specs.Sequence.{Shift, Out, text, error, more, item}
+use Rattle.standard.specs.Sequence.{Shift, Out, text, more, item}
 use Rattle.standard.specs.Next.{next}
 use Rattle.standard.proofs.FamilyLaws.{keeps, next_laws}
 use Rattle.standard.proofs.Walk.{at_item}

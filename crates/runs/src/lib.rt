@@ -1,6 +1,7 @@
 // What runs share: a place, the guard, the sequence at a place, and stretches of ASCII.
 // A run goes over part of a chunk, sequence after sequence. It may stop anywhere; what it has read stands in the room.
 // A slice that is passed on is lent anew (`&*`): docs/DECISIONS.md, 45.
+#![tactic(auto)]
 
 pub mod ascii;
 

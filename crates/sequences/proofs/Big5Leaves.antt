@@ -1,5 +1,5 @@
 -- Big5, leaf by leaf. Assumes nothing.
-use mathlib.Core.Path.{◌≡◌, sym, ap, ◌∙◌}
+use mathlib.Core.Path.{◌≡◌, ◌∙◌}
 use mathlib.Core.Bool.{true, false}
 use mathlib.Core.List.{List, [], ◌∷◌}
 use Prim.Native.Nat.{ℕ, ◌+◌, ◌-◌, ◌≤◌, ◌<◌}
@@ -7,7 +7,6 @@ use native.Mathlib.Omega.{arith}
 use lib.Dec.{eqb, lit≤}
 use lib.ListN.{take}
 use borrow.Author.Tests.{le-ltb, lt-ltb, ne_eqb}
-use Rattle.standard.specs.Base.{◌then◌else◌}
 use Rattle.standard.specs.Encodings.{Tables}
 use Rattle.standard.specs.Layouts.{leads, trails, pointer_of, pair_code, big5_layout}
 use Rattle.standard.specs.Sequence.{Next, more, await, item, text, plain, scalar, bad, pair}

@@ -14,7 +14,7 @@ use Rattle.standard.specs.Sequences.ShiftJis.{shift_jis, shift_jis_code}
 use Rattle.standard.proofs.Layouts.{shift_jis-low, shift_jis-no_kana}
 use Rattle.standard.proofs.Tests.{in_range}
 use Rattle.standard.proofs.UserRows.{shift_jis-private, shift_jis-indexed}
-use Rattle.layouts.specs.Rows.{no_cell, row, column}
+use Rattle.layouts.specs.Rows.{row, column}
 use Rattle.layouts.proofs.Rows.{led, trailed, by_row}
 
 module _ (t : Tables) (n b c : ℕ) (xs : List ℕ) where

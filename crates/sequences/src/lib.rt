@@ -1,5 +1,6 @@
 // The sequence at the front of up to four bytes, for every encoding.
 // A slice that is passed on is lent anew (`&*`): docs/DECISIONS.md, 45.
+#![tactic(auto)]
 
 pub mod big5;
 pub mod euc_jp;

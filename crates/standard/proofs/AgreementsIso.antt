@@ -13,7 +13,7 @@ use Rattle.standard.specs.Indexes.{index_code_point}
 use Rattle.standard.specs.Machine.{Token, token, end_of-stream, finished, continue, tokens, Step, return, stream}
 use Rattle.standard.specs.Machine.{error as failed}
 use Rattle.standard.specs.Handlers.{or_error, State, ASCII, Roman, katakana, lead_byte, trail_byte, escape_start, escape, Iso2022JpVariables, escape_state, after_escape, iso2022_jp_at, held_iso2022_jp, decoder}
-use Rattle.standard.specs.Sequence.{Shift, Out, text, error, Next, more, item, shift, cell}
+use Rattle.standard.specs.Sequence.{Shift, text, error, Next, more, item, shift, cell}
 use Rattle.standard.specs.Layouts.{leads, trails, pointer_of, iso2022_jp_layout}
 use Rattle.standard.specs.Sequences.Iso2022Jp.{iso2022_jp, escaped, byte_out, code_out, escape_end, trail_next}
 use Rattle.standard.specs.Next.{next}

@@ -7,7 +7,7 @@ use native.Mathlib.Omega.{arith}
 use lib.Count.{count_leading_zeros}
 use lib.Dec.{eqb}
 use borrow.Author.Tests.{not-true, le-ltb, eq-eqb, ne_eqb}
-use Rattle.standard.specs.Base.{◌then◌else◌, within}
+use Rattle.standard.specs.Base.{within}
 use Rattle.standard.specs.Leads.{lead_length, how_many, how_many_lead, LeadRule}
 use Rattle.standard.specs.Sequence.{await, bad}
 use Rattle.standard.specs.Sequences.Utf8.{utf8, utf8_two, utf8_three, utf8_four}

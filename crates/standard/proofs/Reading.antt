@@ -2,7 +2,7 @@
 use mathlib.Core.Path.{◌≡◌, refl, sym, ap, ◌∙◌}
 use mathlib.Core.Bool.{Bool, true, false}
 use mathlib.Core.List.{List, [], ◌∷◌, ◌++◌, append_assoc, append-nil}
-use Prim.Native.Nat.{ℕ, suc, ◌+◌, ◌≤◌}
+use Prim.Native.Nat.{ℕ, suc, ◌≤◌}
 use native.Mathlib.Omega.{arith}
 use lib.Dec.{T, ltb, lit≤}
 use lib.ListN.{length, take, drop, length-append, take-append-drop}
@@ -12,7 +12,7 @@ use Rattle.standard.specs.Encodings.{Tables, Family, UTF-8, single-byte, windows
 use Rattle.standard.specs.Sequence.{Shift, Out, Next, more, item}
 use Rattle.standard.specs.Sequences.Iso2022Jp.{iso2022_jp}
 use Rattle.standard.specs.Next.{next}
-use Rattle.standard.specs.Decode.{Item, span, Read, put, decode, widths, one_error, last_out, iso_end, ending, given, shown}
+use Rattle.standard.specs.Decode.{Item, Read, put, decode, widths, one_error, last_out, iso_end, ending, given, shown}
 use Rattle.standard.proofs.Laws.{Laws, none0, none1}
 use Rattle.standard.proofs.FamilyLaws.{keeps, next_laws}
 use Rattle.standard.proofs.Walk.{stop, at_item, nothing, walk}

@@ -11,7 +11,6 @@ use borrow.Author.Tests.{ltb-true, ltb-false, eqb-true, eqb-false, le-ltb, ne_eq
 use Rattle.standard.specs.Base.{◌then◌else◌, within}
 use Rattle.standard.specs.Encodings.{Tables}
 use Rattle.standard.specs.Indexes.{ranges_code_point, ranges_pointer}
-use Rattle.standard.specs.Machine.{Result}
 use Rattle.standard.specs.Sequence.{scalar}
 use Rattle.standard.specs.Layouts.{trails, pair_code, gb18030_layout, big5_layout, euc_kr_layout}
 use Rattle.standard.specs.Sequences.Gb18030.{gb18030, gb18030_four_code, gb18030_four_pointer}

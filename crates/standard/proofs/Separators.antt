@@ -1,7 +1,7 @@
 -- Where an encoding keeps separators: none is held, and those handed out are those read, also up to the first error. Assumes nothing.
 use mathlib.Core.Path.{◌≡◌, refl, sym, ap, ◌∙◌}
 use mathlib.Core.List.{List, [], ◌++◌, append-nil}
-use Prim.Native.Nat.{ℕ, ◌+◌}
+use Prim.Native.Nat.{ℕ}
 use lib.Dec.{T}
 use lib.ListN.{take, drop}
 use lib.Seq.{take-add}

@@ -10,7 +10,7 @@ use lib.Seq.{length-take-le, drop-append-le}
 use borrow.Author.Tests.{eqb-true, eqb-false, ne_eqb}
 use Rattle.standard.specs.Base.{◌then◌else◌, separators}
 use Rattle.standard.specs.Encodings.{Tables, Family, family, no_tables}
-use Rattle.standard.specs.Sequence.{Shift, Next, more, item, shift, plain}
+use Rattle.standard.specs.Sequence.{Shift, Next, more, item, plain}
 use Rattle.standard.specs.Next.{next}
 use Rattle.standard.specs.Decode.{Item, decode, ending, shown, widths, everything}
 use Rattle.standard.proofs.Laws.{none0, none1, none2, none3}

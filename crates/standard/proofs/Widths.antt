@@ -7,7 +7,7 @@ use lib.ListN.{length, length-append}
 use Rattle.standard.specs.Encodings.{Tables, Family}
 use Rattle.standard.specs.Sequence.{Shift}
 use Rattle.standard.specs.Next.{next}
-use Rattle.standard.specs.Decode.{Read, decode, widths, ending, everything}
+use Rattle.standard.specs.Decode.{decode, widths, ending, everything}
 use Rattle.standard.specs.Widths.{Widths}
 use Rattle.standard.proofs.FamilyLaws.{keeps, next_laws}
 use Rattle.standard.proofs.Items.{widths_append}

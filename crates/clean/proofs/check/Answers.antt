@@ -1,6 +1,5 @@
 use mathlib.Core.Path.{◌≡◌, sym, ◌∙◌}
 use mathlib.Core.Bool.{true}
-use borrow.Author.Rules.{rules}
 use borrow.Author.Tests.{lt-ltb, le-ltb}
 use Rattle.standard.specs.Encodings.{family, Tables, lent, fits}
 use Rattle.clean.specs.Checking.{check_refusal, checking}
@@ -14,7 +13,7 @@ tables c = lent c.args.t1.now c.args.t2.now
 fit : (c : Then-tables_fit) → fits (family c.args.encoding) (tables (goal.at.Then-tables_fit c).After-tables_fit) ≡ true
 fit c = sym c.tables_fit.ensures ∙ c.if-tables_fit.true
 
-passed : (c : Else-bytes-gt65536) →    check_refusal c.args.encoding (tables (goal.at.Else-bytes-gt65536 c).After-tables_fit) c.args.bytes.now ≡ 0
+passed : (c : Else-bytes-gt65536) → check_refusal c.args.encoding (tables (goal.at.Else-bytes-gt65536 c).After-tables_fit) c.args.bytes.now ≡ 0
 unfolding check_refusal
 passed c = rw (le-ltb 39 _ c.if-encoding-gt39.false, fit (goal.at.Else-bytes-gt65536 c).Then-tables_fit, le-ltb 65536 _ c.if-bytes-gt65536.false)
 

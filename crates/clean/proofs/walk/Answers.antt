@@ -1,7 +1,6 @@
 use mathlib.Core.Path.{◌≡◌, refl, sym, ◌∙◌}
 use mathlib.Core.List.{List, [], ◌++◌}
-use Prim.Native.Nat.{ℕ, ◌+◌, ◌-◌, ◌≤◌, ◌<◌}
-use borrow.Author.Rules.{rules}
+use Prim.Native.Nat.{ℕ, ◌+◌, ◌-◌, ◌≤◌}
 use native.Mathlib.Omega.{arith}
 use lib.ListN.{length, take, drop, length-take, length-drop, drop_of_length-le}
 use Rattle.standard.specs.Encodings.{Tables, lent}
@@ -70,15 +69,14 @@ returns-then-fed-eq11 c =
     (walked (goal.at.returns-then-fed-eq11 c).After-feed-fed) (few (goal.at.returns-then-fed-eq11 c).After-feed-fed) (fits (goal.at.returns-then-fed-eq11 c).After-feed-fed) c.feed-fed.result c.feed-fed.ensures.0 (simp length-drop (omega arith)) c.if-fed-eq11.true)
 
 pub loop-at-preserved : goal.loop-at-preserved
-loop-at-preserved c =
-    (
-      c.part_end-end.ensures.1,
-      c.loop-at.invariant.1,
-      c.feed-fed.auto.room ∙ c.loop-at.invariant.2,
-      c.loop-at.invariant.3,
-      walked_on (tables (goal.at.loop-at-preserved c).At-loop-at) (answer (goal.at.loop-at-preserved c).At-loop-at) c.loop-at.decoder (part (goal.at.loop-at-preserved c).After-feed-fed) c.loop-at.room (rest (goal.at.loop-at-preserved c).After-feed-fed)
-          (walked (goal.at.loop-at-preserved c).After-feed-fed) (few (goal.at.loop-at-preserved c).After-feed-fed) (fits (goal.at.loop-at-preserved c).After-feed-fed) c.feed-fed.result c.feed-fed.ensures.0 c.if-fed-eq11.false,
-    )
+loop-at-preserved c = (
+  c.part_end-end.ensures.1,
+  c.loop-at.invariant.1,
+  c.feed-fed.auto.room ∙ c.loop-at.invariant.2,
+  c.loop-at.invariant.3,
+  walked_on (tables (goal.at.loop-at-preserved c).At-loop-at) (answer (goal.at.loop-at-preserved c).At-loop-at) c.loop-at.decoder (part (goal.at.loop-at-preserved c).After-feed-fed) c.loop-at.room (rest (goal.at.loop-at-preserved c).After-feed-fed)
+      (walked (goal.at.loop-at-preserved c).After-feed-fed) (few (goal.at.loop-at-preserved c).After-feed-fed) (fits (goal.at.loop-at-preserved c).After-feed-fed) c.feed-fed.result c.feed-fed.ensures.0 c.if-fed-eq11.false,
+)
 
 pub shape_of-room-then-last-eq11 : goal.shape_of-room-then-last-eq11
 shape_of-room-then-last-eq11 c = c.finish-last.auto.room ∙ c.loop-at.invariant.2

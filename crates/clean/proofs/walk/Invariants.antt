@@ -1,14 +1,9 @@
-use mathlib.Core.Path.{◌≡◌, refl, sym, ◌∙◌}
-use mathlib.Core.List.{List, [], ◌++◌}
-use Prim.Native.Nat.{ℕ, ◌+◌, ◌-◌, ◌≤◌, ◌<◌}
-use borrow.Author.Rules.{rules}
-use native.Mathlib.Omega.{arith}
-use lib.ListN.{length, take, drop, length-take, length-drop, drop_of_length-le}
-use Rattle.standard.specs.Encodings.{Tables, lent}
+use mathlib.Core.Path.{◌≡◌}
+use Prim.Native.Nat.{◌-◌, ◌≤◌, ◌<◌}
+use lib.ListN.{length, drop}
+use Rattle.standard.specs.Encodings.{lent}
 use Rattle.clean.specs.Checking.{checking}
-use Rattle.clean.specs.declared.Checked.{Checked}
-use Rattle.clean.proofs.Theorems.{accepted}
-use Rattle.clean.proofs.Walking.{Walked, walked_none, cut_at, walked_on, walked_fault, walked_end_fault, walked_clean}
+use Rattle.clean.proofs.Walking.{Walked}
 use Rattle.clean.proofs.walk.Given as goal
 
 -- What was fed so far was not reported, and the answer is that of the rest. What falls is the bytes that are left.

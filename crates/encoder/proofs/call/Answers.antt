@@ -3,7 +3,6 @@ use Rattle.standard.specs.Encodings.{lent}
 use Rattle.reverse_index_spec.specs.ReverseIndex.{look_up}
 use Rattle.encoder.proofs.Calls.{accepted, tells_refusal, tells_written}
 use mathlib.Core.Path.{sym, ◌∙◌}
-use borrow.Author.Rules.{rules}
 use Rattle.encoder.proofs.call.Goals as goal
 
 pub returns-then-refused-ne0 : goal.returns-then-refused-ne0

@@ -1,7 +1,6 @@
 -- `finish`: 5, 7, or a return to ASCII. Assumes nothing.
 use Rattle.encoder.proofs.Calls.{finish_5, finish_7, finish_writes}
 use native.Mathlib.Omega.{arith}
-use borrow.Author.Rules.{rules}
 use Rattle.encoder.proofs.finish.Goals as goal
 
 pub returns-then-state-gt2 : goal.returns-then-state-gt2

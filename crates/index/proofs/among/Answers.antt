@@ -1,8 +1,5 @@
-use mathlib.Core.Path.{◌≡◌, ap, ◌∙◌}
-use Prim.Native.Nat.{ℕ, ◌+◌, ◌-◌, ◌≤◌}
-use Rattle.index.specs.IndexCode.{Absent}
-use Rattle.index.proofs.Search.{absent_none, absent_on, counts_none}
-use borrow.Author.Rules.{rules}
+use mathlib.Core.Path.{◌≡◌}
+use Rattle.index.proofs.Search.{absent_on, counts_none}
 use native.Mathlib.Omega.{arith}
 use Rattle.index.proofs.among.Goals as goal
 

@@ -1,11 +1,8 @@
 -- `among`. The loop's invariant: n of the i cells before this one are `c`, and where it is 0 none is.
 -- What falls at each turn is the number of cells left. Assumes nothing.
-use mathlib.Core.Path.{◌≡◌, ap, ◌∙◌}
-use Prim.Native.Nat.{ℕ, ◌+◌, ◌-◌, ◌≤◌}
+use mathlib.Core.Path.{◌≡◌}
+use Prim.Native.Nat.{◌+◌, ◌-◌, ◌≤◌}
 use Rattle.index.specs.IndexCode.{Absent}
-use Rattle.index.proofs.Search.{absent_none, absent_on, counts_none}
-use borrow.Author.Rules.{rules}
-use native.Mathlib.Omega.{arith}
 use Rattle.index.proofs.among.Given as goal
 
 abbrev pub invariant-loop-i : goal.invariant-loop-i

@@ -2,7 +2,6 @@
 use mathlib.Core.Path.{sym, ◌∙◌}
 use Rattle.index.proofs.Cells.{cell_out, cell_mapped, cell_unmapped}
 use native.Mathlib.Omega.{arith}
-use borrow.Author.Rules.{rules}
 use Rattle.index.proofs.cell.Goals as goal
 
 pub returns-then-table-p : goal.returns-then-table-p

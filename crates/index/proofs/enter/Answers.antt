@@ -1,7 +1,6 @@
 -- `enter`: no cell, a used cell, a free one. Assumes nothing.
 use Rattle.index_spec.proofs.Call.{enter_out, enter_full, enter_free}
 use Rattle.index.proofs.Search.{told}
-use borrow.Author.Rules.{rules}
 use Rattle.index.proofs.enter.Goals as goal
 
 pub returns-then-table-at : goal.returns-then-table-at

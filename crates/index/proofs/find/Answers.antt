@@ -1,9 +1,5 @@
 use Rattle.index.proofs.Search.{stretch_end, stretch_past}
-use Rattle.standard.specs.Search.{pointer_from}
-use lib.Seq.{slice}
-use mathlib.Core.Path.{◌≡◌, refl, ◌∙◌}
-use Prim.Native.Nat.{◌-◌}
-use borrow.Author.Rules.{rules}
+use mathlib.Core.Path.{◌∙◌}
 use native.Mathlib.Omega.{arith}
 use Rattle.index.proofs.find.Goals as goal
 

@@ -1,12 +1,9 @@
 -- `find`. The loop's invariant: the search from i on gives what it gives from `start` on.
 -- What falls at each turn is the number of cells left. Assumes nothing.
-use Rattle.index.proofs.Search.{stretch_end, stretch_past}
 use Rattle.standard.specs.Search.{pointer_from}
 use lib.Seq.{slice}
-use mathlib.Core.Path.{◌≡◌, refl, ◌∙◌}
+use mathlib.Core.Path.{◌≡◌}
 use Prim.Native.Nat.{◌-◌}
-use borrow.Author.Rules.{rules}
-use native.Mathlib.Omega.{arith}
 use Rattle.index.proofs.find.Given as goal
 
 abbrev pub invariant-loop-i : goal.invariant-loop-i

@@ -1,8 +1,5 @@
 use Rattle.index.proofs.Search.{stretch_end, stretch_found, stretch_on}
-use Rattle.standard.specs.Search.{pointer_from}
-use lib.Seq.{slice}
-use mathlib.Core.Path.{◌≡◌, refl, ◌∙◌}
-use Prim.Native.Nat.{◌-◌}
+use mathlib.Core.Path.{refl, ◌∙◌}
 use borrow.Author.Rules.{rules}
 use Rattle.index.proofs.find_each.Goals as goal
 

@@ -1,5 +1,4 @@
 -- `first_fits`: the test of the length. Assumes nothing.
-use borrow.Author.Rules.{rules}
 use Rattle.index.proofs.first_fits.Goals as goal
 
 pub returns : goal.returns

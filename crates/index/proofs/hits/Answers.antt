@@ -1,8 +1,6 @@
 -- `hits`, by its tests. Assumes nothing.
 use mathlib.Core.Path.{sym, ◌∙◌}
-use borrow.Author.Tests.{not-true, not-false}
 use Rattle.index.proofs.Search.{hit_other, hit_unmapped, hit_below, hit_behind}
-use borrow.Author.Rules.{rules}
 use Rattle.index.proofs.hits.Goals as goal
 
 pub returns-then-x-c : goal.returns-then-x-c

@@ -1,11 +1,9 @@
 -- `index_line`: a line that is too long, and each reading of another. Assumes nothing.
-use Rattle.index.specs.IndexCode.{read_of}
-use mathlib.Core.Path.{ap, sym}
+use mathlib.Core.Path.{sym}
 use Rattle.index_spec.specs.IndexRead.{no_entry, bad, entry}
 use Rattle.index_spec.proofs.Call.{long, short}
 use Rattle.index.proofs.Search.{told}
 use mathlib.Core.Path.{◌∙◌}
-use borrow.Author.Rules.{rules}
 use Rattle.index.proofs.index_line.Goals as goal
 
 pub returns-then-line-gt1024 : goal.returns-then-line-gt1024

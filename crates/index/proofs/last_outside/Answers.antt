@@ -1,8 +1,5 @@
 use mathlib.Core.Path.{◌≡◌, sym, ◌∙◌}
-use Prim.Native.Nat.{◌≤◌}
-use lib.ListN.{length}
-use Rattle.index.proofs.Search.{NoneFrom, last_start, last_on, last_found, last_none}
-use borrow.Author.Rules.{rules}
+use Rattle.index.proofs.Search.{last_start, last_on, last_found, last_none}
 use native.Mathlib.Omega.{arith}
 use Rattle.index.proofs.last_outside.Goals as goal
 

@@ -1,10 +1,7 @@
 -- `last_outside`. The loop's invariant: no pointer from p on counts. What falls at each turn is p. Assumes nothing.
-use mathlib.Core.Path.{◌≡◌, sym, ◌∙◌}
 use Prim.Native.Nat.{◌≤◌}
 use lib.ListN.{length}
-use Rattle.index.proofs.Search.{NoneFrom, last_start, last_on, last_found, last_none}
-use borrow.Author.Rules.{rules}
-use native.Mathlib.Omega.{arith}
+use Rattle.index.proofs.Search.{NoneFrom}
 use Rattle.index.proofs.last_outside.Given as goal
 
 abbrev pub invariant-loop-p : goal.invariant-loop-p

@@ -4,7 +4,6 @@ use Rattle.standard.specs.Search.{pointer_from}
 use Prim.Native.Nat.{ℕ}
 use mathlib.Core.List.{List}
 use mathlib.Core.Path.{ap, ◌∙◌}
-use borrow.Author.Rules.{rules}
 use Rattle.index.proofs.pointer.Goals as goal
 
 pub returns : goal.returns

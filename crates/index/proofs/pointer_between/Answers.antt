@@ -1,13 +1,11 @@
 -- `pointer_between`: nothing where the code point is no cell; else the search, to the end of the table at most. Assumes nothing.
 use Rattle.index.proofs.Search.{unmapped_missing, clipped}
 use Rattle.standard.specs.Search.{pointer_from}
-use borrow.Author.Tests.{not-true, not-false}
 use lib.Seq.{slice}
 use Prim.Native.Nat.{ℕ}
 use mathlib.Core.List.{List}
 use mathlib.Core.Path.{ap, sym, ◌∙◌}
 use native.Mathlib.Omega.{arith}
-use borrow.Author.Rules.{rules}
 use Rattle.index.proofs.pointer_between.Goals as goal
 
 pub returns-then-not-mapped : goal.returns-then-not-mapped

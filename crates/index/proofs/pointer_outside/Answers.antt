@@ -1,14 +1,11 @@
 -- `pointer_outside`: what is found below the stretch, else what is found behind it. Assumes nothing.
-use mathlib.Core.Path.{◌≡◌, sym, ap, ◌∙◌}
+use mathlib.Core.Path.{ap, ◌∙◌}
 use mathlib.Core.Option.{Option}
 use Prim.Native.Nat.{ℕ, ◌+◌}
 use Rattle.standard.specs.Search.{first, either, pointer_from}
-use Rattle.index.specs.IndexCode.{pointer_of}
 use Rattle.index.proofs.Search.{outside}
 use lib.ListN.{length}
 use lib.Seq.{slice}
-use borrow.Author.Rules.{rules}
-use native.Mathlib.Omega.{arith}
 use Rattle.index.proofs.pointer_outside.Goals as goal
 
 pub returns-in-At : goal.returns-in-At

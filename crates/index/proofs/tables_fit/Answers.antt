@@ -1,6 +1,5 @@
 -- `tables_fit`: the first table's length, and then the second's. Assumes nothing.
 use mathlib.Core.Path.{sym, ◌∙◌}
-use borrow.Author.Rules.{rules}
 use Rattle.standard.specs.Encodings.{lent}
 use Rattle.index.proofs.TableLengths.{fits_first, fits_not}
 use Rattle.index.proofs.tables_fit.Goals as goal

@@ -1,12 +1,9 @@
 -- The loop's invariant: i bytes are copied, and the room behind them is as it was.
 -- What falls at each turn is the number of bytes left. Assumes nothing.
-use mathlib.Core.Path.{refl, ap, ◌≡◌, ◌∙◌}
+use mathlib.Core.Path.{◌≡◌}
 use mathlib.Core.List.{◌++◌}
 use Prim.Native.Nat.{◌+◌, ◌-◌, ◌≤◌}
-use native.Mathlib.Omega.{arith}
-use lib.ListN.{set, get_or, length, take, drop, length-set}
-use borrow.Author.Rules.{rules}
-use Rattle.labels.proofs.Names.{copied, copy_end}
+use lib.ListN.{length, take, drop}
 use Rattle.index_files.proofs.copy.Given as goal
 
 abbrev pub invariant-loop-i : goal.invariant-loop-i

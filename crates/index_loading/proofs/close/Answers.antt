@@ -1,7 +1,5 @@
-use native.Mathlib.Omega.{arith}
 use native.Mathlib.Nat.{sub-zero}
 use Rattle.index_loading.proofs.Bytes.{close_stands}
-use borrow.Author.Rules.{rules}
 use Rattle.index_loading.proofs.close.Goals as goal
 
 pub returns : goal.returns

@@ -1,6 +1,5 @@
 use native.Mathlib.Omega.{arith}
 use mathlib.Core.Path.{refl}
-use borrow.Author.Rules.{rules}
 use Rattle.index_loading.proofs.load.Goals as goal
 
 pub returns-then-line-lt1025 : goal.returns-then-line-lt1025

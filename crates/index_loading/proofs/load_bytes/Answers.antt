@@ -1,8 +1,8 @@
 use native.Mathlib.Omega.{arith}
 use mathlib.Core.Path.{◌≡◌, refl, sym, ap, ◌∙◌}
 use mathlib.Core.List.{[]}
-use Prim.Native.Nat.{◌+◌, ◌-◌, ◌≤◌}
-use lib.ListN.{length, drop, drop_of_length-le}
+use Prim.Native.Nat.{◌+◌}
+use lib.ListN.{drop, drop_of_length-le}
 use Rattle.index_loading.specs.Steps.{Place, placed, on_bytes}
 use Rattle.index_loading.proofs.Bytes.{stays, one_on}
 use borrow.Author.Rules.{rules}

@@ -1,11 +1,7 @@
-use native.Mathlib.Omega.{arith}
-use mathlib.Core.Path.{◌≡◌, refl, sym, ap, ◌∙◌}
-use mathlib.Core.List.{[]}
-use Prim.Native.Nat.{◌+◌, ◌-◌, ◌≤◌}
-use lib.ListN.{length, drop, drop_of_length-le}
-use Rattle.index_loading.specs.Steps.{Place, placed, on_bytes}
-use Rattle.index_loading.proofs.Bytes.{stays, one_on}
-use borrow.Author.Rules.{rules}
+use mathlib.Core.Path.{◌≡◌}
+use Prim.Native.Nat.{◌-◌, ◌≤◌}
+use lib.ListN.{length, drop}
+use Rattle.index_loading.specs.Steps.{placed, on_bytes}
 use Rattle.index_loading.proofs.load_bytes.Given as goal
 
 -- The invariant: what is to be loaded is what the bytes from i on give from here.

@@ -1,6 +1,5 @@
 use native.Mathlib.Omega.{arith}
 use borrow.Author.Tests.{lt-ltb, le-ltb}
-use borrow.Author.Rules.{rules}
 use Rattle.index_loading.proofs.most.Goals as goal
 
 pub returns-then-s-gt1025 : goal.returns-then-s-gt1025

@@ -4,7 +4,6 @@ use native.Mathlib.Omega.{arith}
 use Prim.Native.Nat.{ℕ}
 use mathlib.Core.List.{[], ◌∷◌}
 use mathlib.Core.Path.{sym, ap, ◌∙◌}
-use borrow.Author.Rules.{rules}
 use Rattle.iso_2022_jp_runs.proofs.byte_scalar.Goals as goal
 
 pub returns-then-b-eq7 : goal.returns-then-b-eq7

@@ -1,12 +1,7 @@
-use Prim.Native.Nat.{◌-◌}
 use lib.Dec.{eqb}
-use lib.ListN.{length}
-use borrow.Author.Tests.{not-false}
-use Rattle.standard.specs.Encodings.{lent, ISO-2022-JP}
-use Rattle.standard.specs.Sequence.{shift}
-use Rattle.runs.proofs.Running.{Going, going_start, going_one}
+use Rattle.standard.specs.Encodings.{lent}
+use Rattle.runs.proofs.Running.{going_start, going_one}
 use Rattle.iso_2022_jp_runs.proofs.IsoRuns.{byte_there}
-use borrow.Author.Rules.{rules}
 use native.Mathlib.Omega.{arith}
 use Rattle.iso_2022_jp_runs.proofs.bytes.Goals as goal
 

@@ -3,12 +3,9 @@ use mathlib.Core.Bool.{false}
 use Prim.Native.Nat.{ℕ, ◌+◌, ◌-◌, ◌≤◌, ◌<◌}
 use lib.Dec.{eqb}
 use lib.ListN.{length, get_or}
-use borrow.Author.Tests.{not-false}
 use Rattle.standard.specs.Encodings.{Tables, no_tables, ISO-2022-JP}
 use Rattle.standard.specs.Sequence.{shift}
-use Rattle.runs.specs.Run.{Ready}
 use Rattle.runs.proofs.Running.{Going, going_start, going_runs}
-use borrow.Author.Rules.{rules}
 use native.Mathlib.Omega.{arith}
 use Rattle.iso_2022_jp_runs.proofs.eights.Goals as goal
 use Rattle.iso_2022_jp_runs.proofs.eights.Goals.{After-four_scalars, After-four_scalars-arg-1, In-loop-f}

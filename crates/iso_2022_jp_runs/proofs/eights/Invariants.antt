@@ -1,15 +1,11 @@
-use mathlib.Core.Path.{◌≡◌, refl}
-use mathlib.Core.Bool.{false}
-use Prim.Native.Nat.{ℕ, ◌+◌, ◌-◌, ◌≤◌, ◌<◌}
+use mathlib.Core.Path.{◌≡◌}
+use Prim.Native.Nat.{◌-◌}
 use lib.Dec.{eqb}
-use lib.ListN.{length, get_or}
-use borrow.Author.Tests.{not-false}
-use Rattle.standard.specs.Encodings.{Tables, no_tables, ISO-2022-JP}
+use lib.ListN.{length}
+use Rattle.standard.specs.Encodings.{Tables, ISO-2022-JP}
 use Rattle.standard.specs.Sequence.{shift}
 use Rattle.runs.specs.Run.{Ready}
-use Rattle.runs.proofs.Running.{Going, going_start, going_runs}
-use borrow.Author.Rules.{rules}
-use native.Mathlib.Omega.{arith}
+use Rattle.runs.proofs.Running.{Going}
 use Rattle.iso_2022_jp_runs.proofs.eights.Given as goal
 
 -- The invariant: a run has come from the start to this place, in the state of ASCII, whatever the tables.

@@ -2,7 +2,6 @@ use mathlib.Core.Path.{refl}
 use Prim.Native.Nat.{◌+◌, ◌≤◌}
 use native.Mathlib.Omega.{arith}
 use lib.ListN.{length}
-use borrow.Author.Rules.{rules}
 use Rattle.iso_2022_jp_runs.proofs.IsoRuns.{escape_there}
 use Rattle.iso_2022_jp_runs.proofs.escape_at.Goals as goal
 

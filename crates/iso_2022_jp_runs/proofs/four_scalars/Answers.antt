@@ -1,7 +1,6 @@
 use lib.Dec.{eqb}
 use lib.ListN.{length-set}
 use Rattle.iso_2022_jp_runs.proofs.IsoRuns.{four_bytes}
-use borrow.Author.Rules.{rules}
 use native.Mathlib.Omega.{arith}
 use Rattle.iso_2022_jp_runs.proofs.four_scalars.Goals as goal
 

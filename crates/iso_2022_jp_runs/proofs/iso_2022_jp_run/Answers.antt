@@ -1,7 +1,6 @@
 use Rattle.standard.specs.Encodings.{lent, ISO-2022-JP}
 use Rattle.runs.proofs.Guard.{guarded}
 use Rattle.runs.proofs.Running.{runs_none}
-use borrow.Author.Rules.{rules}
 use Rattle.std.proofs.lemmas.Bool.{not_from_true}
 use Rattle.iso_2022_jp_runs.proofs.iso_2022_jp_run.Goals as goal
 

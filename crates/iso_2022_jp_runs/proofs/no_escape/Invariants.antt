@@ -1,12 +1,6 @@
 use mathlib.Core.Path.{◌≡◌}
 use Prim.Native.Nat.{ℕ, ◌+◌, ◌-◌, ◌≤◌, ◌<◌}
-use native.Mathlib.Nat.{le_trans}
 use lib.ListN.{length, get_or}
-use borrow.Author.Count.{below_more}
-use borrow.Author.Tests.{eqb-true}
-use Rattle.runs.proofs.Or.{or_left, or_right}
-use borrow.Author.Rules.{rules}
-use native.Mathlib.Omega.{arith}
 use Rattle.iso_2022_jp_runs.proofs.no_escape.Given as goal
 
 -- The invariant: if one of the first k bytes begins an escape, `all` is at least 1.

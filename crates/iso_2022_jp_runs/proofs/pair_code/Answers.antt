@@ -1,6 +1,5 @@
 use mathlib.Core.Path.{refl, sym, ◌∙◌}
 use native.Mathlib.Omega.{arith}
-use borrow.Author.Rules.{rules}
 use Rattle.layouts.specs.Rows.{layout_of}
 use Rattle.layouts.proofs.Rows.{regular, small, code_at}
 use Rattle.iso_2022_jp_runs.proofs.IsoRuns.{pair_next}

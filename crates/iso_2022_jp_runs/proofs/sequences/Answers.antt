@@ -3,9 +3,7 @@ use native.Mathlib.Omega.{arith}
 use mathlib.Core.Bool.{true}
 use mathlib.Core.List.{[]}
 use Prim.Native.Nat.{◌+◌, ◌-◌, ◌≤◌}
-use lib.Dec.{eqb}
 use lib.ListN.{length, drop}
-use borrow.Author.Rules.{rules}
 use Rattle.standard.specs.Encodings.{lent, ISO-2022-JP}
 use Rattle.standard.specs.Sequence.{text, item, shift}
 use Rattle.standard.specs.Next.{next}
@@ -13,7 +11,7 @@ use Rattle.sequences.specs.Code.{next_of}
 use Rattle.sequences.specs.declared.Sequence.{Sequence}
 use Rattle.runs.specs.Run.{shift_at}
 use Rattle.runs.specs.declared.Place.{Place}
-use Rattle.runs.proofs.Running.{Going, going_start, going_runs, going_silent}
+use Rattle.runs.proofs.Running.{going_start, going_runs, going_silent}
 use Rattle.runs.proofs.Steps.{found_gives, found_silent, found_width}
 use Rattle.standard.proofs.Families.{by_33}
 use Rattle.iso_2022_jp_runs.proofs.sequences.Goals as goal

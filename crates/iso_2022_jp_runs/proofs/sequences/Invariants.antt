@@ -1,21 +1,9 @@
-use mathlib.Core.Path.{◌≡◌, ◌∙◌}
-use native.Mathlib.Omega.{arith}
-use mathlib.Core.Bool.{true}
-use mathlib.Core.List.{[]}
-use Prim.Native.Nat.{◌+◌, ◌-◌, ◌≤◌}
+use Prim.Native.Nat.{◌-◌}
 use lib.Dec.{eqb}
-use lib.ListN.{length, drop}
-use borrow.Author.Rules.{rules}
+use lib.ListN.{length}
 use Rattle.standard.specs.Encodings.{lent, ISO-2022-JP}
-use Rattle.standard.specs.Sequence.{text, item, shift}
-use Rattle.standard.specs.Next.{next}
-use Rattle.sequences.specs.Code.{next_of}
-use Rattle.sequences.specs.declared.Sequence.{Sequence}
-use Rattle.runs.specs.Run.{shift_at}
-use Rattle.runs.specs.declared.Place.{Place}
-use Rattle.runs.proofs.Running.{Going, going_start, going_runs, going_silent}
-use Rattle.runs.proofs.Steps.{found_gives, found_silent, found_width}
-use Rattle.standard.proofs.Families.{by_33}
+use Rattle.standard.specs.Sequence.{shift}
+use Rattle.runs.proofs.Running.{Going}
 use Rattle.iso_2022_jp_runs.proofs.sequences.Given as goal
 
 -- The invariant: a run has come from the start to this place and this shift.

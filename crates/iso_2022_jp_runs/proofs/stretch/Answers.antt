@@ -4,7 +4,6 @@ use Rattle.standard.specs.Encodings.{lent, ISO-2022-JP}
 use Rattle.standard.specs.Sequence.{shift}
 use Rattle.runs.proofs.Running.{Going, runs_none, going_start, going_runs}
 use native.Mathlib.Omega.{arith}
-use borrow.Author.Rules.{rules}
 use Rattle.iso_2022_jp_runs.proofs.stretch.Goals as goal
 use Rattle.iso_2022_jp_runs.proofs.stretch.Goals.{After-eights-r}
 

@@ -1,13 +1,9 @@
 -- The loop's invariant: the first e bytes, without white space at their end, are the label without white space at its end.
 -- What falls at each turn is e. Assumes nothing.
-use mathlib.Core.Path.{◌≡◌, sym, ◌∙◌}
+use mathlib.Core.Path.{◌≡◌}
 use Prim.Native.Nat.{◌≤◌}
-use native.Mathlib.Omega.{arith}
 use lib.ListN.{length, take}
-use borrow.Author.Tests.{not-true, not-false}
-use borrow.Author.Rules.{rules}
 use Rattle.labels.specs.LookUp.{untail}
-use Rattle.labels.proofs.Ends.{back_white, back_other, back_end, back_all}
 use Rattle.labels.proofs.back.Given as goal
 
 abbrev pub invariant-loop-e : goal.invariant-loop-e

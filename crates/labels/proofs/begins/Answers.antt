@@ -1,11 +1,6 @@
-use mathlib.Core.List.{map}
-use mathlib.Core.Path.{◌≡◌, refl, sym, ◌∙◌}
-use Prim.Native.Nat.{◌-◌, ◌≤◌}
+use mathlib.Core.Path.{refl, sym, ◌∙◌}
 use native.Mathlib.Omega.{arith}
-use lib.ListN.{length, drop}
 use borrow.Author.Rules.{rules}
-use Rattle.labels.specs.LookUp.{begins}
-use Rattle.labels_spec.specs.Labels.{fold}
 use Rattle.labels.proofs.LookUp.{begins_other, begins_same, begins_end}
 use Rattle.labels.proofs.begins.Goals as goal
 

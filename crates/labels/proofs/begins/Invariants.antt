@@ -1,14 +1,11 @@
 -- The loop's invariant: the comparison from i on gives what it gives on the whole.
 -- What falls at each turn is the number of bytes of the label left. Assumes nothing.
 use mathlib.Core.List.{map}
-use mathlib.Core.Path.{◌≡◌, refl, sym, ◌∙◌}
+use mathlib.Core.Path.{◌≡◌}
 use Prim.Native.Nat.{◌-◌, ◌≤◌}
-use native.Mathlib.Omega.{arith}
 use lib.ListN.{length, drop}
-use borrow.Author.Rules.{rules}
 use Rattle.labels.specs.LookUp.{begins}
 use Rattle.labels_spec.specs.Labels.{fold}
-use Rattle.labels.proofs.LookUp.{begins_other, begins_same, begins_end}
 use Rattle.labels.proofs.begins.Given as goal
 
 abbrev pub invariant-loop-i : goal.invariant-loop-i

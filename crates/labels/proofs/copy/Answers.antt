@@ -1,8 +1,7 @@
-use mathlib.Core.Path.{refl, ap, ◌≡◌, ◌∙◌}
-use mathlib.Core.List.{◌++◌}
-use Prim.Native.Nat.{◌+◌, ◌-◌, ◌≤◌}
+use mathlib.Core.Path.{refl, ap, ◌∙◌}
+use Prim.Native.Nat.{◌+◌}
 use native.Mathlib.Omega.{arith}
-use lib.ListN.{set, get_or, length, take, drop, length-set}
+use lib.ListN.{set, get_or, length-set}
 use borrow.Author.Rules.{rules}
 use Rattle.labels.proofs.Names.{copied, copy_end}
 use Rattle.labels.proofs.copy.Goals as goal

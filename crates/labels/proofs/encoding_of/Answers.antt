@@ -2,7 +2,6 @@
 use mathlib.Core.Path.{refl}
 use native.Mathlib.Omega.{arith}
 use lib.ListN.{length}
-use borrow.Author.Rules.{rules}
 use Rattle.standard.specs.Text.{bytes}
 use Rattle.labels_spec.specs.Labels.{table, same, among, find}
 use Rattle.labels_spec.proofs.Known.{each_of, each}

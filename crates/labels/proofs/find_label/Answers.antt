@@ -1,5 +1,4 @@
 -- The trimmed label, looked up. Assumes nothing.
-use borrow.Author.Rules.{rules}
 use Rattle.labels.proofs.LookUp.{call_unknown, call_known}
 use Rattle.labels.proofs.find_label.Goals as goal
 

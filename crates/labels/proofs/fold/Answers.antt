@@ -1,7 +1,6 @@
 -- A letter by its bounds. Assumes nothing.
 use native.Mathlib.Omega.{arith}
 use borrow.Author.Tests.{le-leb, lt-leb}
-use borrow.Author.Rules.{rules}
 use Rattle.labels.proofs.fold.Goals as goal
 
 pub returns-then-b-lt65 : goal.returns-then-b-lt65

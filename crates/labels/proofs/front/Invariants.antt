@@ -1,14 +1,9 @@
 -- The loop's invariant: the i bytes passed, and the white space from there on, are the white space in front.
 -- What falls at each turn is the number of bytes left. Assumes nothing.
-use mathlib.Core.Path.{◌≡◌, sym, ◌∙◌}
+use mathlib.Core.Path.{◌≡◌}
 use Prim.Native.Nat.{◌+◌, ◌-◌, ◌≤◌}
-use native.Mathlib.Nat.{zero-add}
-use native.Mathlib.Omega.{arith}
 use lib.ListN.{length, drop}
-use borrow.Author.Tests.{not-true, not-false}
-use borrow.Author.Rules.{rules}
 use Rattle.labels_spec.specs.Labels.{start}
-use Rattle.labels.proofs.Ends.{start_white, start_other, start_end}
 use Rattle.labels.proofs.front.Given as goal
 
 abbrev pub invariant-loop-i : goal.invariant-loop-i

@@ -1,6 +1,5 @@
 -- The constant is the list of starts, by computation. Assumes nothing.
 use mathlib.Core.Path.{refl}
-use borrow.Author.Rules.{rules}
 use Rattle.labels.specs.LookUp.{label_starts}
 use Rattle.labels.proofs.group_start.Goals as goal
 

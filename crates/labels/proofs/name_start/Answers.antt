@@ -1,6 +1,5 @@
 -- The constant is the list of starts, by computation. Assumes nothing.
 use mathlib.Core.Path.{refl}
-use borrow.Author.Rules.{rules}
 use Rattle.standard.specs.Text.{bytes}
 use Rattle.labels_spec.specs.Labels.{table}
 use Rattle.labels.specs.LookUp.{name_starts, name_starts_from}

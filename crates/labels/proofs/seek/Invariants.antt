@@ -1,15 +1,10 @@
 -- The loop's invariant: the search in the rest of the group gives what it gives in the whole group.
 -- What falls at each turn is the length of the rest. Assumes nothing.
-use mathlib.Core.List.{List, map}
-use mathlib.Core.Path.{◌≡◌, refl, sym, ap, ◌∙◌}
-use Prim.Native.Nat.{ℕ, ◌+◌}
-use native.Mathlib.Omega.{arith}
+use mathlib.Core.List.{map}
+use mathlib.Core.Path.{◌≡◌}
 use lib.ListN.{length}
-use borrow.Author.Rules.{rules}
-use Rattle.labels.specs.LookUp.{seek, number}
+use Rattle.labels.specs.LookUp.{seek}
 use Rattle.labels_spec.specs.Labels.{fold}
-use Rattle.labels.proofs.Ends.{rest}
-use Rattle.labels.proofs.LookUp.{step_found, step_next, step_end}
 use Rattle.labels.proofs.seek.Given as goal
 
 abbrev pub invariant-loop-rest : goal.invariant-loop-rest

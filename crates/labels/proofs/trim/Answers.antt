@@ -1,7 +1,6 @@
 -- The white space in front, and then at the end. Assumes nothing.
 use mathlib.Core.Path.{refl}
 use native.Mathlib.Omega.{arith}
-use borrow.Author.Rules.{rules}
 use Rattle.labels.proofs.Ends.{both_ends}
 use Rattle.labels.proofs.trim.Goals as goal
 

@@ -1,6 +1,5 @@
 use Rattle.layouts.proofs.Rows.{layout_gb18030, layout_big5, layout_euc_jp, layout_iso_2022_jp, layout_shift_jis, layout_euc_kr}
 use native.Mathlib.Omega.{arith}
-use borrow.Author.Rules.{rules}
 use Rattle.layouts.proofs.column.Goals as goal
 
 pub returns-then-encoding-le30 : goal.returns-then-encoding-le30

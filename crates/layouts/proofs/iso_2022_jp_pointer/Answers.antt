@@ -1,6 +1,5 @@
 use mathlib.Core.Path.{refl}
 use native.Mathlib.Omega.{arith}
-use borrow.Author.Rules.{rules}
 use Rattle.layouts.proofs.Rows.{layout_iso_2022_jp}
 use Rattle.layouts.proofs.iso_2022_jp_pointer.Goals as goal
 

@@ -1,7 +1,6 @@
 use mathlib.Core.Path.{sym, ap, ◌∙◌}
 use Prim.Native.Nat.{ℕ}
 use lib.Dec.{ltb}
-use borrow.Author.Rules.{rules}
 use Rattle.layouts.specs.Rows.{layout_of}
 use Rattle.layouts.proofs.Rows.{regular, small, lead_row}
 use Rattle.layouts.proofs.leads.Goals as goal

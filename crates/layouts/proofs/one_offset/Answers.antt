@@ -4,7 +4,6 @@ use native.Mathlib.Nat.{mul-le-mul}
 use Rattle.standard.proofs.Tests.{within_low, within_high}
 use Rattle.layouts.proofs.Rows.{one_in, one_out}
 use native.Mathlib.Omega.{arith}
-use borrow.Author.Rules.{rules}
 use Rattle.layouts.proofs.one_offset.Goals as goal
 
 pub overflow_sub-result : goal.overflow_sub-result

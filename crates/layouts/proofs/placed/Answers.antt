@@ -1,5 +1,4 @@
 -- `placed`, by the gap. Assumes nothing.
-use borrow.Author.Rules.{rules}
 use borrow.Author.Tests.{lt-ltb, le-ltb}
 use Rattle.layouts.proofs.placed.Goals as goal
 

@@ -1,4 +1,3 @@
-use borrow.Author.Rules.{rules}
 use Rattle.layouts.proofs.shift_jis_row.Goals as goal
 
 pub returns : goal.returns

@@ -2,7 +2,6 @@
 use Prim.Native.Nat.{◌≤◌, ◌<◌}
 use native.Mathlib.Nat.{div-lt_iff_lt-mul, mod-lt}
 use native.Mathlib.Omega.{arith}
-use borrow.Author.Rules.{rules}
 use Rattle.standard.proofs.Layouts.{divisor_real}
 use Rattle.layouts.specs.Rows.{layout_of, cells}
 use Rattle.layouts.proofs.Rows.{regular}

@@ -4,7 +4,6 @@ use native.Mathlib.Nat.{mul-le-mul}
 use Rattle.standard.proofs.Tests.{within_low, within_high}
 use Rattle.layouts.proofs.Rows.{two_out, two_gap, Counted, counted}
 use native.Mathlib.Omega.{arith}
-use borrow.Author.Rules.{rules}
 use Rattle.layouts.proofs.two_offsets.Goals as goal
 
 pub returns-then-within : goal.returns-then-within

@@ -3,7 +3,6 @@ use Prim.Native.Nat.{◌-◌}
 use lib.ListN.{length}
 use Rattle.line_feeds.proofs.Parts.{to_end, behind}
 use native.Mathlib.Omega.{arith}
-use borrow.Author.Rules.{rules}
 use Rattle.line_feeds.proofs.in_block.Goals as goal
 
 pub returns-then-bytes-at : goal.returns-then-bytes-at

@@ -3,7 +3,6 @@ use Prim.Native.Nat.{◌-◌}
 use lib.ListN.{length}
 use Rattle.line_feeds.proofs.Parts.{none_in, to_end, behind}
 use native.Mathlib.Omega.{arith}
-use borrow.Author.Rules.{rules}
 use Rattle.line_feeds.proofs.in_scalars.Goals as goal
 
 pub returns-then-to-from : goal.returns-then-to-from

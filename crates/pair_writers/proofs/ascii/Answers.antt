@@ -1,6 +1,5 @@
 -- `ascii`: its own byte but in ISO-2022-JP. Assumes nothing.
 use mathlib.Core.Path.{◌∙◌}
-use borrow.Author.Rules.{rules}
 use borrow.Author.Tests.{eq-eqb, ne_eqb}
 use Rattle.pair_writers.proofs.ascii.Goals as goal
 

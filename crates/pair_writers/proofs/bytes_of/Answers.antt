@@ -5,7 +5,6 @@ use native.Mathlib.Omega.{arith}
 use borrow.Author.Tests.{le-leb, lt-leb, ne_eqb}
 use Rattle.pair_writers.proofs.Encoders.{of_gb18030, of_big5, of_euc_jp, of_iso_2022_jp, of_shift_jis, of_euc_kr}
 use Rattle.pair_writers.proofs.Filling.{helped}
-use borrow.Author.Rules.{rules}
 use Rattle.pair_writers.proofs.bytes_of.Goals as goal
 
 pub returns-then-encoding-le30 : goal.returns-then-encoding-le30

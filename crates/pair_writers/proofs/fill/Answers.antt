@@ -2,7 +2,6 @@
 use mathlib.Core.Path.{sym, ap, ◌∙◌}
 use Prim.Native.Nat.{ℕ}
 use lib.ListN.{length, length-replicate}
-use borrow.Author.Rules.{rules}
 use Rattle.pair_writers.proofs.fill.Goals as goal
 
 pub returns-then-table-cells : goal.returns-then-table-cells

@@ -1,7 +1,7 @@
 use native.Mathlib.Omega.{arith}
-use mathlib.Core.Path.{◌≡◌, sym, ap, ◌∙◌}
+use mathlib.Core.Path.{sym, ap, ◌∙◌}
 use mathlib.Core.List.{[]}
-use Prim.Native.Nat.{◌+◌, ◌-◌, ◌*◌, ◌≤◌}
+use Prim.Native.Nat.{◌+◌, ◌-◌, ◌*◌}
 use native.Mathlib.Nat.{sub-zero}
 use lib.ListN.{length}
 use borrow.Author.Tests.{ltb-false}
@@ -11,7 +11,6 @@ use Rattle.decoder.specs.Calls.{Outcome, feed_refusal, read_on, feeding}
 use Rattle.replacements_spec.specs.Replaced.{replaced}
 use Rattle.replacements_spec.specs.Calls.{feed_tell_refusal, feed_telling}
 use Rattle.replacements.proofs.Calling.{fed_out_lem, tells_short, tells_none, tells_some, taken_0, feed_short}
-use borrow.Author.Rules.{rules}
 use Rattle.replacements.proofs.feed.Goals as goal
 
 pub returns-then-short : goal.returns-then-short

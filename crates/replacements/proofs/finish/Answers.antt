@@ -1,7 +1,7 @@
 use native.Mathlib.Omega.{arith}
-use mathlib.Core.Path.{◌≡◌, sym, ap, ◌∙◌}
+use mathlib.Core.Path.{sym, ap, ◌∙◌}
 use mathlib.Core.List.{[]}
-use Prim.Native.Nat.{ℕ, ◌+◌, ◌-◌, ◌*◌, ◌≤◌}
+use Prim.Native.Nat.{ℕ, ◌-◌, ◌*◌}
 use native.Mathlib.Nat.{zero-add}
 use borrow.Author.Tests.{ltb-false}
 use lib.Dec.{ltb}
@@ -11,7 +11,6 @@ use Rattle.decoder.specs.Calls.{Outcome, finish_refusal, read_end, finishing}
 use Rattle.replacements_spec.specs.Replaced.{replaced}
 use Rattle.replacements_spec.specs.Calls.{finish_tell_refusal, finish_telling}
 use Rattle.replacements.proofs.Calling.{finished_out_lem, tells_short, tells_none, tells_some, taken_0, finish_short}
-use borrow.Author.Rules.{rules}
 use Rattle.replacements.proofs.finish.Goals as goal
 
 pub returns-then-short : goal.returns-then-short

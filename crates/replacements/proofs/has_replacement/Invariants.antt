@@ -1,12 +1,8 @@
-use native.Mathlib.Omega.{arith}
-use mathlib.Core.Path.{◌≡◌, refl}
+use mathlib.Core.Path.{◌≡◌}
 use mathlib.Core.Bool.{false}
-use Prim.Native.Nat.{◌+◌, ◌-◌, ◌≤◌}
+use Prim.Native.Nat.{◌-◌, ◌≤◌}
 use lib.ListN.{length, take}
-use borrow.Author.Tests.{eq-eqb, ne_eqb}
 use Rattle.replacements.specs.Walks.{replacing}
-use Rattle.replacements.proofs.Scan.{block_has, block_last, block_none}
-use borrow.Author.Rules.{rules}
 use Rattle.replacements.proofs.has_replacement.Given as goal
 
 -- The invariant: there is no U+FFFD among the first k scalars.

@@ -1,12 +1,9 @@
-use native.Mathlib.Omega.{arith}
 use mathlib.Core.Path.{◌≡◌}
 use mathlib.Core.Bool.{not}
 use Prim.Native.Nat.{◌+◌, ◌-◌, ◌≤◌}
 use lib.Dec.{eqb}
 use lib.ListN.{length, take, drop}
 use Rattle.replacements.specs.Walks.{replacing}
-use Rattle.replacements.proofs.Scan.{no_scalars, scan_more}
-use borrow.Author.Rules.{rules}
 use Rattle.replacements.proofs.in_few.Given as goal
 
 -- The invariant: `count` is 0 exactly where there is no U+FFFD among the first k of the n scalars.

@@ -4,7 +4,6 @@ use lib.Dec.{eqb}
 use Rattle.standard.specs.Sequence.{shift}
 use Rattle.replacements.proofs.Adding.{adds_more}
 use Rattle.replacements.proofs.Told.{escape_error, escape_text}
-use borrow.Author.Rules.{rules}
 use Rattle.replacements.proofs.tell_escape.Goals as goal
 
 pub returns-then-last_is_error : goal.returns-then-last_is_error

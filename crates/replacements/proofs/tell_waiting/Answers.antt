@@ -1,6 +1,6 @@
 use native.Mathlib.Omega.{arith}
-use mathlib.Core.Path.{◌≡◌, refl, sym, ap, ◌∙◌}
-use Prim.Native.Nat.{ℕ, ◌+◌, ◌-◌, ◌≤◌}
+use mathlib.Core.Path.{◌≡◌, sym, ap}
+use Prim.Native.Nat.{ℕ, ◌-◌, ◌≤◌}
 use native.Mathlib.Nat.{add-zero}
 use lib.ListN.{length, take, drop, length-take, length-drop}
 use lib.Seq.{take_all}
@@ -9,7 +9,6 @@ use Rattle.standard.specs.Items.{widths}
 use Rattle.replacements_spec.specs.Replaced.{replaced}
 use Rattle.replacements.proofs.Adding.{adds_more}
 use Rattle.replacements.proofs.Told.{walked, early, waiting_told, waiting_at, waiting_few}
-use borrow.Author.Rules.{rules}
 use Rattle.replacements.proofs.tell_waiting.Goals as goal
 use Rattle.replacements.proofs.tell_waiting.Goals.{After-walk-w}
 

@@ -1,7 +1,7 @@
 use native.Mathlib.Omega.{arith}
-use mathlib.Core.Path.{◌≡◌, sym, ap, ◌∙◌}
+use mathlib.Core.Path.{◌≡◌}
 use mathlib.Core.List.{List, ◌++◌}
-use Prim.Native.Nat.{ℕ, ◌+◌, ◌-◌, ◌≤◌}
+use Prim.Native.Nat.{ℕ, ◌+◌, ◌≤◌}
 use lib.Dec.{eqb}
 use lib.ListN.{length, drop}
 use Rattle.standard.specs.Encodings.{family, lent}
@@ -10,8 +10,7 @@ use Rattle.standard.specs.Next.{next}
 use Rattle.sequences.specs.Code.{next_of}
 use Rattle.reading.specs.Reading.{bytes_of}
 use Rattle.reading.proofs.Loop.{all_count}
-use Rattle.replacements.proofs.Walking.{Walking, start_walking, turn_count, turn_told, turn_shift, turn_rest, turn_width, turn_space, turn_on}
-use borrow.Author.Rules.{rules}
+use Rattle.replacements.proofs.Walking.{start_walking, turn_count, turn_told, turn_shift, turn_rest, turn_width, turn_space, turn_on}
 use Rattle.replacements.proofs.walk.Goals as goal
 use Rattle.replacements.proofs.walk.Goals.{After-sequence-q, After-struct_known-in-loop-held-1}
 
@@ -79,10 +78,9 @@ pub loop-held-smaller : goal.loop-held-smaller
 loop-held-smaller c = let w = wide (goal.at.loop-held-smaller c).After-sequence-q (left c) in omega (arith, w, counted (goal.at.loop-held-smaller c).After-sequence-q)
 
 pub loop-held-preserved : goal.loop-held-preserved
-loop-held-preserved c =
-    (
-      turn_on _ _ _ _ _ _ _ c.loop-held.invariant.0 c.sequence-q.result (seen (goal.at.loop-held-preserved c).After-sequence-q) (left c) c.note-n.ensures,
-      omega arith,
-      omega arith,
-      omega arith,
-    )
+loop-held-preserved c = (
+  turn_on _ _ _ _ _ _ _ c.loop-held.invariant.0 c.sequence-q.result (seen (goal.at.loop-held-preserved c).After-sequence-q) (left c) c.note-n.ensures,
+  omega arith,
+  omega arith,
+  omega arith,
+)

@@ -1,17 +1,11 @@
-use native.Mathlib.Omega.{arith}
-use mathlib.Core.Path.{◌≡◌, sym, ap, ◌∙◌}
-use mathlib.Core.List.{List, ◌++◌}
-use Prim.Native.Nat.{ℕ, ◌+◌, ◌-◌, ◌≤◌}
+use mathlib.Core.List.{◌++◌}
+use Prim.Native.Nat.{◌+◌, ◌-◌, ◌≤◌}
 use lib.Dec.{eqb}
-use lib.ListN.{length, drop}
-use Rattle.standard.specs.Encodings.{family, lent}
+use lib.ListN.{length}
+use Rattle.standard.specs.Encodings.{lent}
 use Rattle.standard.specs.Sequence.{shift}
-use Rattle.standard.specs.Next.{next}
-use Rattle.sequences.specs.Code.{next_of}
 use Rattle.reading.specs.Reading.{bytes_of}
-use Rattle.reading.proofs.Loop.{all_count}
-use Rattle.replacements.proofs.Walking.{Walking, start_walking, turn_count, turn_told, turn_shift, turn_rest, turn_width, turn_space, turn_on}
-use borrow.Author.Rules.{rules}
+use Rattle.replacements.proofs.Walking.{Walking}
 use Rattle.replacements.proofs.walk.Given as goal
 
 -- The invariant: n sequences are told, and what is told in all is those and the ones from `at` on.

@@ -9,7 +9,6 @@ use Rattle.reverse_index_spec.specs.ReverseIndex.{fits}
 use Rattle.reverse_index_spec.proofs.Building.{fits_facts}
 use Rattle.reverse_index.proofs.Answers.{build_unknown, build_table, build_index, build_done}
 use native.Mathlib.Omega.{arith}
-use borrow.Author.Rules.{rules}
 use Rattle.std.proofs.lemmas.Bool.{not_from_true, not_from_false}
 use Rattle.reverse_index.proofs.build.Goals as goal
 use Rattle.reverse_index.proofs.build.Goals.{After-fits, Else-not-fits}

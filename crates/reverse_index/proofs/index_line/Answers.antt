@@ -5,7 +5,6 @@ use lib.ListN.{length}
 use Rattle.standard.proofs.Tests.{fails, holds}
 use Rattle.reverse_index_spec.specs.ReverseIndex.{fits}
 use Rattle.reverse_index.proofs.Answers.{entry_ready, line_refused, line_none, line_entry}
-use borrow.Author.Rules.{rules}
 use Rattle.std.proofs.lemmas.Bool.{not_from_true, not_from_false}
 use Rattle.reverse_index.proofs.index_line.Goals as goal
 use Rattle.reverse_index.proofs.index_line.Goals.{After-index_line-r}

@@ -2,7 +2,6 @@
 use mathlib.Core.Path.{◌∙◌}
 use Rattle.standard.proofs.Tests.{fails, holds}
 use Rattle.reverse_index.proofs.Answers.{look_unfit, look_search, look_walk}
-use borrow.Author.Rules.{rules}
 use Rattle.std.proofs.lemmas.Bool.{not_from_true, not_from_false}
 use Rattle.reverse_index.proofs.last_outside.Goals as goal
 

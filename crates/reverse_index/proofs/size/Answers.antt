@@ -1,5 +1,4 @@
 -- `size`, by its test. Assumes nothing.
-use borrow.Author.Rules.{rules}
 use Rattle.reverse_index.proofs.Answers.{size_big, size_small}
 use Rattle.reverse_index.proofs.size.Goals as goal
 

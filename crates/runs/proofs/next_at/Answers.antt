@@ -4,7 +4,6 @@ use Rattle.runs.proofs.Fronts.{front_four}
 use mathlib.Core.Path.{◌∙◌}
 use lib.Dec.{eqb}
 use native.Mathlib.Omega.{arith}
-use borrow.Author.Rules.{rules}
 use Rattle.runs.proofs.next_at.Goals as goal
 
 pub returns-then-chunk-i : goal.returns-then-chunk-i

@@ -1,7 +1,6 @@
 use Rattle.runs.proofs.Scalars.{gives_plain}
 use mathlib.Core.Path.{refl}
 use native.Mathlib.Omega.{arith}
-use borrow.Author.Rules.{rules}
 use Rattle.runs.proofs.plain_scalar_of.Goals as goal
 
 pub returns-then-q-ne0 : goal.returns-then-q-ne0

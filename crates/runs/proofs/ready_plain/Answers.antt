@@ -1,7 +1,6 @@
 use Rattle.runs.specs.Run.{ready_plain}
 use borrow.Author.Tests.{eq-eqb, ne_eqb}
 use native.Mathlib.Omega.{arith}
-use borrow.Author.Rules.{rules}
 use Rattle.runs.proofs.ready_plain.Goals as goal
 
 pub returns-then-p-ne0 : goal.returns-then-p-ne0

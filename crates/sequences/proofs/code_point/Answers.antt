@@ -2,7 +2,6 @@ use mathlib.Core.Path.{sym, ◌∙◌}
 use Rattle.layouts.specs.Rows.{layout_of}
 use Rattle.layouts.proofs.Rows.{regular, small, code_past, code_at}
 use native.Mathlib.Omega.{arith}
-use borrow.Author.Rules.{rules}
 use Rattle.sequences.proofs.code_point.Goals as goal
 
 pub returns-then-p-lt32768 : goal.returns-then-p-lt32768

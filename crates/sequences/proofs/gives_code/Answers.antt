@@ -1,7 +1,6 @@
 use Rattle.sequences.proofs.Leaves.{code_null, code_some}
 use mathlib.Core.Path.{sym, ◌∙◌}
 use native.Mathlib.Omega.{arith}
-use borrow.Author.Rules.{rules}
 use Rattle.sequences.proofs.gives_code.Goals as goal
 
 pub returns-then-c-eq0 : goal.returns-then-c-eq0

@@ -1,7 +1,6 @@
 use Rattle.sequences.proofs.Leaves.{pair_wait, pair_there}
 use mathlib.Core.Path.{sym, ◌∙◌}
 use native.Mathlib.Omega.{arith}
-use borrow.Author.Rules.{rules}
 use Rattle.sequences.proofs.gives_pair.Goals as goal
 
 pub returns-then-have-lt2 : goal.returns-then-have-lt2

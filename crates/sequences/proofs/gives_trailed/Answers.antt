@@ -1,7 +1,6 @@
 use Rattle.sequences.proofs.Leaves.{trailed_back, trailed_null, trailed_some}
 use mathlib.Core.Path.{sym, ◌∙◌}
 use native.Mathlib.Omega.{arith}
-use borrow.Author.Rules.{rules}
 use Rattle.sequences.proofs.gives_trailed.Goals as goal
 
 pub returns-then-c-ne0 : goal.returns-then-c-ne0

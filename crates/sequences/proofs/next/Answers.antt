@@ -12,7 +12,6 @@ use Rattle.standard.proofs.Reading.{empty}
 use Rattle.standard.proofs.Families.{is_utf8, is_windows_1252, is_single_byte, is_gb18030, is_big5, is_euc_jp, is_iso_2022_jp, is_shift_jis, is_euc_kr, is_replacement, is_utf_16, is_user_defined}
 use Rattle.sequences.proofs.Leaves.{front_some, front_none}
 use native.Mathlib.Omega.{arith}
-use borrow.Author.Rules.{rules}
 use Rattle.sequences.proofs.next.Goals as goal
 use Rattle.sequences.proofs.next.Goals.{Else-have-eq0}
 

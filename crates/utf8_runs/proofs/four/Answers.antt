@@ -9,7 +9,6 @@ use Rattle.standard.specs.Sequence.{scalar}
 use Rattle.standard.specs.Sequences.Utf8.{utf8_low, utf8_high}
 use Rattle.utf8_runs.proofs.GoodUtf8.{good_four}
 use native.Mathlib.Omega.{arith}
-use borrow.Author.Rules.{rules}
 use Rattle.utf8_runs.proofs.four.Goals as goal
 use Rattle.utf8_runs.proofs.four.Goals.{Then-within}
 

@@ -1,7 +1,6 @@
 use mathlib.Core.Path.{refl, sym, ◌∙◌}
 use Rattle.standard.proofs.Tests.{within_low}
 use native.Mathlib.Omega.{arith}
-use borrow.Author.Rules.{rules}
 use Rattle.utf8_runs.proofs.four_end.Goals as goal
 
 pub overflow_sub-result-then-within-2-2 : goal.overflow_sub-result-then-within-2-2

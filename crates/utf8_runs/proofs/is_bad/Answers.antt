@@ -2,7 +2,6 @@ use mathlib.Core.Path.{sym, ◌∙◌}
 use Rattle.utf8_runs.proofs.GoodUtf8.{bad_first, bad_second}
 use Rattle.standard.proofs.Tests.{fails, true_t}
 use native.Mathlib.Omega.{arith}
-use borrow.Author.Rules.{rules}
 use Rattle.utf8_runs.proofs.is_bad.Goals as goal
 
 pub returns-then-mode-eq1 : goal.returns-then-mode-eq1

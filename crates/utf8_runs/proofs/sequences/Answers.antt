@@ -1,14 +1,12 @@
 use mathlib.Core.Path.{ap, ◌∙◌}
 use mathlib.Core.List.{[]}
 use native.Mathlib.Omega.{arith}
-use Prim.Native.Nat.{◌+◌, ◌-◌, ◌*◌, ◌<◌}
-use lib.ListN.{length, drop}
-use borrow.Author.Rules.{rules}
+use Prim.Native.Nat.{◌+◌}
+use lib.ListN.{drop}
 use Rattle.standard.specs.Encodings.{UTF-8, no_tables}
-use Rattle.standard.specs.Sequence.{plain}
 use Rattle.standard.specs.Sequences.Utf8.{utf8}
 use Rattle.runs.proofs.Fronts.{two_at, three_at, four_at}
-use Rattle.runs.proofs.Running.{Going, going_start, going_one}
+use Rattle.runs.proofs.Running.{going_start, going_one}
 use Rattle.runs.proofs.Steps.{found_gives, found_width}
 use Rattle.runs.proofs.Stretches.{going_copied}
 use Rattle.utf8_runs.proofs.GoodUtf8.{self_utf8, any_tables, gives_good, gives_wrong, found_front}

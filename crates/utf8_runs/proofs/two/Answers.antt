@@ -4,7 +4,6 @@ use Rattle.standard.proofs.Leads.{in_two}
 use Rattle.standard.proofs.Tests.{within_low}
 use Rattle.utf8_runs.proofs.GoodUtf8.{good_two}
 use native.Mathlib.Omega.{arith}
-use borrow.Author.Rules.{rules}
 use Rattle.utf8_runs.proofs.two.Goals as goal
 use Rattle.utf8_runs.proofs.two.Goals.{Else-lead_length-gt2}
 

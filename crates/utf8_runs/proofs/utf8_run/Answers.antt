@@ -3,7 +3,6 @@ use Rattle.standard.specs.Encodings.{UTF-8}
 use Rattle.runs.specs.Run.{Ready}
 use Rattle.runs.proofs.Guard.{guarded_plain}
 use Rattle.runs.proofs.Running.{runs_none}
-use borrow.Author.Rules.{rules}
 use Rattle.std.proofs.lemmas.Bool.{not_from_true}
 use Rattle.utf8_runs.proofs.utf8_run.Goals as goal
 use Rattle.utf8_runs.proofs.utf8_run.Goals.{Else-not-ready_plain}

@@ -1,7 +1,6 @@
 use mathlib.Core.Path.{◌≡◌, sym, ap, ◌∙◌}
 use Prim.Native.Nat.{ℕ, ◌≤◌}
 use native.Mathlib.Omega.{arith}
-use borrow.Author.Rules.{rules}
 use Rattle.standard.specs.Encodings.{Tables, lent}
 use Rattle.reading.specs.Reading.{Result, read_chunk}
 use Rattle.reading.specs.declared.Held.{Held}

@@ -1,6 +1,5 @@
 use mathlib.Core.Path.{◌≡◌, sym, ap, ◌∙◌}
 use Prim.Native.Nat.{ℕ}
-use borrow.Author.Rules.{rules}
 use Rattle.standard.specs.Encodings.{Tables, lent}
 use Rattle.reading.specs.Reading.{Result}
 use Rattle.reading.specs.Reading.{read_end as reading_end}

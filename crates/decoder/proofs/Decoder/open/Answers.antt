@@ -3,7 +3,6 @@ use lib.Dec.{ltb}
 use mathlib.Core.Bool.{or-true}
 use mathlib.Core.Path.{sym, ap, ◌∙◌}
 use native.Mathlib.Omega.{arith}
-use borrow.Author.Rules.{rules}
 use Rattle.decoder.specs.Code.{accepting}
 use Rattle.decoder.proofs.Checks.{open_2, open_3, open_0}
 use Rattle.decoder.proofs.Decoder.open.Goals as goal

@@ -1,7 +1,6 @@
 use mathlib.Core.Path.{ap, ◌∙◌}
 use Prim.Native.Nat.{ℕ, ◌+◌}
 use native.Mathlib.Omega.{arith}
-use borrow.Author.Rules.{rules}
 use Rattle.reading.specs.declared.Left.{Left}
 use Rattle.decoder.specs.Code.{fed}
 use Rattle.decoder.proofs.Records.{answers_read, answers_reported, answers_refused}

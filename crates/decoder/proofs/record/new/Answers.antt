@@ -1,6 +1,5 @@
 use mathlib.Core.List.{[]}
 use Prim.Native.Nat.{ℕ}
-use borrow.Author.Rules.{rules}
 use Rattle.reading.specs.Reading.{hold}
 use Rattle.reading.specs.declared.Left.{Left}
 use Rattle.decoder.specs.Record.{new_spot}

@@ -1,5 +1,4 @@
 use mathlib.Core.Path.{ap, ◌∙◌}
-use borrow.Author.Rules.{rules}
 use Rattle.decoder.specs.Code.{refusing}
 use Rattle.decoder.proofs.record.unopened.Goals as goal
 

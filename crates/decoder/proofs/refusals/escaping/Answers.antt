@@ -3,7 +3,6 @@ use Prim.Native.Nat.{ℕ, ◌+◌}
 use lib.Dec.{leb, eqb}
 use native.Mathlib.Omega.{arith}
 use borrow.Author.Tests.{le-leb, lt-leb}
-use borrow.Author.Rules.{rules}
 use Rattle.standard.specs.Sequence.{shift}
 use Rattle.decoder.specs.Valid.{iso_cost}
 use Rattle.decoder.proofs.refusals.escaping.Goals as goal

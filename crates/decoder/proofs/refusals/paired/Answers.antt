@@ -4,7 +4,6 @@ use mathlib.Core.Bool.{and-false}
 use mathlib.Core.Path.{◌∙◌}
 use Prim.Native.Nat.{◌%◌}
 use native.Mathlib.Omega.{arith}
-use borrow.Author.Rules.{rules}
 use Rattle.standard.specs.Sequence.{shift}
 use Rattle.decoder.proofs.Numbers.{by_pairs}
 use Rattle.decoder.proofs.refusals.paired.Goals as goal

@@ -2,7 +2,6 @@ use borrow.Author.Tests.{eq-eqb, ne_eqb}
 use mathlib.Core.Path.{sym, ◌∙◌}
 use lib.Dec.{eqb}
 use native.Mathlib.Omega.{arith}
-use borrow.Author.Rules.{rules}
 use Rattle.standard.specs.Sequence.{shift}
 use Rattle.decoder.proofs.Numbers.{possible_is}
 use Rattle.decoder.proofs.refusals.possible.Goals as goal

@@ -1,6 +1,5 @@
 use mathlib.Core.Path.{sym, ◌∙◌}
 use native.Mathlib.Omega.{arith}
-use borrow.Author.Rules.{rules}
 use borrow.Author.Tests.{eq-eqb}
 use Rattle.decoder.specs.Valid.{possible_at}
 use Rattle.decoder.proofs.refusals.possible_at.Goals as goal

@@ -2,7 +2,6 @@ use mathlib.Core.Bool.{◌&&◌, not, and-false, and-true}
 use mathlib.Core.Path.{◌∙◌}
 use native.Mathlib.Omega.{arith}
 use lib.Dec.{eqb}
-use borrow.Author.Rules.{rules}
 use borrow.Author.Tests.{eq-eqb, ne_eqb}
 use Rattle.decoder.specs.Valid.{possible_at}
 use Rattle.decoder.proofs.Numbers.{none_at_most}

@@ -1,6 +1,5 @@
 use mathlib.Core.Path.{sym, ◌∙◌}
 use native.Mathlib.Omega.{arith}
-use borrow.Author.Rules.{rules}
 use Rattle.decoder.proofs.Checks.{record_5, record_6, record_0}
 use Rattle.decoder.proofs.refusals.record_refusal.Goals as goal
 

@@ -1,6 +1,5 @@
 use Rattle.decoder.proofs.Checks.{none_started, waits_is, started_is}
 use native.Mathlib.Omega.{arith}
-use borrow.Author.Rules.{rules}
 use Rattle.decoder.proofs.refusals.started.Goals as goal
 
 pub returns-then-d-eq0 : goal.returns-then-d-eq0

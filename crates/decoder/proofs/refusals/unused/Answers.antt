@@ -1,6 +1,5 @@
 use mathlib.Core.Path.{sym, ◌∙◌}
 use Rattle.decoder.proofs.Checks.{unused_yes, unused_second, unused_third}
-use borrow.Author.Rules.{rules}
 use Rattle.decoder.proofs.refusals.unused.Goals as goal
 
 pub returns-then-free-2 : goal.returns-then-free-2

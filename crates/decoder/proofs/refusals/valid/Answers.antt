@@ -1,7 +1,6 @@
 use mathlib.Core.Path.{sym, ◌∙◌}
 use Rattle.decoder.proofs.Checks.{no_encoding, no_mode, no_flag, no_held, no_ended, no_unused, valid_rest_lem}
 use native.Mathlib.Omega.{arith}
-use borrow.Author.Rules.{rules}
 use Rattle.decoder.proofs.refusals.valid.Goals as goal
 
 pub returns-then-d-gt39 : goal.returns-then-d-gt39

@@ -4,7 +4,6 @@ use lib.ListN.{length, length-set}
 use Rattle.standard.specs.Ones.{shift_to}
 use Rattle.encoder.proofs.Shifts.{shifts_size, stays_put, shifts_put}
 use native.Mathlib.Omega.{arith}
-use borrow.Author.Rules.{rules}
 use Rattle.encoder.proofs.escapes.put.Goals as goal
 use Rattle.encoder.proofs.escapes.put.Goals.{Else-from-to}
 

@@ -3,7 +3,6 @@ use Rattle.encoder.proofs.Scalars.{of_windows_1252, of_single_byte, of_user_defi
 use Rattle.reverse_index_spec.specs.ReverseIndex.{look_up}
 use native.Mathlib.Omega.{arith}
 use mathlib.Core.Path.{◌∙◌}
-use borrow.Author.Rules.{rules}
 use Rattle.encoder.proofs.one_byte.byte_of.Goals as goal
 
 pub returns-then-encoding-eq21 : goal.returns-then-encoding-eq21

@@ -1,13 +1,11 @@
 use mathlib.Core.Path.{refl}
 use mathlib.Core.List.{[], ◌∷◌}
-use Prim.Native.Nat.{◌≤◌, ◌-◌}
+use Prim.Native.Nat.{◌≤◌}
 use native.Mathlib.Omega.{arith}
-use lib.ListN.{length, get_or}
-use borrow.Author.Rules.{rules}
+use lib.ListN.{get_or}
 use Rattle.standard.specs.Machine.{reference}
-use Rattle.reverse_index_spec.specs.ReverseIndex.{look_up}
-use Rattle.encoder.specs.WriterCode.{encoder_of, one_of}
-use Rattle.encoder.proofs.Counting.{Counted, counted_start, counted_here, counted_end, counted_on, here_bytes, here_reference, here_stop}
+use Rattle.encoder.specs.WriterCode.{encoder_of}
+use Rattle.encoder.proofs.Counting.{counted_start, counted_here, counted_end, counted_on, here_bytes, here_reference, here_stop}
 use Rattle.encoder.proofs.Counting.{told_byte, told_none, scalar_at}
 use Rattle.encoder.proofs.one_byte.count_by.Goals as goal
 use Rattle.encoder.proofs.one_byte.count_by.Goals.{In-loop-i}

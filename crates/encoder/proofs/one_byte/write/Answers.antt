@@ -1,6 +1,5 @@
 -- `one_byte::write`: empty slots and filled ones are right. Assumes nothing.
 use mathlib.Core.Path.{refl}
-use borrow.Author.Rules.{rules}
 use Rattle.reverse_index_spec.specs.ReverseIndex.{look_up}
 use Rattle.encoder.proofs.Filling.{empty_slots}
 use Rattle.encoder.proofs.one_byte.write.Goals as goal

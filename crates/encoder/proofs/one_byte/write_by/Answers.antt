@@ -1,12 +1,11 @@
 use mathlib.Core.Path.{refl}
 use mathlib.Core.List.{List, [], ◌∷◌}
-use Prim.Native.Nat.{ℕ, ◌-◌}
+use Prim.Native.Nat.{ℕ}
 use native.Mathlib.Omega.{arith}
-use lib.ListN.{length, get_or}
-use borrow.Author.Rules.{rules}
+use lib.ListN.{get_or}
 use Rattle.standard.specs.Machine.{reference}
 use Rattle.reverse_index_spec.specs.ReverseIndex.{look_up}
-use Rattle.encoder.specs.WriterCode.{encoder_of, one_of, Running}
+use Rattle.encoder.specs.WriterCode.{encoder_of, one_of}
 use Rattle.encoder.proofs.Counting.{Here, running_start, running_end, running_here, running_room, running_on}
 use Rattle.encoder.proofs.Counting.{here_bytes, here_reference, here_stop, told_byte, told_none}
 use Rattle.encoder.proofs.one_byte.write_by.Goals as goal

@@ -1,5 +1,4 @@
 -- `behind`. Assumes nothing.
-use borrow.Author.Rules.{rules}
 use Rattle.encoder.proofs.pairs.behind.Goals as goal
 
 pub returns-then-two : goal.returns-then-two

@@ -1,15 +1,11 @@
-use mathlib.Core.Path.{◌≡◌, refl}
+use mathlib.Core.Path.{refl}
 use mathlib.Core.List.{List}
-use Prim.Native.Nat.{ℕ, ◌-◌}
-use lib.ListN.{length}
+use Prim.Native.Nat.{ℕ}
 use Rattle.standard.specs.Machine.{reference}
-use Rattle.standard.specs.Ones.{wrote, shift_to}
-use Rattle.reverse_index_spec.specs.ReverseIndex.{look_up}
-use Rattle.pair_writers.specs.Pairs.{bytes_of, Ready}
-use Rattle.encoder.specs.WriterCode.{pair_of}
-use Rattle.encoder.proofs.Counting.{Counted, counted_start, counted_stop, counted_end, counted_both, here_bytes, here_reference, here_stop}
+use Rattle.standard.specs.Ones.{shift_to}
+use Rattle.pair_writers.specs.Pairs.{bytes_of}
+use Rattle.encoder.proofs.Counting.{counted_start, counted_stop, counted_end, counted_both, here_bytes, here_reference, here_stop}
 use Rattle.encoder.proofs.Ones.{pair_bytes, pair_named}
-use borrow.Author.Rules.{rules}
 use native.Mathlib.Omega.{arith}
 use Rattle.encoder.proofs.pairs.count_by.Goals as goal
 use Rattle.encoder.proofs.pairs.count_by.Goals.{After-state_for-to}

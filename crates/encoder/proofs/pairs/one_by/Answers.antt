@@ -1,7 +1,6 @@
 -- `one_by`: by its slot, or asked and remembered. Assumes nothing.
 use mathlib.Core.Path.{◌∙◌}
 use Rattle.encoder.proofs.PairSlots.{kept_told, keeps_ready}
-use borrow.Author.Rules.{rules}
 use Rattle.encoder.proofs.pairs.one_by.Goals as goal
 
 pub returns-then-v-ge256 : goal.returns-then-v-ge256

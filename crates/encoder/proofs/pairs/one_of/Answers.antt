@@ -1,7 +1,6 @@
 -- `one_of`: ASCII, and the others. Assumes nothing.
 use mathlib.Core.Path.{◌∙◌}
 use Rattle.encoder.proofs.Filling.{pair_80}
-use borrow.Author.Rules.{rules}
 use Rattle.encoder.proofs.pairs.one_of.Goals as goal
 
 pub returns-then-c-lt128 : goal.returns-then-c-lt128

@@ -2,7 +2,6 @@
 -- What falls at each turn is the number of numbers left. Assumes nothing.
 use Prim.Native.Nat.{◌-◌, ◌≤◌}
 use lib.ListN.{length}
-use borrow.Author.Rules.{rules}
 use Rattle.encoder.proofs.pairs.others.Given as goal
 
 abbrev pub invariant-loop-i : goal.invariant-loop-i

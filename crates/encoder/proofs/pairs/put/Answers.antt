@@ -4,7 +4,6 @@ use lib.ListN.{length, length-set}
 use Rattle.pair_writers.specs.Pairs.{bytes_of}
 use Rattle.encoder.proofs.Ones.{one_size, two_size, four_size, more_size, some_size, one_put, two_put, four_put}
 use native.Mathlib.Omega.{arith}
-use borrow.Author.Rules.{rules}
 use Rattle.encoder.proofs.pairs.put.Goals as goal
 use Rattle.encoder.proofs.pairs.put.Goals.{Else-one-eq2}
 

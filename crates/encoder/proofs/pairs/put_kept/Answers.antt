@@ -5,7 +5,6 @@ use lib.Dec.{leb}
 use lib.ListN.{length-set}
 use Rattle.encoder.proofs.PairSlots.{kept_put}
 use native.Mathlib.Omega.{arith}
-use borrow.Author.Rules.{rules}
 use Rattle.encoder.proofs.pairs.put_kept.Goals as goal
 
 pub bounds-room-at-2 : goal.bounds-room-at-2

@@ -4,7 +4,6 @@ use mathlib.Core.List.{List}
 use Prim.Native.Nat.{ℕ}
 use Rattle.standard.specs.Machine.{tokens}
 use Rattle.encoder.proofs.PairSlots.{below_floor, from_floor}
-use borrow.Author.Rules.{rules}
 use Rattle.encoder.proofs.pairs.recalled.Goals as goal
 
 pub returns-then-v-floor : goal.returns-then-v-floor

@@ -2,7 +2,6 @@
 use mathlib.Core.Path.{◌≡◌}
 use native.Mathlib.Omega.{arith}
 use Rattle.encoder.specs.WriterCode.{same, put}
-use borrow.Author.Rules.{rules}
 use Rattle.encoder.proofs.pairs.remember.Goals as goal
 
 pub returns-then-one-ne2 : goal.returns-then-one-ne2

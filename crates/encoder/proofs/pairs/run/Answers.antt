@@ -1,16 +1,8 @@
-use mathlib.Core.Path.{◌≡◌, refl}
-use mathlib.Core.List.{List}
-use Prim.Native.Nat.{ℕ, ◌-◌, ◌≤◌}
-use lib.ListN.{length}
-use Rattle.standard.specs.Ones.{One}
+use mathlib.Core.Path.{refl}
 use Rattle.pair_writers.specs.Pairs.{bytes_in}
-use Rattle.encoder_spec.specs.Writing.{writing}
-use Rattle.encoder.specs.WriterCode.{Stays, Space, Running}
 use Rattle.encoder.proofs.Counting.{running_on, here_bytes}
 use Rattle.encoder.proofs.PairSlots.{bytes_most, stays_here}
-use borrow.Author.Tests.{not-false}
 use native.Mathlib.Omega.{arith}
-use borrow.Author.Rules.{rules}
 use Rattle.encoder.proofs.pairs.run.Goals as goal
 
 pub returns-then-not-stays : goal.returns-then-not-stays

@@ -1,6 +1,5 @@
 -- `stays`. Assumes nothing.
 use borrow.Author.Tests.{eqb-true}
-use borrow.Author.Rules.{rules}
 use Rattle.encoder.proofs.pairs.stays.Goals as goal
 
 pub returns : goal.returns

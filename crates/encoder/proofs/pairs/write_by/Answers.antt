@@ -1,18 +1,17 @@
 use mathlib.Core.Path.{◌≡◌, refl, subst}
 use mathlib.Core.List.{List, [], ◌∷◌, ◌++◌}
-use Prim.Native.Nat.{ℕ, ◌+◌, ◌-◌, ◌≤◌, ◌<◌}
+use Prim.Native.Nat.{ℕ, ◌+◌, ◌≤◌, ◌<◌}
 use lib.ListN.{length, get_or}
 use Rattle.standard.specs.Machine.{reference}
 use Rattle.standard.specs.Ones.{One, shift_to}
 use Rattle.reverse_index_spec.specs.ReverseIndex.{look_up}
-use Rattle.pair_writers.specs.Pairs.{bytes_of, pair_encode, Ready}
+use Rattle.pair_writers.specs.Pairs.{bytes_of, pair_encode}
 use Rattle.encoder.specs.WriterCode.{pair_of, Running}
 use Rattle.encoder.proofs.Counting.{Here, running_start, running_end, running_front, running_stop, running_room, running_on, running_room_both, running_both}
 use Rattle.encoder.proofs.Counting.{here_bytes, here_reference, here_stop, here_least}
 use Rattle.encoder.proofs.Ones.{pair_answered, pair_bytes, pair_named, plain_byte}
 use Rattle.encoder.proofs.PairSlots.{ready_stays}
 use native.Mathlib.Omega.{arith}
-use borrow.Author.Rules.{rules}
 use Rattle.encoder.proofs.pairs.write_by.Goals as goal
 use Rattle.encoder.proofs.pairs.write_by.Goals.{After-one_by-one, After-run-r, After-state_for-to, Else-mode-eq1, In-loop-i, Start, Then-one-ne0, Then-plain}
 
@@ -141,13 +140,12 @@ loop-i-smaller-then-one-ne0 c =
     omega (arith, c.loop-i-test.true)
 
 pub loop-i-preserved-then-one-ne0 : goal.loop-i-preserved-then-one-ne0
-loop-i-preserved-then-one-ne0 c =
-    (
-      running_both _ _ _ _ _ _ _ _ _ (still (goal.at.loop-i-preserved-then-one-ne0 c).After-one_by-one) _ (way (goal.at.loop-i-preserved-then-one-ne0 c).After-state_for-to) (bytes (goal.at.loop-i-preserved-then-one-ne0 c).Then-one-ne0) (bytes_here (goal.at.loop-i-preserved-then-one-ne0 c).Then-one-ne0) c.requires.1 _ _
-          c.put-o.ensures.0 c.put-o.ensures.1 _ _ c.put-o-then-one-ne0.ensures.0 c.put-o-then-one-ne0.ensures.1,
-      c.one_by-one.ensures.1,
-      omega (arith, c.one_by-one.auto, c.loop-i.invariant.2),
-    )
+loop-i-preserved-then-one-ne0 c = (
+  running_both _ _ _ _ _ _ _ _ _ (still (goal.at.loop-i-preserved-then-one-ne0 c).After-one_by-one) _ (way (goal.at.loop-i-preserved-then-one-ne0 c).After-state_for-to) (bytes (goal.at.loop-i-preserved-then-one-ne0 c).Then-one-ne0) (bytes_here (goal.at.loop-i-preserved-then-one-ne0 c).Then-one-ne0) c.requires.1 _ _
+      c.put-o.ensures.0 c.put-o.ensures.1 _ _ c.put-o-then-one-ne0.ensures.0 c.put-o-then-one-ne0.ensures.1,
+  c.one_by-one.ensures.1,
+  omega (arith, c.one_by-one.auto, c.loop-i.invariant.2),
+)
 
 pub shape_of-slots-then-mode-eq1 : goal.shape_of-slots-then-mode-eq1
 shape_of-slots-then-mode-eq1 c =
@@ -177,13 +175,12 @@ loop-i-smaller c =
     omega (arith, c.loop-i-test.true)
 
 pub loop-i-preserved : goal.loop-i-preserved
-loop-i-preserved c =
-    (
-      running_both _ _ _ _ _ _ _ _ _ (still (goal.at.loop-i-preserved c).After-one_by-one) _ (way (goal.at.loop-i-preserved c).After-state_for-to) (refers (goal.at.loop-i-preserved c).Else-mode-eq1) (reference_here (goal.at.loop-i-preserved c).Else-mode-eq1) c.requires.1 _ _
-          c.put-o.ensures.0 c.put-o.ensures.1 _ _ c.put-o-in-loop-i.ensures.0 c.put-o-in-loop-i.ensures.1,
-      c.one_by-one.ensures.1,
-      omega (arith, c.one_by-one.auto, c.loop-i.invariant.2),
-    )
+loop-i-preserved c = (
+  running_both _ _ _ _ _ _ _ _ _ (still (goal.at.loop-i-preserved c).After-one_by-one) _ (way (goal.at.loop-i-preserved c).After-state_for-to) (refers (goal.at.loop-i-preserved c).Else-mode-eq1) (reference_here (goal.at.loop-i-preserved c).Else-mode-eq1) c.requires.1 _ _
+      c.put-o.ensures.0 c.put-o.ensures.1 _ _ c.put-o-in-loop-i.ensures.0 c.put-o-in-loop-i.ensures.1,
+  c.one_by-one.ensures.1,
+  omega (arith, c.one_by-one.auto, c.loop-i.invariant.2),
+)
 
 pub shape_of-slots : goal.shape_of-slots
 shape_of-slots c = c.loop-i.invariant.2

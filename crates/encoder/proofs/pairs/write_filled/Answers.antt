@@ -1,6 +1,5 @@
 -- `pairs::write_filled`. Assumes nothing.
 use mathlib.Core.Path.{refl}
-use borrow.Author.Rules.{rules}
 use Rattle.encoder.proofs.pairs.write_filled.Goals as goal
 
 pub write_by-requires : goal.write_by-requires

@@ -2,7 +2,6 @@
 use Rattle.encoder.proofs.Rooms.{reference_length, put_reference}
 use lib.ListN.{length-set}
 use native.Mathlib.Omega.{arith}
-use borrow.Author.Rules.{rules}
 use Rattle.encoder.proofs.references.put.Goals as goal
 
 pub bounds-room-at : goal.bounds-room-at

@@ -1,7 +1,6 @@
 -- `references::size`: three bytes more than the digits. Assumes nothing.
 use Rattle.encoder.proofs.Rooms.{reference_length}
 use native.Mathlib.Omega.{arith}
-use borrow.Author.Rules.{rules}
 use Rattle.encoder.proofs.references.size.Goals as goal
 
 pub returns : goal.returns

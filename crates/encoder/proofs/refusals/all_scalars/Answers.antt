@@ -1,12 +1,6 @@
 use Rattle.encoder.proofs.Counting.{all_end, all_on}
-use Rattle.standard.specs.Base.{scalars as are_scalars}
-use mathlib.Core.Path.{◌≡◌, refl, ◌∙◌}
-use mathlib.Core.Bool.{◌&&◌}
-use lib.Dec.{eqb}
-use lib.ListN.{length, drop}
-use Prim.Native.Nat.{◌-◌, ◌≤◌}
+use mathlib.Core.Path.{refl, ◌∙◌}
 use native.Mathlib.Omega.{arith}
-use borrow.Author.Rules.{rules}
 use Rattle.encoder.proofs.refusals.all_scalars.Goals as goal
 
 pub loop-i-init : goal.loop-i-init

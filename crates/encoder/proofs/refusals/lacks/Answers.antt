@@ -6,7 +6,6 @@ use lib.Dec.{ltb}
 use mathlib.Core.Path.{ap}
 use native.Mathlib.Nat.{mul-le-mul}
 use native.Mathlib.Omega.{arith}
-use borrow.Author.Rules.{rules}
 use Rattle.encoder.proofs.refusals.lacks.Goals as goal
 
 pub overflow_mul-scalars : goal.overflow_mul-scalars

@@ -1,7 +1,6 @@
 -- `no_scalar`, by the test of a scalar. Assumes nothing.
 use mathlib.Core.Path.{sym, ◌∙◌}
 use native.Mathlib.Omega.{arith}
-use borrow.Author.Rules.{rules}
 use Rattle.encoder.proofs.refusals.no_scalar.Goals as goal
 
 pub returns-then-is_scalar : goal.returns-then-is_scalar

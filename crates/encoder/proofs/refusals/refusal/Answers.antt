@@ -1,8 +1,6 @@
 -- The refusals that do not depend on the scalars, one test after the other. Assumes nothing.
 use mathlib.Core.Path.{◌≡◌, sym, ◌∙◌}
 use mathlib.Core.Bool.{true}
-use borrow.Author.Rules.{rules}
-use borrow.Author.Tests.{not-true, not-false}
 use Rattle.standard.specs.Encodings.{lent}
 use Rattle.encoder.specs.WriterCode.{writes, tables_fit}
 use Rattle.encoder.proofs.Calls.{refused_2, refused_3, refused_5, refused_9, refused_4, refused_15, refused_text, table_fits}

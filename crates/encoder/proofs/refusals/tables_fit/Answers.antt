@@ -1,7 +1,6 @@
 -- `tables_fit`: as for reading, and the katakana cells. Assumes nothing.
 use mathlib.Core.Path.{◌∙◌}
 use Rattle.encoder.proofs.Calls.{fit_others, fit_katakana, no_katakana}
-use borrow.Author.Rules.{rules}
 use Rattle.encoder.proofs.refusals.tables_fit.Goals as goal
 
 pub returns-then-encoding-ne33 : goal.returns-then-encoding-ne33

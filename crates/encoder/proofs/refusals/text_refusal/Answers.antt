@@ -1,7 +1,6 @@
 -- The refusals that depend on the scalars, one test after the other. Assumes nothing.
 use mathlib.Core.Path.{◌≡◌, sym, ◌∙◌}
 use mathlib.Core.Bool.{true}
-use borrow.Author.Tests.{not-true, not-false}
 use Rattle.standard.specs.Base.{◌then◌else◌, scalars}
 use Rattle.standard.specs.Encodings.{lent}
 use Rattle.reverse_index_spec.specs.ReverseIndex.{look_up}
@@ -28,7 +27,7 @@ lacks-requires c =
     (are_scalars c, c.if-scalars-gt16384.false, c.requires)
 
 -- 7 or 0, by the test of the room
-by_room : (c : After-lacks) →    (c.lacks.result then 7 else 0) ≡
+by_room : (c : After-lacks) → (c.lacks.result then 7 else 0) ≡
     text_refusal (look_up c.args.t1.now c.args.links.now) c.args.encoding c.args.mode c.args.state
     (lent c.args.t1.now c.args.t2.now) c.args.scalars.now c.args.room
 by_room c = refused_7 _ _ _ _ _ _ _ c.if-scalars-gt16384.false (are_scalars (goal.at.After-lacks c).Else-not-all_scalars) c.lacks.result c.lacks.ensures

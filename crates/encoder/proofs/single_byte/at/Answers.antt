@@ -3,7 +3,6 @@ use mathlib.Core.Path.{ap}
 use Rattle.index.specs.IndexCode.{pointer_of}
 use Rattle.encoder.proofs.Scalars.{by_at, by_missing}
 use native.Mathlib.Omega.{arith}
-use borrow.Author.Rules.{rules}
 use Rattle.encoder.proofs.single_byte.at.Goals as goal
 
 pub overflow_cast-result : goal.overflow_cast-result

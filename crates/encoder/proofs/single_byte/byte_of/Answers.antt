@@ -5,7 +5,6 @@ use Rattle.reverse_index_spec.specs.ReverseIndex.{look_up}
 use Rattle.reverse_index_spec.proofs.LookUp.{none_passed}
 use Rattle.encoder.proofs.Scalars.{given_byte, single_one, single_by, looked_below}
 use native.Mathlib.Omega.{arith}
-use borrow.Author.Rules.{rules}
 use Rattle.encoder.proofs.single_byte.byte_of.Goals as goal
 
 pub returns-then-c-lt128 : goal.returns-then-c-lt128

@@ -2,7 +2,6 @@
 use Rattle.standard.specs.Search.{searching}
 use Rattle.encoder.proofs.Scalars.{given_byte, single_one, single_by, pointer_below}
 use native.Mathlib.Omega.{arith}
-use borrow.Author.Rules.{rules}
 use Rattle.encoder.proofs.single_byte.searched.Goals as goal
 
 pub returns-then-c-lt128 : goal.returns-then-c-lt128

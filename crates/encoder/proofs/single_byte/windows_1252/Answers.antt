@@ -3,7 +3,6 @@ use Rattle.encoder.proofs.Scalars.{given_byte, windows_low, windows_self, window
 use Rattle.standard.specs.Indexes.{irregular}
 use native.Mathlib.Omega.{arith}
 use mathlib.Core.Path.{◌∙◌}
-use borrow.Author.Rules.{rules}
 use Rattle.encoder.proofs.single_byte.windows_1252.Goals as goal
 
 pub returns-then-c-lt160 : goal.returns-then-c-lt160

@@ -3,7 +3,6 @@ use native.Mathlib.Omega.{arith}
 use Rattle.encoder.proofs.Filling.{given_80, by_slot}
 use Rattle.reverse_index_spec.specs.ReverseIndex.{look_up}
 use Prim.Native.Nat.{◌%◌}
-use borrow.Author.Rules.{rules}
 use Rattle.encoder.proofs.slots.byte_of.Goals as goal
 
 pub returns-then-c-lt128 : goal.returns-then-c-lt128

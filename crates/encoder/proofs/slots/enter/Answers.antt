@@ -5,8 +5,6 @@ use Prim.Native.Nat.{ℕ}
 use native.Mathlib.Omega.{arith}
 use Rattle.encoder.proofs.Filling.{mapped_most, entered_not, entered_there}
 use Rattle.standard.specs.Base.{mapped}
-use borrow.Author.Tests.{not-true, not-false}
-use borrow.Author.Rules.{rules}
 use Rattle.encoder.proofs.slots.enter.Goals as goal
 use Rattle.encoder.proofs.slots.enter.Goals.{After-mapped, Else-not-mapped}
 

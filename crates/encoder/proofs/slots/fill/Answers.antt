@@ -12,7 +12,6 @@ use Rattle.standard.specs.Search.{Lookup}
 use Rattle.standard.specs.Encoders.SingleByte.{single_byte_encode}
 use Rattle.encoder.specs.WriterCode.{encoder_of}
 use lib.ListN.{length-replicate}
-use borrow.Author.Rules.{rules}
 use Rattle.encoder.proofs.slots.fill.Goals as goal
 use Rattle.encoder.proofs.slots.fill.Goals.{Else-encoding-eq21}
 

@@ -1,10 +1,8 @@
 use lib.ListN.{length}
-use Prim.Native.Nat.{ℕ, ◌-◌}
+use Prim.Native.Nat.{ℕ}
 use mathlib.Core.Path.{sym, ap, ◌∙◌}
-use Rattle.encoder.proofs.Filling.{Looked, looked_start, looked_on}
-use Rattle.reverse_index_spec.specs.ReverseIndex.{look_up}
+use Rattle.encoder.proofs.Filling.{looked_start, looked_on}
 use lib.ListN.{length-replicate}
-use borrow.Author.Rules.{rules}
 use Rattle.encoder.proofs.slots.fill_looked.Goals as goal
 
 pub loop-p-init : goal.loop-p-init

@@ -1,16 +1,7 @@
-use lib.ListN.{length}
-use Prim.Native.Nat.{◌-◌}
 use mathlib.Core.Path.{sym, ◌∙◌}
 use native.Mathlib.Omega.{arith}
 use Rattle.encoder.proofs.Filling.{regular_on}
-use Rattle.encoder.specs.WriterCode.{Slots}
-use Rattle.standard.specs.Indexes.{windows1252}
-use Rattle.standard.specs.Search.{searching}
-use Rattle.standard.specs.Encoders.SingleByte.{single_byte_encode}
 use lib.ListN.{length-set}
-use mathlib.Core.Path.{◌≡◌}
-use Prim.Native.Nat.{◌≤◌}
-use borrow.Author.Rules.{rules}
 use Rattle.encoder.proofs.slots.fill_regular.Goals as goal
 
 pub loop-c-init : goal.loop-c-init

@@ -2,9 +2,8 @@ use lib.ListN.{length}
 use Prim.Native.Nat.{ℕ}
 use mathlib.Core.Path.{sym, ap, ◌∙◌}
 use native.Mathlib.Omega.{arith}
-use Rattle.encoder.proofs.Filling.{Filled, filled_start, filled_on, filled_end}
+use Rattle.encoder.proofs.Filling.{filled_start, filled_on, filled_end}
 use lib.ListN.{length-replicate}
-use borrow.Author.Rules.{rules}
 use Rattle.encoder.proofs.slots.fill_table.Goals as goal
 
 pub loop-p-init : goal.loop-p-init

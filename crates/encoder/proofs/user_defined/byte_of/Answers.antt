@@ -1,7 +1,6 @@
 -- `user_defined::byte_of`, by its ranges. Assumes nothing.
 use Rattle.encoder.proofs.Scalars.{given_byte, given_none, user_one, user_low, user_byte, user_high}
 use native.Mathlib.Omega.{arith}
-use borrow.Author.Rules.{rules}
 use Rattle.encoder.proofs.user_defined.byte_of.Goals as goal
 
 pub returns-then-c-lt128 : goal.returns-then-c-lt128

@@ -1,11 +1,9 @@
-use Rattle.encoder.proofs.Counting.{Counted, counted_start, counted_end, counted_on, here_bytes, told_bytes}
+use Rattle.encoder.proofs.Counting.{counted_start, counted_end, counted_on, here_bytes, told_bytes}
 use Rattle.encoder.proofs.Scalars.{utf8_tokens}
-use Rattle.encoder.specs.WriterCode.{utf8_of, plain}
+use Rattle.encoder.specs.WriterCode.{utf8_of}
 use Rattle.standard.specs.Encoders.Utf8.{utf8_encode}
-use lib.ListN.{length, get_or}
-use Prim.Native.Nat.{◌-◌, ◌*◌, ◌≤◌}
+use lib.ListN.{get_or}
 use native.Mathlib.Omega.{arith}
-use borrow.Author.Rules.{rules}
 use Rattle.encoder.proofs.utf8.count.Goals as goal
 
 pub loop-i-init : goal.loop-i-init

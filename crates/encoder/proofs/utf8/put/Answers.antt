@@ -1,5 +1,5 @@
 -- `utf8::put`: one to four bytes, by the tests of the scalar. Assumes nothing.
-use Rattle.encoder.proofs.Rooms.{same_list, put_one, put_two, put_three, put_four}
+use Rattle.encoder.proofs.Rooms.{same_list, put_one}
 use Rattle.encoder.proofs.Scalars.{utf8_one_lem, utf8_two_lem, utf8_three_lem, utf8_four_lem, utf8_one-length, utf8_two-length, utf8_three-length, utf8_four-length}
 use native.Mathlib.Omega.{arith}
 use borrow.Author.Rules.{rules}

@@ -2,7 +2,6 @@
 use Rattle.encoder.proofs.Rooms.{put_four}
 use native.Mathlib.Omega.{arith}
 use lib.ListN.{length-set}
-use borrow.Author.Rules.{rules}
 use Rattle.encoder.proofs.utf8.put_four.Goals as goal
 
 pub bounds-room-at-2 : goal.bounds-room-at-2

@@ -2,7 +2,6 @@
 use Rattle.encoder.proofs.Rooms.{put_two}
 use native.Mathlib.Omega.{arith}
 use lib.ListN.{length-set}
-use borrow.Author.Rules.{rules}
 use Rattle.encoder.proofs.utf8.put_two.Goals as goal
 
 pub bounds-room-at-2 : goal.bounds-room-at-2

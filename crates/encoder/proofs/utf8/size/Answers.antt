@@ -1,7 +1,6 @@
 -- `utf8::size`: a byte more for each test that holds. Assumes nothing.
 use Rattle.encoder.proofs.Scalars.{utf8_size}
 use native.Mathlib.Omega.{arith}
-use borrow.Author.Rules.{rules}
 use Rattle.encoder.proofs.utf8.size.Goals as goal
 
 pub returns : goal.returns

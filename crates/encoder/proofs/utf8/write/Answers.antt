@@ -1,11 +1,10 @@
 use mathlib.Core.List.{List}
 use Rattle.encoder.proofs.Counting.{Here, running_start, running_end, running_room, running_on, here_bytes, told_bytes, scalar_at}
 use Rattle.encoder.proofs.Scalars.{utf8_tokens}
-use Rattle.encoder.specs.WriterCode.{utf8_of, plain, Running}
+use Rattle.encoder.specs.WriterCode.{utf8_of, plain}
 use Rattle.standard.specs.Encoders.Utf8.{utf8_encode}
-use lib.ListN.{length, get_or}
-use Prim.Native.Nat.{ℕ, ◌-◌}
-use borrow.Author.Rules.{rules}
+use lib.ListN.{get_or}
+use Prim.Native.Nat.{ℕ}
 use Rattle.encoder.proofs.utf8.write.Goals as goal
 use Rattle.encoder.proofs.utf8.write.Goals.{In-loop-i}
 

@@ -9,7 +9,6 @@ use Rattle.reverse_index_spec.specs.ReverseIndex.{look_up}
 use Rattle.encoder.specs.WriterCode.{pairs}
 use Rattle.encoder.proofs.Most.{utf8_writing, pairs_writing, bytes_writing}
 use native.Mathlib.Omega.{arith}
-use borrow.Author.Rules.{rules}
 use Rattle.encoder.proofs.writers.count.Goals as goal
 use Rattle.encoder.proofs.writers.count.Goals.{Start}
 

@@ -9,7 +9,6 @@ use Rattle.encoder_spec.specs.Writing.{Writing}
 use Rattle.encoder.specs.WriterCode.{pairs}
 use Rattle.encoder.proofs.Most.{utf8_writing, pairs_writing, bytes_writing, wrote_as, wrote_handed}
 use native.Mathlib.Omega.{arith}
-use borrow.Author.Rules.{rules}
 use Rattle.encoder.proofs.writers.write.Goals as goal
 use Rattle.encoder.proofs.writers.write.Goals.{Else-pairs, Start, Then-pairs}
 

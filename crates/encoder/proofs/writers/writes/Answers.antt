@@ -1,7 +1,6 @@
 -- `writes`, by its tests. Assumes nothing.
 use mathlib.Core.Path.{sym, ◌∙◌}
 use borrow.Author.Tests.{le-leb, lt-leb}
-use borrow.Author.Rules.{rules}
 use Rattle.encoder.proofs.writers.writes.Goals as goal
 
 pub returns-then-encoding-le28 : goal.returns-then-encoding-le28

@@ -1,7 +1,6 @@
 -- `second_fits`: 29 and 30 have ranges, 32 has jis0212, the others nothing. Assumes nothing.
 use mathlib.Core.Path.{◌∙◌}
 use native.Mathlib.Omega.{arith}
-use borrow.Author.Rules.{rules}
 use Rattle.standard.specs.Encodings.{family, traits}
 use Rattle.index.proofs.TableLengths.{second_at, second_none}
 use Rattle.index.proofs.lengths.second_fits.Goals as goal

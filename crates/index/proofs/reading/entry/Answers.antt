@@ -1,10 +1,8 @@
 -- `entry`: each test on the way, and the entry where all hold. Assumes nothing.
 use mathlib.Core.Path.{◌≡◌, sym, ◌∙◌}
 use mathlib.Core.Bool.{true}
-use native.Mathlib.Omega.{arith}
 use lib.ListN.{drop}
 use borrow.Author.Rules.{rules}
-use borrow.Author.Tests.{not-true, not-false}
 use Rattle.index_spec.specs.IndexLine.{ending}
 use Rattle.index.proofs.Parts.{Digits, entry_none, entry_long, entry_unmarked, entry_short_code, entry_long_code, entry_open, entry_unmapped, entry_whole, code_inside}
 use Rattle.index.proofs.reading.entry.Goals as goal

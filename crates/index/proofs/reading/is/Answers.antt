@@ -1,5 +1,4 @@
 -- `is`, by the kind. Assumes nothing.
-use borrow.Author.Rules.{rules}
 use Rattle.index.proofs.reading.is.Goals as goal
 
 pub returns-in-Space : goal.returns-in-Space

@@ -1,6 +1,5 @@
 -- `marked`: a tab, 0 and x, one after the other. Assumes nothing.
 use Rattle.index.proofs.Parts.{mark_first, mark_second, mark_third}
-use borrow.Author.Rules.{rules}
 use Rattle.index.proofs.reading.marked.Goals as goal
 
 pub returns-then-byte_at-ne9 : goal.returns-then-byte_at-ne9

@@ -1,5 +1,4 @@
-use Rattle.index.proofs.Parts.{Numbered, numbered_start, numbered_end, numbered_on, next_fits}
-use Prim.Native.Nat.{◌-◌}
+use Rattle.index.proofs.Parts.{numbered_start, numbered_end, numbered_on, next_fits}
 use borrow.Author.Rules.{rules}
 use native.Mathlib.Omega.{arith}
 use Rattle.index.proofs.reading.number.Goals as goal

@@ -1,9 +1,7 @@
 -- `number`. The loop's invariant: n is what the digits from `at` to i stand for, so that the rest of them gives the whole number from it.
 -- What falls at each turn is the number of digits left. Assumes nothing.
-use Rattle.index.proofs.Parts.{Numbered, numbered_start, numbered_end, numbered_on, next_fits}
+use Rattle.index.proofs.Parts.{Numbered}
 use Prim.Native.Nat.{◌-◌}
-use borrow.Author.Rules.{rules}
-use native.Mathlib.Omega.{arith}
 use Rattle.index.proofs.reading.number.Given as goal
 
 abbrev pub invariant-loop-i : goal.invariant-loop-i

@@ -1,10 +1,6 @@
-use borrow.Author.Tests.{not-true, not-false}
 use Rattle.index.proofs.Parts.{past_end, past_stop, past_on}
-use Rattle.index.specs.IndexCode.{passes, Past}
+use Rattle.index.specs.IndexCode.{passes}
 use mathlib.Core.Path.{sym, ◌∙◌}
-use lib.ListN.{length}
-use Prim.Native.Nat.{ℕ, ◌-◌}
-use borrow.Author.Rules.{rules}
 use Rattle.index.proofs.reading.past.Goals as goal
 
 pub loop-i-init : goal.loop-i-init

@@ -1,12 +1,8 @@
 -- `past`. The loop's invariant: the place past the bytes of this kind from i on is the place past those from `at` on.
 -- What falls at each turn is the number of bytes left. Assumes nothing.
-use borrow.Author.Tests.{not-true, not-false}
-use Rattle.index.proofs.Parts.{past_end, past_stop, past_on}
 use Rattle.index.specs.IndexCode.{passes, Past}
-use mathlib.Core.Path.{sym, ◌∙◌}
 use lib.ListN.{length}
 use Prim.Native.Nat.{ℕ, ◌-◌}
-use borrow.Author.Rules.{rules}
 use Rattle.index.proofs.reading.past.Given as goal
 
 abbrev pub invariant-loop-i : goal.invariant-loop-i

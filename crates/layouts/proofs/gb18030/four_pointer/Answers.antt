@@ -3,7 +3,6 @@ use native.Mathlib.Omega.{arith}
 use Rattle.standard.specs.Sequences.Gb18030.{gb18030_four_pointer}
 use Rattle.standard.proofs.Tests.{fails, holds, within_low}
 use Rattle.layouts.proofs.Fours.{four_in, first_out, second_out, third_out, fourth_out}
-use borrow.Author.Rules.{rules}
 use Rattle.std.proofs.lemmas.Bool.{not_from_true, not_from_false}
 use Rattle.layouts.proofs.gb18030.four_pointer.Goals as goal
 

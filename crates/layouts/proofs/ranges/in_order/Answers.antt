@@ -1,9 +1,7 @@
 use mathlib.Core.Path.{sym, subst}
-use Prim.Native.Nat.{◌/◌, ◌-◌}
 use native.Mathlib.Omega.{arith}
 use lib.Dec.{T}
-use lib.ListN.{length}
-use Rattle.layouts.proofs.RangeOrder.{Checked, checked_start, checked_next, checked_all}
+use Rattle.layouts.proofs.RangeOrder.{checked_start, checked_next, checked_all}
 use Rattle.layouts.proofs.ranges.in_order.Goals as goal
 
 pub returns-then-ranges-gt65536 : goal.returns-then-ranges-gt65536

@@ -1,11 +1,8 @@
 -- `in_order`. The loop's invariant: the numbers of the first i pairs are in order.
 -- What falls at each turn is the number of pairs left. Assumes nothing.
-use mathlib.Core.Path.{sym, subst}
 use Prim.Native.Nat.{◌/◌, ◌-◌}
-use native.Mathlib.Omega.{arith}
-use lib.Dec.{T}
 use lib.ListN.{length}
-use Rattle.layouts.proofs.RangeOrder.{Checked, checked_start, checked_next, checked_all}
+use Rattle.layouts.proofs.RangeOrder.{Checked}
 use Rattle.layouts.proofs.ranges.in_order.Given as goal
 
 abbrev pub invariant-loop-i : goal.invariant-loop-i

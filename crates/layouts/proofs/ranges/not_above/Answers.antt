@@ -1,6 +1,5 @@
 -- `not_above`: how often 2^32 goes into the difference. Assumes nothing.
 use lib.Dec.{leb}
-use borrow.Author.Rules.{rules}
 use borrow.Author.Tests.{leb-true, leb-false}
 use native.Mathlib.Omega.{arith}
 use Rattle.standard.proofs.Tests.{split}

@@ -1,6 +1,5 @@
 -- `number`, by the column. Assumes nothing.
 use mathlib.Core.Path.{sym}
-use borrow.Author.Rules.{rules}
 use Rattle.layouts.proofs.ranges.number.Goals as goal
 
 pub returns-then-back : goal.returns-then-back

@@ -1,10 +1,7 @@
-use Prim.Native.Nat.{◌+◌, ◌*◌, ◌/◌, ◌≤◌}
+use Prim.Native.Nat.{◌*◌, ◌/◌, ◌≤◌}
 use native.Mathlib.Omega.{arith}
 use lib.Dec.{leb}
-use lib.ListN.{length}
-use Rattle.layouts.specs.Ranges.{Ascending}
-use Rattle.layouts.proofs.RangeOrder.{at_most, Narrowed, narrowed_start, narrowed_half, narrowed_end}
-use borrow.Author.Rules.{rules}
+use Rattle.layouts.proofs.RangeOrder.{at_most, narrowed_start, narrowed_half, narrowed_end}
 use Rattle.layouts.proofs.ranges.search.Goals as goal
 
 pub loop-count-init : goal.loop-count-init

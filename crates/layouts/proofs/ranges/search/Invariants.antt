@@ -1,12 +1,9 @@
 -- `search`. The loop's invariant: the pairs from `low` on, `count` of them, are among the ranges, and the one that decides is among these.
 -- What falls at each turn, by half, is `count`. Assumes nothing.
-use Prim.Native.Nat.{◌+◌, ◌*◌, ◌/◌, ◌≤◌}
-use native.Mathlib.Omega.{arith}
-use lib.Dec.{leb}
+use Prim.Native.Nat.{◌+◌, ◌/◌, ◌≤◌}
 use lib.ListN.{length}
 use Rattle.layouts.specs.Ranges.{Ascending}
-use Rattle.layouts.proofs.RangeOrder.{at_most, Narrowed, narrowed_start, narrowed_half, narrowed_end}
-use borrow.Author.Rules.{rules}
+use Rattle.layouts.proofs.RangeOrder.{Narrowed}
 use Rattle.layouts.proofs.ranges.search.Given as goal
 
 abbrev pub invariant-loop-count : goal.invariant-loop-count

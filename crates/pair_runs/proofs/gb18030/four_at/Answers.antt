@@ -1,11 +1,9 @@
 use mathlib.Core.Path.{refl, sym, ◌∙◌}
-use borrow.Author.Tests.{not-false}
 use Prim.Native.Nat.{◌+◌}
 use lib.ListN.{get_or}
 use Rattle.standard.specs.Encodings.{lent}
 use Rattle.pair_runs.proofs.GbRuns.{at_front, four_told}
 use native.Mathlib.Omega.{arith}
-use borrow.Author.Rules.{rules}
 use Rattle.pair_runs.proofs.gb18030.four_at.Goals as goal
 
 pub returns-then-not-ordered : goal.returns-then-not-ordered

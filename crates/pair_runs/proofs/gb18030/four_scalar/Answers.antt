@@ -1,5 +1,4 @@
 use mathlib.Core.Path.{refl}
-use borrow.Author.Rules.{rules}
 use Rattle.pair_runs.proofs.gb18030.four_scalar.Goals as goal
 
 pub returns-then-last-lt1024 : goal.returns-then-last-lt1024

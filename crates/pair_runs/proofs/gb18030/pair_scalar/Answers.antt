@@ -1,6 +1,5 @@
 use mathlib.Core.Path.{refl, sym, ◌∙◌}
 use native.Mathlib.Omega.{arith}
-use borrow.Author.Rules.{rules}
 use Rattle.pair_runs.proofs.gb18030.pair_scalar.Goals as goal
 
 pub returns-then-p-q : goal.returns-then-p-q

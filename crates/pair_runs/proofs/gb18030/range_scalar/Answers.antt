@@ -1,7 +1,6 @@
 use mathlib.Core.Path.{refl, sym, ◌∙◌}
 use native.Mathlib.Omega.{arith}
 use Rattle.pair_runs.proofs.RangeSearch.{found}
-use borrow.Author.Rules.{rules}
 use Rattle.pair_runs.proofs.gb18030.range_scalar.Goals as goal
 
 pub returns-then-ranges-k : goal.returns-then-ranges-k

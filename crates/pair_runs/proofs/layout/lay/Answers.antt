@@ -1,10 +1,7 @@
 use mathlib.Core.Path.{◌≡◌, refl, sym}
-use Prim.Native.Nat.{ℕ, ◌+◌, ◌-◌, ◌≤◌}
-use lib.ListN.{length}
+use Prim.Native.Nat.{◌+◌, ◌≤◌}
 use native.Mathlib.Nat.{mul-le-mul}
 use native.Mathlib.Omega.{arith}
-use borrow.Author.Rules.{rules}
-use Rattle.pair_runs.specs.Layout.{stepped, Holds}
 use Rattle.pair_runs.proofs.Layouts.{stepped_none, stepped_more}
 use Rattle.pair_runs.proofs.layout.lay.Goals as goal
 

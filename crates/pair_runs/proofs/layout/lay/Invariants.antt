@@ -1,11 +1,5 @@
-use mathlib.Core.Path.{◌≡◌, refl, sym}
-use Prim.Native.Nat.{ℕ, ◌+◌, ◌-◌, ◌≤◌}
-use lib.ListN.{length}
-use native.Mathlib.Nat.{mul-le-mul}
-use native.Mathlib.Omega.{arith}
-use borrow.Author.Rules.{rules}
+use Prim.Native.Nat.{ℕ, ◌-◌, ◌≤◌}
 use Rattle.pair_runs.specs.Layout.{stepped, Holds}
-use Rattle.pair_runs.proofs.Layouts.{stepped_none, stepped_more}
 use Rattle.pair_runs.proofs.layout.lay.Given as goal
 
 -- The invariant: the first k cells from the place on hold their steps, and the other cells what they held.

@@ -1,6 +1,5 @@
 use mathlib.Core.Path.{◌≡◌}
 use native.Mathlib.Omega.{arith}
-use borrow.Author.Rules.{rules}
 use Rattle.pair_runs.proofs.Layouts.{laid_gb18030, is_last}
 use Rattle.pair_runs.proofs.layout.lay_out.Goals as goal
 

@@ -1,5 +1,4 @@
 use mathlib.Core.Path.{refl}
-use borrow.Author.Rules.{rules}
 use Rattle.layouts.specs.Rows.{place, layout_of}
 use Rattle.pair_runs.specs.Layout.{left_out, row, column, stepped}
 use Rattle.pair_runs.proofs.Layouts.{agree, laid_out}

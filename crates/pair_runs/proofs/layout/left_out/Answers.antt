@@ -1,6 +1,5 @@
 use mathlib.Core.Path.{sym, ◌∙◌}
 use native.Mathlib.Omega.{arith}
-use borrow.Author.Rules.{rules}
 use Rattle.pair_runs.proofs.Layouts.{left_big5, left_shift_jis, left_no}
 use Rattle.pair_runs.proofs.layout.left_out.Goals as goal
 

@@ -1,6 +1,5 @@
 use mathlib.Core.Path.{sym, ◌∙◌}
 use native.Mathlib.Omega.{arith}
-use borrow.Author.Rules.{rules}
 use Rattle.pair_runs.specs.Layout.{column}
 use Rattle.pair_runs.proofs.Layouts.{row_in_lem, row_out}
 use Rattle.pair_runs.proofs.layout.pair_pointer.Goals as goal

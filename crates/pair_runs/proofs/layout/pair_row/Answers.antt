@@ -1,5 +1,4 @@
 use mathlib.Core.Path.{sym, ◌∙◌}
-use borrow.Author.Rules.{rules}
 use Rattle.pair_runs.proofs.Layouts.{row_in_lem, row_out}
 use Rattle.pair_runs.proofs.layout.pair_row.Goals as goal
 

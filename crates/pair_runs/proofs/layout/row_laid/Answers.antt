@@ -1,7 +1,6 @@
 use mathlib.Core.Path.{ap}
 use lib.ListN.{get_or}
 use Prim.Native.Nat.{ℕ}
-use borrow.Author.Rules.{rules}
 use Rattle.pair_runs.proofs.layout.row_laid.Goals as goal
 
 pub returns : goal.returns

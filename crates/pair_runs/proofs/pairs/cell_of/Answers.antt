@@ -2,7 +2,6 @@ use Rattle.standard.specs.Sequence.{cell}
 use Prim.Native.Nat.{◌+◌}
 use mathlib.Core.Path.{ap, ◌∙◌}
 use native.Mathlib.Omega.{arith}
-use borrow.Author.Rules.{rules}
 use Rattle.pair_runs.proofs.pairs.cell_of.Goals as goal
 
 pub returns-then-layout-eq512 : goal.returns-then-layout-eq512

@@ -2,7 +2,6 @@ use Rattle.pair_runs.proofs.Pairing.{bad_euc_jp}
 use Rattle.runs.proofs.Scalars.{gives_bad}
 use mathlib.Core.Path.{refl, sym, ◌∙◌}
 use native.Mathlib.Omega.{arith}
-use borrow.Author.Rules.{rules}
 use Rattle.pair_runs.proofs.pairs.euc_jp_single.Goals as goal
 
 pub returns-then-within : goal.returns-then-within

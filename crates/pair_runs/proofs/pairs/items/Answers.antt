@@ -1,16 +1,15 @@
 use mathlib.Core.Path.{◌≡◌, refl, sym, ap, ◌∙◌}
 use mathlib.Core.List.{◌∷◌}
 use native.Mathlib.Omega.{arith}
-use Prim.Native.Nat.{ℕ, ◌+◌, ◌-◌, ◌*◌, ◌<◌}
-use lib.ListN.{length, drop, get_or}
-use borrow.Author.Rules.{rules}
+use Prim.Native.Nat.{ℕ, ◌+◌}
+use lib.ListN.{drop, get_or}
 use Rattle.standard.specs.Encodings.{Family, family, lent}
 use Rattle.standard.specs.Sequence.{Next, plain, scalar}
 use Rattle.standard.specs.Next.{next}
 use Rattle.runs.specs.Run.{Gives}
 use Rattle.standard.proofs.Families.{family_gb18030}
 use Rattle.runs.proofs.Fronts.{two_at}
-use Rattle.runs.proofs.Running.{Going, going_start, going_one, gives_scalar}
+use Rattle.runs.proofs.Running.{going_start, going_one, gives_scalar}
 use Rattle.runs.proofs.Scalars.{gives_bad, gives_same}
 use Rattle.runs.proofs.Steps.{found_gives, found_width}
 use Rattle.runs.proofs.Stretches.{going_copied}

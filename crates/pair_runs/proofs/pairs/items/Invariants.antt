@@ -1,20 +1,9 @@
-use mathlib.Core.Path.{◌≡◌, refl, sym, ap, ◌∙◌}
-use mathlib.Core.List.{◌∷◌}
-use native.Mathlib.Omega.{arith}
-use Prim.Native.Nat.{ℕ, ◌+◌, ◌-◌, ◌*◌, ◌<◌}
-use lib.ListN.{length, drop, get_or}
-use borrow.Author.Rules.{rules}
-use Rattle.standard.specs.Encodings.{Family, family, lent}
-use Rattle.standard.specs.Sequence.{Next, plain, scalar}
-use Rattle.standard.specs.Next.{next}
-use Rattle.runs.specs.Run.{Gives}
-use Rattle.standard.proofs.Families.{family_gb18030}
-use Rattle.runs.proofs.Fronts.{two_at}
-use Rattle.runs.proofs.Running.{Going, going_start, going_one, gives_scalar}
-use Rattle.runs.proofs.Scalars.{gives_bad, gives_same}
-use Rattle.runs.proofs.Steps.{found_gives, found_width}
-use Rattle.runs.proofs.Stretches.{going_copied}
-use Rattle.pair_runs.proofs.Pairing.{bad_pair, self_pairs}
+use mathlib.Core.Path.{◌≡◌}
+use Prim.Native.Nat.{◌-◌, ◌*◌, ◌<◌}
+use lib.ListN.{length}
+use Rattle.standard.specs.Encodings.{family, lent}
+use Rattle.standard.specs.Sequence.{plain}
+use Rattle.runs.proofs.Running.{Going}
 use Rattle.pair_runs.proofs.pairs.items.Given as goal
 
 -- The invariant: a run has come from the start to this place, `last` is as long as at the start, and the room's length in bytes is

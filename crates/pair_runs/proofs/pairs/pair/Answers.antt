@@ -1,7 +1,6 @@
 use Rattle.pair_runs.proofs.Pairing.{found_pair, kana_pair}
 use mathlib.Core.Path.{refl, sym, ◌≡◌, ◌∙◌}
 use native.Mathlib.Omega.{arith}
-use borrow.Author.Rules.{rules}
 use Rattle.pair_runs.proofs.pairs.pair.Goals as goal
 
 pub returns-then-c-ne0 : goal.returns-then-c-ne0

@@ -1,8 +1,6 @@
-use borrow.Author.Tests.{not-false}
 use Rattle.standard.specs.Encodings.{family, lent}
 use Rattle.runs.proofs.Guard.{guarded_plain}
 use Rattle.runs.proofs.Running.{runs_none}
-use borrow.Author.Rules.{rules}
 use native.Mathlib.Omega.{arith}
 use Rattle.std.proofs.lemmas.Bool.{not_from_true}
 use Rattle.pair_runs.proofs.pairs.pairs_run.Goals as goal

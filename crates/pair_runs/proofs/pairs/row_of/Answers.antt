@@ -1,6 +1,5 @@
 use mathlib.Core.Path.{◌∙◌}
 use native.Mathlib.Omega.{arith}
-use borrow.Author.Rules.{rules}
 use Rattle.pair_runs.proofs.pairs.row_of.Goals as goal
 
 pub returns-then-layout-eq512 : goal.returns-then-layout-eq512

@@ -1,7 +1,6 @@
 use mathlib.Core.Path.{sym, subst}
 use lib.Dec.{T}
 use native.Mathlib.Omega.{arith}
-use borrow.Author.Rules.{rules}
 use Rattle.pair_runs.proofs.pairs.searched.Goals as goal
 
 pub returns-then-encoding-gt30 : goal.returns-then-encoding-gt30

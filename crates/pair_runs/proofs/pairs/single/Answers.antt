@@ -3,7 +3,6 @@ use Rattle.runs.proofs.Scalars.{gives_bad}
 use Rattle.runs.proofs.Running.{gives_scalar}
 use mathlib.Core.Path.{refl, sym, ◌≡◌, ◌∙◌}
 use native.Mathlib.Omega.{arith}
-use borrow.Author.Rules.{rules}
 use Rattle.pair_runs.proofs.pairs.single.Goals as goal
 
 pub returns-then-encoding-eq34 : goal.returns-then-encoding-eq34

@@ -2,7 +2,6 @@ use mathlib.Core.Path.{◌≡◌, sym, subst, refl}
 use mathlib.Core.Bool.{true, false}
 use lib.Dec.{T}
 use native.Mathlib.Omega.{arith}
-use borrow.Author.Rules.{rules}
 use Rattle.pair_runs.proofs.Layouts.{none_held_lem}
 use Rattle.pair_runs.proofs.pairs.text.Goals as goal
 

@@ -1,6 +1,5 @@
 use mathlib.Core.Path.{refl}
 use native.Mathlib.Omega.{arith}
-use borrow.Author.Rules.{rules}
 use Rattle.layouts.specs.Rows.{layout_of}
 use Rattle.pair_runs.proofs.Pairing.{user_pair}
 use Rattle.pair_runs.proofs.pairs.user_pair.Goals as goal

@@ -8,7 +8,6 @@ use Rattle.standard.specs.Encoders.Pairs.{pair_or_error_with}
 use Rattle.layouts.specs.Rows.{layout_of}
 use Rattle.reverse_index_spec.specs.ReverseIndex.{look_up}
 use Rattle.pair_writers.proofs.Encoders.{in_rows, big5_rows, big5_self, big5_pair_lem}
-use borrow.Author.Rules.{rules}
 use Rattle.pair_writers.proofs.big5.bytes_of.Goals as goal
 
 pub returns-then-c-lt128 : goal.returns-then-c-lt128

@@ -7,7 +7,6 @@ use Rattle.pair_writers.proofs.Encoders.{euc_jp-self, euc_jp-yen, euc_jp-overlin
 use Rattle.standard.proofs.Tests.{within_low, within_high}
 use Rattle.reverse_index_spec.specs.ReverseIndex.{look_up}
 use native.Mathlib.Omega.{arith}
-use borrow.Author.Rules.{rules}
 use Rattle.pair_writers.proofs.euc_jp.bytes_of.Goals as goal
 use Rattle.pair_writers.proofs.euc_jp.bytes_of.Goals.{Then-katakana}
 

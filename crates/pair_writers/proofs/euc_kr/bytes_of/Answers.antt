@@ -1,7 +1,6 @@
 -- `euc_kr::bytes_of`, by its test. Assumes nothing.
 use mathlib.Core.Path.{◌∙◌}
 use Rattle.pair_writers.proofs.Encoders.{euc_kr-rows, euc_kr-self, euc_kr-pair}
-use borrow.Author.Rules.{rules}
 use Rattle.pair_writers.proofs.euc_kr.bytes_of.Goals as goal
 
 pub returns-then-c-lt128 : goal.returns-then-c-lt128

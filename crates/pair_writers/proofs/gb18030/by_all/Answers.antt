@@ -1,9 +1,8 @@
-use mathlib.Core.Path.{◌≡◌, refl, sym, ap, ◌∙◌}
-use Prim.Native.Nat.{◌≤◌, ◌*◌, ◌+◌, ◌/◌, ◌-◌}
-use lib.ListN.{length, drop}
+use mathlib.Core.Path.{refl, sym, ap, ◌∙◌}
+use Prim.Native.Nat.{◌*◌, ◌+◌}
+use lib.ListN.{drop}
 use Rattle.layouts.specs.Ranges.{last_sum}
 use Rattle.layouts.proofs.RangeOrder.{sum_step, sum_end}
-use borrow.Author.Rules.{rules}
 use native.Mathlib.Omega.{arith}
 use Rattle.pair_writers.proofs.gb18030.by_all.Goals as goal
 

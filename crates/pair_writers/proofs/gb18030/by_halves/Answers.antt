@@ -1,7 +1,6 @@
 -- `by_halves`: no pair, or the one that decides. Assumes nothing.
 use mathlib.Core.Path.{sym, ◌∙◌}
 use Rattle.layouts.proofs.RangeOrder.{decided, none_decides}
-use borrow.Author.Rules.{rules}
 use native.Mathlib.Omega.{arith}
 use Rattle.pair_writers.proofs.gb18030.by_halves.Goals as goal
 

@@ -4,7 +4,6 @@ use mathlib.Core.Bool.{false, ◌&&◌}
 use lib.Dec.{eqb}
 use Rattle.pair_writers.proofs.Encoders.{gb18030_rows}
 use Rattle.pair_writers.proofs.Fours.{gb_self, gb_e5e5, gb_euro, gb_pair, gb_gbk, gb_four}
-use borrow.Author.Rules.{rules}
 use Rattle.pair_writers.proofs.gb18030.bytes_of.Goals as goal
 use Rattle.pair_writers.proofs.gb18030.bytes_of.Goals.{After-pair-one}
 

@@ -1,7 +1,6 @@
 -- `four`: 7,457, no pointer, or one by what it reads as. Assumes nothing.
 use mathlib.Core.Path.{sym, ◌∙◌}
 use Rattle.pair_writers.proofs.Fours.{four_7457, four_past, four_read}
-use borrow.Author.Rules.{rules}
 use Rattle.pair_writers.proofs.gb18030.four.Goals as goal
 
 pub returns-then-c-eq59335 : goal.returns-then-c-eq59335

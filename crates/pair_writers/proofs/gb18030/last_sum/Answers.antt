@@ -1,6 +1,5 @@
 -- `last_sum`, by the flag. Assumes nothing.
 use Rattle.pair_writers.proofs.Fours.{column_of}
-use borrow.Author.Rules.{rules}
 use Rattle.pair_writers.proofs.gb18030.last_sum.Goals as goal
 
 pub returns-then-ordered : goal.returns-then-ordered

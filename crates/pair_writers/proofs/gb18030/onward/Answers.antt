@@ -1,6 +1,5 @@
 -- `onward`, by the side. Assumes nothing.
 use mathlib.Core.Path.{sym, ◌∙◌}
-use borrow.Author.Rules.{rules}
 use Rattle.pair_writers.proofs.gb18030.onward.Goals as goal
 
 pub returns-then-back : goal.returns-then-back

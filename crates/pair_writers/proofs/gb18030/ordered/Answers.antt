@@ -1,8 +1,6 @@
 -- `ordered`, column by column. Assumes nothing.
 use mathlib.Core.Path.{sym, subst}
 use lib.Dec.{T}
-use borrow.Author.Tests.{not-false}
-use borrow.Author.Rules.{rules}
 use Rattle.pair_writers.proofs.gb18030.ordered.Goals as goal
 
 pub returns-then-not-in_order : goal.returns-then-not-in_order

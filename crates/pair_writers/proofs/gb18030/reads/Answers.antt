@@ -4,7 +4,6 @@ use mathlib.Core.Bool.{false, ◌||◌}
 use lib.Dec.{ltb}
 use Rattle.standard.specs.Base.{within}
 use Rattle.pair_writers.proofs.Fours.{reads_gap, reads_7457, reads_other, reads_same}
-use borrow.Author.Rules.{rules}
 use Rattle.pair_writers.proofs.gb18030.reads.Goals as goal
 use Rattle.pair_writers.proofs.gb18030.reads.Goals.{Else-p-eq7457}
 

@@ -1,6 +1,5 @@
 -- `sum`, by its test. Assumes nothing.
 use borrow.Author.Tests.{lt-leb, le-leb}
-use borrow.Author.Rules.{rules}
 use Rattle.pair_writers.proofs.gb18030.sum.Goals as goal
 
 pub returns-then-x-number : goal.returns-then-x-number

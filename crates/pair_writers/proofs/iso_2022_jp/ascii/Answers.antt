@@ -1,6 +1,5 @@
 -- `ascii`, by its test. Assumes nothing.
 use mathlib.Core.Path.{sym, ◌∙◌}
-use borrow.Author.Rules.{rules}
 use Rattle.pair_writers.proofs.iso_2022_jp.ascii.Goals as goal
 
 pub returns-then-control : goal.returns-then-control

@@ -6,7 +6,6 @@ use Rattle.pair_writers.specs.Pairs.{or_none}
 use Rattle.pair_writers.proofs.Encoders.{iso_2022_jp_ascii, iso_2022_jp_yen, iso_2022_jp_overline}
 use Rattle.pair_writers.proofs.Encoders.{iso_2022_jp_unmapped, iso_2022_jp_pair, iso_2022_jp_rows}
 use native.Mathlib.Omega.{arith}
-use borrow.Author.Rules.{rules}
 use Rattle.pair_writers.proofs.iso_2022_jp.bytes_of.Goals as goal
 use Rattle.pair_writers.proofs.iso_2022_jp.bytes_of.Goals.{After-changed-d}
 

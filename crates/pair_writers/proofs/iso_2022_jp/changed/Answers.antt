@@ -6,7 +6,6 @@ use Rattle.standard.proofs.Tests.{within_low}
 use Rattle.pair_writers.specs.Pairs.{or_none}
 use Rattle.pair_writers.proofs.Encoders.{changed_cell, changed_other}
 use native.Mathlib.Omega.{arith}
-use borrow.Author.Rules.{rules}
 use Rattle.pair_writers.proofs.iso_2022_jp.changed.Goals as goal
 use Rattle.pair_writers.proofs.iso_2022_jp.changed.Goals.{Then-katakana}
 

@@ -1,6 +1,5 @@
 -- `iso_2022_jp::state_for`, by the answer. Assumes nothing.
 use mathlib.Core.Path.{◌∙◌}
-use borrow.Author.Rules.{rules}
 use borrow.Author.Tests.{eq-eqb, ne_eqb}
 use Rattle.pair_writers.proofs.iso_2022_jp.state_for.Goals as goal
 

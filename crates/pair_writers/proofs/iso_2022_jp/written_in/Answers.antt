@@ -1,6 +1,5 @@
 -- `written_in`, test by test. Assumes nothing.
 use mathlib.Core.Path.{◌∙◌}
-use borrow.Author.Rules.{rules}
 use borrow.Author.Tests.{lt-ltb, le-ltb, ne_eqb}
 use Rattle.pair_writers.proofs.iso_2022_jp.written_in.Goals as goal
 

@@ -2,7 +2,6 @@
 use mathlib.Core.Path.{◌∙◌}
 use Rattle.layouts.specs.Rows.{layout_of}
 use Rattle.pair_writers.proofs.Encoders.{by_pointer_lem, by_none}
-use borrow.Author.Rules.{rules}
 use Rattle.pair_writers.proofs.pairs.at.Goals as goal
 
 pub returns-in-At : goal.returns-in-At

@@ -6,7 +6,6 @@ use Rattle.standard.specs.Search.{first}
 use Rattle.standard.specs.Encoders.Pairs.{pair_or_error_with}
 use Rattle.layouts.specs.Rows.{layout_of}
 use Rattle.pair_writers.proofs.Encoders.{in_rows}
-use borrow.Author.Rules.{rules}
 use Rattle.pair_writers.proofs.pairs.pair.Goals as goal
 
 pub returns : goal.returns

@@ -7,7 +7,6 @@ use Rattle.pair_writers.proofs.Encoders.{shift_jis-self, shift_jis-yen, shift_ji
 use Rattle.standard.proofs.Tests.{within_low, within_high}
 use Rattle.reverse_index_spec.specs.ReverseIndex.{look_up}
 use native.Mathlib.Omega.{arith}
-use borrow.Author.Rules.{rules}
 use Rattle.pair_writers.proofs.shift_jis.bytes_of.Goals as goal
 use Rattle.pair_writers.proofs.shift_jis.bytes_of.Goals.{Then-katakana}
 

@@ -1,7 +1,6 @@
 -- `slots::enter`: a cell that counts as unmapped, one above U+FFFF, or one that is put into its slot. Assumes nothing.
 use mathlib.Core.Path.{sym, ◌∙◌}
-use borrow.Author.Tests.{not-true, not-false, lt-ltb, le-ltb}
-use borrow.Author.Rules.{rules}
+use borrow.Author.Tests.{lt-ltb, le-ltb}
 use Rattle.pair_writers.proofs.slots.enter.Goals as goal
 
 pub returns-then-not-mapped : goal.returns-then-not-mapped

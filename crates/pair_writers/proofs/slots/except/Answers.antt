@@ -1,6 +1,5 @@
 -- `slots::except`, stretch by stretch. Assumes nothing.
 use Rattle.pair_writers.proofs.Filling.{excepted}
-use borrow.Author.Rules.{rules}
 use Rattle.pair_writers.proofs.slots.except.Goals as goal
 
 pub returns : goal.returns

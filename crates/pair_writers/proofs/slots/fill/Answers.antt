@@ -5,7 +5,6 @@ use native.Mathlib.Omega.{arith}
 use Rattle.pair_writers.proofs.Shapes.{divisor_small}
 use Rattle.pair_writers.proofs.Filling.{filled_start}
 use Rattle.pair_writers.proofs.Known.{slots_right}
-use borrow.Author.Rules.{rules}
 use Rattle.pair_writers.proofs.slots.fill.Goals as goal
 
 pub fill_trails-requires : goal.fill_trails-requires

@@ -1,9 +1,7 @@
 use mathlib.Core.Path.{◌≡◌, refl, ◌∙◌}
-use Prim.Native.Nat.{◌-◌, ◌≤◌}
-use lib.ListN.{length, length-set}
+use lib.ListN.{length-set}
 use native.Mathlib.Omega.{arith}
-use borrow.Author.Rules.{rules}
-use Rattle.pair_writers.proofs.Filling.{PlainTo, plain_start, plain_on, plainly_none, plainly_all}
+use Rattle.pair_writers.proofs.Filling.{plain_start, plain_on, plainly_none, plainly_all}
 use Rattle.pair_writers.proofs.slots.fill_ascii.Goals as goal
 
 pub returns-then-encoding-eq33 : goal.returns-then-encoding-eq33

@@ -1,11 +1,9 @@
 -- `slots::fill_ascii`. The loop's invariant: the slots from 1 up to k have their bytes, all others are as they were. What falls at each turn
 -- is the number of slots left. Assumes nothing.
-use mathlib.Core.Path.{◌≡◌, refl, ◌∙◌}
+use mathlib.Core.Path.{◌≡◌}
 use Prim.Native.Nat.{◌-◌, ◌≤◌}
-use lib.ListN.{length, length-set}
-use native.Mathlib.Omega.{arith}
-use borrow.Author.Rules.{rules}
-use Rattle.pair_writers.proofs.Filling.{PlainTo, plain_start, plain_on, plainly_none, plainly_all}
+use lib.ListN.{length}
+use Rattle.pair_writers.proofs.Filling.{PlainTo}
 use Rattle.pair_writers.proofs.slots.fill_ascii.Given as goal
 
 abbrev pub invariant-loop-k : goal.invariant-loop-k

@@ -1,9 +1,8 @@
 use mathlib.Core.Path.{◌≡◌, sym, subst, ◌∙◌}
-use Prim.Native.Nat.{ℕ, ◌+◌, ◌-◌, ◌≤◌}
-use lib.ListN.{length, get_or}
+use Prim.Native.Nat.{ℕ, ◌+◌}
+use lib.ListN.{get_or}
 use native.Mathlib.Omega.{arith}
-use borrow.Author.Rules.{rules}
-use Rattle.pair_writers.specs.Pairs.{Row, Filled}
+use Rattle.pair_writers.specs.Pairs.{Filled}
 use Rattle.pair_writers.proofs.Filling.{filled_on}
 use Rattle.pair_writers.proofs.slots.fill_row.Goals as goal
 

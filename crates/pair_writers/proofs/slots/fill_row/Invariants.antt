@@ -1,12 +1,9 @@
 -- `slots::fill_row`. The loop's invariant: the first k cells of the row are in their slots. What falls at each turn is the number of cells
 -- left. Assumes nothing.
-use mathlib.Core.Path.{◌≡◌, sym, subst, ◌∙◌}
+use mathlib.Core.Path.{◌≡◌}
 use Prim.Native.Nat.{ℕ, ◌+◌, ◌-◌, ◌≤◌}
-use lib.ListN.{length, get_or}
-use native.Mathlib.Omega.{arith}
-use borrow.Author.Rules.{rules}
+use lib.ListN.{length}
 use Rattle.pair_writers.specs.Pairs.{Row, Filled}
-use Rattle.pair_writers.proofs.Filling.{filled_on}
 use Rattle.pair_writers.proofs.slots.fill_row.Given as goal
 
 abbrev pub invariant-loop-k : goal.invariant-loop-k

@@ -1,8 +1,7 @@
 use mathlib.Core.Path.{◌≡◌, sym, ap, subst, ◌∙◌}
-use Prim.Native.Nat.{ℕ, ◌+◌, ◌-◌, ◌*◌, ◌/◌, ◌≤◌}
+use Prim.Native.Nat.{ℕ, ◌+◌, ◌*◌, ◌/◌}
 use lib.ListN.{length}
 use native.Mathlib.Omega.{arith}
-use borrow.Author.Rules.{rules}
 use Rattle.pair_writers.specs.Pairs.{Filled}
 use Rattle.pair_writers.proofs.Filling.{next_row, laid_other, laid_real, laid_few, laid_all}
 use Rattle.pair_writers.proofs.slots.fill_rows.Goals as goal
@@ -11,13 +10,12 @@ pub nonzero_div-n : goal.nonzero_div-n
 nonzero_div-n c = laid_real _ _ _ _ _ _ _ c.requires
 
 pub loop-row-init : goal.loop-row-init
-loop-row-init c =
-    (
-      omega arith,
-      c.requires.size,
-      λ f. let z : 0 ≡ 0 * c.args.width = omega arith in
-          subst (λ (p : ℕ). Filled c.args.encoding c.args.table.now p c.args.slots.now) z f,
-    )
+loop-row-init c = (
+  omega arith,
+  c.requires.size,
+  λ f. let z : 0 ≡ 0 * c.args.width = omega arith in
+      subst (λ (p : ℕ). Filled c.args.encoding c.args.table.now p c.args.slots.now) z f,
+)
 
 pub fill_searched-requires : goal.fill_searched-requires
 fill_searched-requires c =

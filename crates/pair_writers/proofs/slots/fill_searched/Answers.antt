@@ -3,7 +3,6 @@ use mathlib.Core.Path.{sym, ◌∙◌}
 use native.Mathlib.Omega.{arith}
 use Rattle.pair_writers.proofs.Encoders.{cells_few}
 use Rattle.pair_writers.proofs.Filling.{laid_inside, laid_pass, laid_row, laid_fits}
-use borrow.Author.Rules.{rules}
 use Rattle.pair_writers.proofs.slots.fill_searched.Goals as goal
 
 pub overflow_mul-at : goal.overflow_mul-at

@@ -1,9 +1,6 @@
 use mathlib.Core.Path.{◌≡◌, refl, ◌∙◌}
-use Prim.Native.Nat.{◌-◌, ◌≤◌}
-use lib.ListN.{length, length-set}
+use lib.ListN.{length-set}
 use native.Mathlib.Omega.{arith}
-use borrow.Author.Rules.{rules}
-use Rattle.pair_writers.specs.Pairs.{Trails}
 use Rattle.pair_writers.proofs.Filling.{trails_on}
 use Rattle.pair_writers.proofs.Shapes.{column_led}
 use Rattle.pair_writers.proofs.slots.fill_trails.Goals as goal

@@ -1,13 +1,9 @@
 -- `slots::fill_trails`. The loop's invariant: the first k columns have their trails. What falls at each turn is the number of columns left.
 -- Assumes nothing.
-use mathlib.Core.Path.{◌≡◌, refl, ◌∙◌}
+use mathlib.Core.Path.{◌≡◌}
 use Prim.Native.Nat.{◌-◌, ◌≤◌}
-use lib.ListN.{length, length-set}
-use native.Mathlib.Omega.{arith}
-use borrow.Author.Rules.{rules}
+use lib.ListN.{length}
 use Rattle.pair_writers.specs.Pairs.{Trails}
-use Rattle.pair_writers.proofs.Filling.{trails_on}
-use Rattle.pair_writers.proofs.Shapes.{column_led}
 use Rattle.pair_writers.proofs.slots.fill_trails.Given as goal
 
 abbrev pub invariant-loop-k : goal.invariant-loop-k

@@ -1,9 +1,6 @@
 use mathlib.Core.Path.{◌≡◌, refl, ◌∙◌}
-use Prim.Native.Nat.{◌-◌, ◌≤◌}
-use lib.ListN.{length, length-set}
-use borrow.Author.Rules.{rules}
+use lib.ListN.{length-set}
 use native.Mathlib.Omega.{arith}
-use Rattle.pair_writers.specs.Pairs.{Marked}
 use Rattle.pair_writers.proofs.Filling.{marked_start, marked_on}
 use Rattle.pair_writers.proofs.slots.mark.Goals as goal
 

@@ -1,7 +1,6 @@
 -- `slots::pointer`: an empty slot, or the look-up. Assumes nothing.
 use Rattle.standard.specs.Search.{pass_over, first}
 use Rattle.pair_writers.proofs.Filling.{empty_none}
-use borrow.Author.Rules.{rules}
 use Rattle.pair_writers.proofs.slots.pointer.Goals as goal
 
 pub returns-then-missing : goal.returns-then-missing

@@ -1,7 +1,6 @@
 use mathlib.Core.Path.{sym, ap, ◌∙◌}
 use mathlib.Core.List.{◌++◌}
 use native.Mathlib.Omega.{arith}
-use borrow.Author.Rules.{rules}
 use Rattle.reading.specs.Reading.{bytes_of, chosen_of}
 use Rattle.reading.proofs.Choosing.{choose_at}
 use Rattle.reading.proofs.Loop.{all_count}

@@ -1,4 +1,3 @@
-use borrow.Author.Rules.{rules}
 use Rattle.reading.proofs.feed.at_spot.Goals as goal
 
 pub returns : goal.returns

@@ -2,7 +2,6 @@ use lib.ListN.{get_or-eq_default}
 use mathlib.Core.Path.{sym, ◌∙◌}
 use Rattle.reading.proofs.Loop.{byte_held, byte_chunk, third_is}
 use native.Mathlib.Omega.{arith}
-use borrow.Author.Rules.{rules}
 use Rattle.reading.proofs.feed.byte_at.Goals as goal
 
 pub returns-then-j-chunk : goal.returns-then-j-chunk

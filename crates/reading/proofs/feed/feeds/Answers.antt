@@ -1,9 +1,6 @@
 use mathlib.Core.Path.{◌∙◌}
-use lib.ListN.{length}
-use Rattle.standard.proofs.LineFeeds.{line_feeds-length}
 use Rattle.reading.proofs.Loop.{feeds_error, feeds_none, feeds_one, feeds_two}
 use native.Mathlib.Omega.{arith}
-use borrow.Author.Rules.{rules}
 use Rattle.reading.proofs.feed.feeds.Goals as goal
 
 pub returns-then-count-eq3 : goal.returns-then-count-eq3

@@ -1,7 +1,6 @@
 use mathlib.Core.Path.{refl}
 use Rattle.reading.proofs.Loop.{leaves_is}
 use native.Mathlib.Omega.{arith}
-use borrow.Author.Rules.{rules}
 use Rattle.reading.proofs.feed.holds.Goals as goal
 
 pub returns : goal.returns

@@ -5,7 +5,6 @@ use mathlib.Core.Path.{refl, ap}
 use Rattle.runs.proofs.Patches.{patch_sets, patch_none}
 use Rattle.reading.proofs.Loop.{out_error, out_none, out_one, out_two, out_some}
 use native.Mathlib.Omega.{arith}
-use borrow.Author.Rules.{rules}
 use Rattle.reading.proofs.feed.put.Goals as goal
 
 pub bounds-room-written : goal.bounds-room-written

@@ -1,6 +1,5 @@
 use mathlib.Core.Path.{◌≡◌, sym, ap, ◌∙◌}
 use native.Mathlib.Omega.{arith}
-use borrow.Author.Rules.{rules}
 use Rattle.standard.specs.Encodings.{lent}
 use Rattle.reading.specs.Reading.{Result, reached, read_chunk}
 use Rattle.reading.proofs.Guards.{chunk_5, chunk_8, chunk_14, chunk_7, chunk_read}

@@ -1,9 +1,7 @@
 use mathlib.Core.List.{List}
 use mathlib.Core.Path.{sym, ap, ◌∙◌}
-use Prim.Native.Nat.{ℕ, ◌+◌, ◌-◌}
-use lib.ListN.{length}
+use Prim.Native.Nat.{ℕ, ◌+◌}
 use native.Mathlib.Omega.{arith}
-use borrow.Author.Rules.{rules}
 use Rattle.reading.specs.Reading.{Result}
 use Rattle.reading.proofs.Loop.{Args, Running, start_running, carried, turn_done, turn_none, turn_few, turn_more, turn_width}
 use Rattle.reading.proofs.Loop.{turn_space, turn_report, turn_fewer, turn_at, turn_on, stops_no, stops_yes}

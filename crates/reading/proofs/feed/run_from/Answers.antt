@@ -1,6 +1,5 @@
 use Prim.Native.Nat.{◌-◌}
 use native.Mathlib.Omega.{arith}
-use borrow.Author.Rules.{rules}
 use Rattle.standard.specs.Encodings.{family, lent}
 use Rattle.runs.proofs.Running.{runs_none}
 use Rattle.line_feeds.proofs.Parts.{none_in}

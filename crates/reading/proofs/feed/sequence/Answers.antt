@@ -1,5 +1,4 @@
 use native.Mathlib.Omega.{arith}
-use borrow.Author.Rules.{rules}
 use Rattle.reading.proofs.feed.sequence.Goals as goal
 
 pub returns-then-held-gt3 : goal.returns-then-held-gt3

@@ -8,7 +8,6 @@ use Rattle.standard.specs.Encodings.{family, lent}
 use Rattle.runs.proofs.Fronts.{front_is}
 use Rattle.reading.proofs.Loop.{all_count}
 use native.Mathlib.Omega.{arith}
-use borrow.Author.Rules.{rules}
 use Rattle.reading.proofs.feed.sequence_at.Goals as goal
 
 pub returns : goal.returns

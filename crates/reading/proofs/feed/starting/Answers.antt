@@ -1,6 +1,5 @@
 use mathlib.Core.List.{◌++◌}
 use native.Mathlib.Omega.{arith}
-use borrow.Author.Rules.{rules}
 use Rattle.reading.specs.Reading.{bytes_of}
 use Rattle.reading.proofs.Staged.{starts_on, starts_first}
 use Rattle.reading.proofs.feed.starting.Goals as goal

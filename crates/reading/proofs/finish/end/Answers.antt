@@ -1,6 +1,5 @@
 use mathlib.Core.Path.{sym, ap, ◌∙◌}
 use native.Mathlib.Omega.{arith}
-use borrow.Author.Rules.{rules}
 use Rattle.standard.specs.Encodings.{lent}
 use Rattle.reading.specs.Reading.{Result}
 use Rattle.reading.proofs.Guards.{end_5, end_7, end_read}

@@ -1,6 +1,5 @@
 use mathlib.Core.Path.{◌≡◌, ap, ◌∙◌}
 use native.Mathlib.Omega.{arith}
-use borrow.Author.Rules.{rules}
 use Rattle.standard.specs.Encodings.{Tables, lent}
 use Rattle.reading.specs.Reading.{Result}
 use Rattle.reading.proofs.Waiting.{Waited, wait_report, waited}

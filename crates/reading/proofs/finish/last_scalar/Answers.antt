@@ -4,7 +4,6 @@ use lib.Dec.{eqb}
 use Rattle.standard.specs.Sequence.{shift}
 use Rattle.reading.proofs.Ends.{last_more, last_error, last_one}
 use native.Mathlib.Omega.{arith}
-use borrow.Author.Rules.{rules}
 use Rattle.reading.proofs.finish.last_scalar.Goals as goal
 
 pub returns-then-q-eq0 : goal.returns-then-q-eq0

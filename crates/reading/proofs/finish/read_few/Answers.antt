@@ -1,10 +1,7 @@
 use mathlib.Core.Path.{sym, ap, ◌∙◌}
-use Prim.Native.Nat.{◌+◌, ◌-◌}
-use lib.ListN.{length}
 use native.Mathlib.Omega.{arith}
-use borrow.Author.Rules.{rules}
 use Rattle.reading.specs.Reading.{Result}
-use Rattle.reading.proofs.Loop.{Args, Running, start_running, turn_few, turn_more, turn_width}
+use Rattle.reading.proofs.Loop.{Args, start_running, turn_few, turn_more, turn_width}
 use Rattle.reading.proofs.Loop.{turn_space, turn_report, turn_fewer, turn_at, turn_on, stops_no, stops_yes}
 use Rattle.reading.proofs.finish.read_few.Goals as goal
 use Rattle.reading.proofs.finish.read_few.Goals.{Start}

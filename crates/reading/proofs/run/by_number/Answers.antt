@@ -2,7 +2,6 @@ use Rattle.runs.proofs.Running.{runs_none}
 use Rattle.standard.proofs.Families.{family_utf8, family_iso_2022_jp}
 use Rattle.standard.specs.Encodings.{family, lent}
 use native.Mathlib.Omega.{arith}
-use borrow.Author.Rules.{rules}
 use Rattle.reading.proofs.run.by_number.Goals as goal
 
 pub returns-then-encoding-eq0 : goal.returns-then-encoding-eq0

@@ -1,7 +1,6 @@
 use Rattle.standard.proofs.Families.{family_windows_1252, family_single_byte}
 use Rattle.standard.specs.Encodings.{lent}
 use native.Mathlib.Omega.{arith}
-use borrow.Author.Rules.{rules}
 use Rattle.reading.proofs.run.counted_run.Goals as goal
 
 pub returns-then-encoding-eq21 : goal.returns-then-encoding-eq21

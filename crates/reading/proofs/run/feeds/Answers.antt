@@ -1,5 +1,4 @@
 use mathlib.Core.Path.{sym, ◌∙◌}
-use borrow.Author.Rules.{rules}
 use Rattle.reading.proofs.run.feeds.Goals as goal
 
 pub returns-then-keeps : goal.returns-then-keeps

@@ -6,7 +6,6 @@ use Rattle.standard.proofs.FamilyLaws.{keeps}
 use Rattle.word_runs.proofs.ByteRuns.{counts_none}
 use Rattle.reading.proofs.Counting.{counts_ascii}
 use native.Mathlib.Omega.{arith}
-use borrow.Author.Rules.{rules}
 use Rattle.std.proofs.lemmas.Bool.{not_from_true}
 use Rattle.reading.proofs.run.front.Goals as goal
 

@@ -7,7 +7,6 @@ use Rattle.runs.specs.Run.{shift_at, placed}
 use Rattle.runs.proofs.Counting.{Counting, counting_fewer}
 use Rattle.reading.proofs.Counting.{both}
 use native.Mathlib.Omega.{arith}
-use borrow.Author.Rules.{rules}
 use Rattle.reading.proofs.run.run.Goals as goal
 use Rattle.reading.proofs.run.run.Goals.{After-counted_run-r}
 

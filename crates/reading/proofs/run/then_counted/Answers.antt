@@ -1,4 +1,3 @@
-use borrow.Author.Rules.{rules}
 use Rattle.standard.specs.Encodings.{family, lent}
 use Rattle.reading.proofs.Counting.{fed}
 use Rattle.reading.proofs.run.then_counted.Goals as goal

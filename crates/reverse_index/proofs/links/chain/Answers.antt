@@ -1,10 +1,8 @@
 -- `chain`, by its test. Assumes nothing.
 use lib.ListN.{length-set}
-use borrow.Author.Tests.{not-true, not-false}
 use mathlib.Core.Path.{sym, ◌∙◌}
 use Rattle.reverse_index.proofs.Chains.{chained_un, chained_in}
 use native.Mathlib.Omega.{arith}
-use borrow.Author.Rules.{rules}
 use Rattle.reverse_index.proofs.links.chain.Goals as goal
 
 pub returns-then-not-mapped : goal.returns-then-not-mapped

@@ -1,8 +1,6 @@
-use lib.ListN.{length, get_or, length-set}
-use Prim.Native.Nat.{ℕ, ◌≤◌, ◌<◌, ◌-◌}
-use mathlib.Core.Path.{◌≡◌, refl}
+use lib.ListN.{length-set}
+use mathlib.Core.Path.{refl}
 use Rattle.reverse_index.proofs.Chains.{zero_more}
-use borrow.Author.Rules.{rules}
 use native.Mathlib.Omega.{arith}
 use Rattle.reverse_index.proofs.links.clear.Goals as goal
 

@@ -1,11 +1,8 @@
 -- `clear`. The loop's invariant: the cells that were passed are 0, and the length is kept.
 -- What falls: the cells that are left. Assumes nothing.
-use lib.ListN.{length, get_or, length-set}
+use lib.ListN.{length, get_or}
 use Prim.Native.Nat.{ℕ, ◌≤◌, ◌<◌, ◌-◌}
-use mathlib.Core.Path.{◌≡◌, refl}
-use Rattle.reverse_index.proofs.Chains.{zero_more}
-use borrow.Author.Rules.{rules}
-use native.Mathlib.Omega.{arith}
+use mathlib.Core.Path.{◌≡◌}
 use Rattle.reverse_index.proofs.links.clear.Given as goal
 
 abbrev pub invariant-loop-i : goal.invariant-loop-i

@@ -1,7 +1,4 @@
-use Rattle.reverse_index.proofs.Chains.{Chained, chained_turn, chained_none, chained_all}
-use lib.ListN.{length}
-use Prim.Native.Nat.{◌≤◌}
-use borrow.Author.Rules.{rules}
+use Rattle.reverse_index.proofs.Chains.{chained_turn, chained_none, chained_all}
 use native.Mathlib.Omega.{arith}
 use Rattle.reverse_index.proofs.links.fill.Goals as goal
 

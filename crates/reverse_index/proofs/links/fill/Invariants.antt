@@ -1,10 +1,8 @@
 -- `fill`. The loop's invariant: the index has the pointers from p on (`Chained`).
 -- What falls: p. Assumes nothing.
-use Rattle.reverse_index.proofs.Chains.{Chained, chained_turn, chained_none, chained_all}
+use Rattle.reverse_index.proofs.Chains.{Chained}
 use lib.ListN.{length}
 use Prim.Native.Nat.{◌≤◌}
-use borrow.Author.Rules.{rules}
-use native.Mathlib.Omega.{arith}
 use Rattle.reverse_index.proofs.links.fill.Given as goal
 
 abbrev pub invariant-loop-p : goal.invariant-loop-p

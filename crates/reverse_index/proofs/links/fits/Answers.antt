@@ -1,6 +1,5 @@
 -- `fits`, by its test. Assumes nothing.
 use Rattle.reverse_index.proofs.Answers.{fits_big, fits_small}
-use borrow.Author.Rules.{rules}
 use Rattle.reverse_index.proofs.links.fits.Goals as goal
 
 pub returns-then-n-gt4294967295 : goal.returns-then-n-gt4294967295

@@ -5,7 +5,6 @@ use Prim.Native.Nat.{ℕ}
 use mathlib.Core.Path.{ap, ◌∙◌}
 use Rattle.reverse_index.proofs.Places.{linked_insert}
 use native.Mathlib.Omega.{arith}
-use borrow.Author.Rules.{rules}
 use Rattle.reverse_index.proofs.links.insert.Goals as goal
 
 pub bounds-index-at-2 : goal.bounds-index-at-2

@@ -1,6 +1,4 @@
-use Prim.Native.Nat.{◌-◌}
-use Rattle.reverse_index.proofs.Places.{Placing, placing_start, placing_turn, placing_low, placing_high}
-use borrow.Author.Rules.{rules}
+use Rattle.reverse_index.proofs.Places.{placing_start, placing_turn, placing_low, placing_high}
 use native.Mathlib.Omega.{arith}
 use Rattle.reverse_index.proofs.links.place.Goals as goal
 

@@ -1,9 +1,7 @@
 -- `place`. The loop's invariant: from here the definition goes on to the same place (`Placing`).
 -- What falls: p less the last link. Assumes nothing.
 use Prim.Native.Nat.{◌-◌}
-use Rattle.reverse_index.proofs.Places.{Placing, placing_start, placing_turn, placing_low, placing_high}
-use borrow.Author.Rules.{rules}
-use native.Mathlib.Omega.{arith}
+use Rattle.reverse_index.proofs.Places.{Placing}
 use Rattle.reverse_index.proofs.links.place.Given as goal
 
 abbrev pub invariant-loop-low : goal.invariant-loop-low

@@ -1,11 +1,8 @@
-use mathlib.Core.Path.{◌≡◌, sym, ◌∙◌}
-use Prim.Native.Nat.{◌+◌, ◌<◌}
+use mathlib.Core.Path.{sym, ◌∙◌}
 use lib.ListN.{length}
-use Rattle.standard.specs.Search.{pass_over, first}
-use Rattle.reverse_index_spec.specs.ReverseIndex.{hit, walk_first, walk}
+use Rattle.reverse_index_spec.specs.ReverseIndex.{hit}
 use Rattle.reverse_index_spec.proofs.Building.{fits_facts}
 use Rattle.reverse_index.proofs.Turns.{starts_first, walk_low, walk_high, walk_end, walk_hit, walk_on}
-use borrow.Author.Rules.{rules}
 use native.Mathlib.Omega.{arith}
 use Rattle.reverse_index.proofs.walks.first.Goals as goal
 

@@ -1,14 +1,10 @@
 -- `first`. The loop's invariant: the definition's walk from here on, with the links that are left, gives the answer; the index's length.
 -- What falls: the links that are left. Assumes nothing.
-use mathlib.Core.Path.{◌≡◌, sym, ◌∙◌}
+use mathlib.Core.Path.{◌≡◌}
 use Prim.Native.Nat.{◌+◌, ◌<◌}
 use lib.ListN.{length}
 use Rattle.standard.specs.Search.{pass_over, first}
 use Rattle.reverse_index_spec.specs.ReverseIndex.{hit, walk_first, walk}
-use Rattle.reverse_index_spec.proofs.Building.{fits_facts}
-use Rattle.reverse_index.proofs.Turns.{starts_first, walk_low, walk_high, walk_end, walk_hit, walk_on}
-use borrow.Author.Rules.{rules}
-use native.Mathlib.Omega.{arith}
 use Rattle.reverse_index.proofs.walks.first.Given as goal
 
 abbrev pub invariant-loop-k : goal.invariant-loop-k

@@ -5,7 +5,6 @@ use lib.ListN.{length, get_or}
 use Rattle.reverse_index_spec.proofs.Building.{fits_facts}
 use Rattle.reverse_index.proofs.Answers.{head_none}
 use native.Mathlib.Omega.{arith}
-use borrow.Author.Rules.{rules}
 use Rattle.reverse_index.proofs.walks.head.Goals as goal
 use Rattle.reverse_index.proofs.walks.head.Goals.{Start}
 

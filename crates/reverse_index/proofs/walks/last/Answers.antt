@@ -1,13 +1,10 @@
-use mathlib.Core.Path.{◌≡◌, ap, ◌∙◌}
+use mathlib.Core.Path.{ap, ◌∙◌}
 use mathlib.Core.Bool.{Bool}
-use Prim.Native.Nat.{◌+◌, ◌<◌}
 use lib.ListN.{length}
 use Rattle.standard.specs.Base.{◌then◌else◌}
-use Rattle.standard.specs.Search.{pass_over, last}
-use Rattle.reverse_index_spec.specs.ReverseIndex.{hit, walk_last, walk}
+use Rattle.reverse_index_spec.specs.ReverseIndex.{hit}
 use Rattle.reverse_index_spec.proofs.Building.{fits_facts}
 use Rattle.reverse_index.proofs.Turns.{starts_last, last_low, last_high, last_end, last_on}
-use borrow.Author.Rules.{rules}
 use native.Mathlib.Omega.{arith}
 use Rattle.reverse_index.proofs.walks.last.Goals as goal
 

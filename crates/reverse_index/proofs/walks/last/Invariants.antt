@@ -1,16 +1,10 @@
 -- `last`. The loop's invariant: the definition's walk from here on, with the links that are left, gives the answer; the index's length.
 -- What falls: the links that are left. Assumes nothing.
-use mathlib.Core.Path.{◌≡◌, ap, ◌∙◌}
-use mathlib.Core.Bool.{Bool}
+use mathlib.Core.Path.{◌≡◌}
 use Prim.Native.Nat.{◌+◌, ◌<◌}
 use lib.ListN.{length}
-use Rattle.standard.specs.Base.{◌then◌else◌}
 use Rattle.standard.specs.Search.{pass_over, last}
 use Rattle.reverse_index_spec.specs.ReverseIndex.{hit, walk_last, walk}
-use Rattle.reverse_index_spec.proofs.Building.{fits_facts}
-use Rattle.reverse_index.proofs.Turns.{starts_last, last_low, last_high, last_end, last_on}
-use borrow.Author.Rules.{rules}
-use native.Mathlib.Omega.{arith}
 use Rattle.reverse_index.proofs.walks.last.Given as goal
 
 abbrev pub invariant-loop-k : goal.invariant-loop-k

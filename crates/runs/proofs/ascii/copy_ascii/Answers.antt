@@ -2,7 +2,6 @@ use Rattle.runs.specs.Run.{Ready}
 use Rattle.runs.proofs.Stretches.{copied_none}
 use Rattle.runs.proofs.Guard.{guarded, unguarded}
 use native.Mathlib.Omega.{arith}
-use borrow.Author.Rules.{rules}
 use Rattle.std.proofs.lemmas.Bool.{not_from_true, not_from_false}
 use Rattle.runs.proofs.ascii.copy_ascii.Goals as goal
 use Rattle.runs.proofs.ascii.copy_ascii.Goals.{Else-not-ready}

@@ -1,8 +1,6 @@
 use native.Mathlib.Nat.{lt_of_le_of_lt}
-use native.Mathlib.Omega.{arith}
 use mathlib.Core.Path.{refl}
 use Rattle.runs.proofs.Stretches.{copied_none}
-use borrow.Author.Rules.{rules}
 use Rattle.runs.proofs.ascii.copy_block.Goals as goal
 
 pub returns-then-joined-ge128 : goal.returns-then-joined-ge128

@@ -1,8 +1,6 @@
 use mathlib.Core.Path.{◌≡◌}
-use Rattle.runs.proofs.Stretches.{Copying, copying_start, copying_on, copied_one}
-use lib.ListN.{length, get_or}
-use Prim.Native.Nat.{ℕ, ◌+◌, ◌-◌, ◌≤◌, ◌<◌}
-use borrow.Author.Rules.{rules}
+use Rattle.runs.proofs.Stretches.{copying_start, copying_on, copied_one}
+use Prim.Native.Nat.{◌+◌}
 use native.Mathlib.Omega.{arith}
 use Rattle.runs.proofs.ascii.copy_bytes.Goals as goal
 

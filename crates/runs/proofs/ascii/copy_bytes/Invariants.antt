@@ -1,9 +1,6 @@
-use mathlib.Core.Path.{◌≡◌}
-use Rattle.runs.proofs.Stretches.{Copying, copying_start, copying_on, copied_one}
+use Rattle.runs.proofs.Stretches.{Copying}
 use lib.ListN.{length, get_or}
 use Prim.Native.Nat.{ℕ, ◌+◌, ◌-◌, ◌≤◌, ◌<◌}
-use borrow.Author.Rules.{rules}
-use native.Mathlib.Omega.{arith}
 use Rattle.runs.proofs.ascii.copy_bytes.Given as goal
 
 -- The invariant: k of the n bytes are copied, and all n are below 80.

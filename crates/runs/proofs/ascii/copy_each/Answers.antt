@@ -1,8 +1,6 @@
-use Rattle.runs.proofs.Stretches.{Copying, copying_start, copying_on, copying_stop, begins_on}
-use Prim.Native.Nat.{◌+◌, ◌-◌, ◌≤◌}
-use lib.ListN.{length}
+use Rattle.runs.proofs.Stretches.{copying_start, copying_on, copying_stop, begins_on}
+use Prim.Native.Nat.{◌+◌}
 use mathlib.Core.Path.{◌≡◌}
-use borrow.Author.Rules.{rules}
 use native.Mathlib.Omega.{arith}
 use Rattle.runs.proofs.ascii.copy_each.Goals as goal
 

@@ -1,9 +1,6 @@
-use Rattle.runs.proofs.Stretches.{Copying, copying_start, copying_on, copying_stop, begins_on}
+use Rattle.runs.proofs.Stretches.{Copying}
 use Prim.Native.Nat.{◌+◌, ◌-◌, ◌≤◌}
 use lib.ListN.{length}
-use mathlib.Core.Path.{◌≡◌}
-use borrow.Author.Rules.{rules}
-use native.Mathlib.Omega.{arith}
 use Rattle.runs.proofs.ascii.copy_each.Given as goal
 
 -- The invariant: k bytes below 80 are copied, of the n that the chunk has.

@@ -5,7 +5,6 @@ use lib.ListN.{length, get_or, set, length-set}
 use Rattle.runs.specs.Stretch.{Copied}
 use Rattle.runs.proofs.Stretches.{copied_one, copied_on, copied_as, copied_over}
 use native.Mathlib.Omega.{arith}
-use borrow.Author.Rules.{rules}
 use Rattle.runs.proofs.ascii.copy_eight.Goals as goal
 use Rattle.runs.proofs.ascii.copy_eight.Goals.{Else-joined-ge128}
 

@@ -1,8 +1,5 @@
-use mathlib.Core.Path.{◌≡◌, refl}
-use Prim.Native.Nat.{◌-◌, ◌≤◌}
-use lib.ListN.{length}
-use Rattle.runs.proofs.Stretches.{Copying, copying_start, copying_on, copying_ready, begins_on}
-use borrow.Author.Rules.{rules}
+use mathlib.Core.Path.{refl}
+use Rattle.runs.proofs.Stretches.{copying_start, copying_on, copying_ready, begins_on}
 use native.Mathlib.Omega.{arith}
 use Rattle.runs.proofs.ascii.copy_eights.Goals as goal
 

@@ -1,9 +1,7 @@
-use mathlib.Core.Path.{◌≡◌, refl}
+use mathlib.Core.Path.{◌≡◌}
 use Prim.Native.Nat.{◌-◌, ◌≤◌}
 use lib.ListN.{length}
-use Rattle.runs.proofs.Stretches.{Copying, copying_start, copying_on, copying_ready, begins_on}
-use borrow.Author.Rules.{rules}
-use native.Mathlib.Omega.{arith}
+use Rattle.runs.proofs.Stretches.{Copying}
 use Rattle.runs.proofs.ascii.copy_eights.Given as goal
 
 -- The invariant: k bytes below 80 are copied, of n that the chunk has, which are eight at least.

@@ -1,7 +1,6 @@
 use lib.ListN.{length-set}
 use Rattle.runs.proofs.Stretches.{copied_four}
 use native.Mathlib.Omega.{arith}
-use borrow.Author.Rules.{rules}
 use Rattle.runs.proofs.ascii.copy_four.Goals as goal
 
 pub bounds-room-o-2 : goal.bounds-room-o-2

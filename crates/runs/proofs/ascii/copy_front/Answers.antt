@@ -1,11 +1,8 @@
 use mathlib.Core.Path.{◌≡◌}
-use Prim.Native.Nat.{◌+◌, ◌-◌, ◌≤◌, ◌<◌}
-use lib.ListN.{length}
-use Rattle.runs.specs.Run.{Ready}
+use Prim.Native.Nat.{◌+◌, ◌≤◌}
 use Rattle.runs.specs.Stretch.{Copied}
 use Rattle.runs.proofs.Stretches.{copied_as, copied_over, copied_twice, copied_step}
 use native.Mathlib.Omega.{arith}
-use borrow.Author.Rules.{rules}
 use Rattle.runs.proofs.ascii.copy_front.Goals as goal
 use Rattle.runs.proofs.ascii.copy_front.Goals.{Else-copy_one-eq0}
 

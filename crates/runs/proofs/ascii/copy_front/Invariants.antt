@@ -3,9 +3,6 @@ use Prim.Native.Nat.{◌+◌, ◌-◌, ◌≤◌, ◌<◌}
 use lib.ListN.{length}
 use Rattle.runs.specs.Run.{Ready}
 use Rattle.runs.specs.Stretch.{Copied}
-use Rattle.runs.proofs.Stretches.{copied_as, copied_over, copied_twice, copied_step}
-use native.Mathlib.Omega.{arith}
-use borrow.Author.Rules.{rules}
 use Rattle.runs.proofs.ascii.copy_front.Given as goal
 
 -- The invariant: the bytes up to `last` are copied, and while none is at least 80, `last` is the one before k.

@@ -1,7 +1,6 @@
 use lib.ListN.{length-set}
 use Rattle.runs.proofs.Stretches.{copied_none, copied_one}
 use native.Mathlib.Omega.{arith}
-use borrow.Author.Rules.{rules}
 use Rattle.runs.proofs.ascii.copy_one.Goals as goal
 
 pub returns-then-chunk-at-ge128 : goal.returns-then-chunk-at-ge128

@@ -9,7 +9,6 @@ use Rattle.runs.specs.Stretch.{Copied}
 use Rattle.runs.proofs.Stretches.{copied_none, copied_as}
 use Rattle.runs.proofs.Guard.{guarded}
 use native.Mathlib.Omega.{arith}
-use borrow.Author.Rules.{rules}
 use Rattle.std.proofs.lemmas.Bool.{not_from_true}
 use Rattle.runs.proofs.ascii.count_ascii.Goals as goal
 use Rattle.runs.proofs.ascii.count_ascii.Goals.{Else-not-ready}

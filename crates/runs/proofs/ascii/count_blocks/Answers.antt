@@ -1,9 +1,7 @@
 use mathlib.Core.Path.{◌≡◌, refl}
-use Prim.Native.Nat.{◌+◌, ◌-◌, ◌≤◌, ◌<◌}
-use lib.ListN.{length}
+use Prim.Native.Nat.{◌+◌}
 use Rattle.line_feeds.proofs.Parts.{Counted, none_yet, part_more, at_most}
-use Rattle.runs.proofs.Stretches.{Copying, copying_start, copying_on, copying_ready, copying_stop, copied_as}
-use borrow.Author.Rules.{rules}
+use Rattle.runs.proofs.Stretches.{copying_start, copying_on, copying_ready, copying_stop, copied_as}
 use native.Mathlib.Omega.{arith}
 use Rattle.runs.proofs.ascii.count_blocks.Goals as goal
 use Rattle.runs.proofs.ascii.count_blocks.Goals.{After-in_block-lines}

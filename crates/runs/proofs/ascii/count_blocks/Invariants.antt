@@ -1,10 +1,8 @@
-use mathlib.Core.Path.{◌≡◌, refl}
-use Prim.Native.Nat.{◌+◌, ◌-◌, ◌≤◌, ◌<◌}
+use mathlib.Core.Path.{◌≡◌}
+use Prim.Native.Nat.{◌-◌, ◌≤◌}
 use lib.ListN.{length}
-use Rattle.line_feeds.proofs.Parts.{Counted, none_yet, part_more, at_most}
-use Rattle.runs.proofs.Stretches.{Copying, copying_start, copying_on, copying_ready, copying_stop, copied_as}
-use borrow.Author.Rules.{rules}
-use native.Mathlib.Omega.{arith}
+use Rattle.line_feeds.proofs.Parts.{Counted}
+use Rattle.runs.proofs.Stretches.{Copying}
 use Rattle.runs.proofs.ascii.count_blocks.Given as goal
 
 -- The invariant: k bytes below 80 are copied, and `lines` line feeds are among them.

@@ -3,7 +3,6 @@ use Prim.Native.Nat.{◌+◌, ◌-◌}
 use Rattle.line_feeds.proofs.Parts.{Counted, part_more, at_most}
 use Rattle.runs.proofs.Stretches.{copied_on}
 use native.Mathlib.Omega.{arith}
-use borrow.Author.Rules.{rules}
 use Rattle.runs.proofs.ascii.count_stretch.Goals as goal
 use Rattle.runs.proofs.ascii.count_stretch.Goals.{After-in_bytes-lines}
 

@@ -1,9 +1,5 @@
-use Rattle.runs.proofs.Or.{or_left, or_right}
-use borrow.Author.Count.{below_more}
 use lib.ListN.{length, get_or}
 use Prim.Native.Nat.{ℕ, ◌+◌, ◌-◌, ◌≤◌, ◌<◌}
-use borrow.Author.Rules.{rules}
-use native.Mathlib.Omega.{arith}
 use Rattle.runs.proofs.ascii.joined.Given as goal
 
 -- The invariant: `all` is at least each of the first k bytes.

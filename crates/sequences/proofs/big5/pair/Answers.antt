@@ -3,7 +3,6 @@ use Rattle.standard.specs.Sequence.{pair}
 use Rattle.layouts.specs.Rows.{layout_of}
 use Rattle.sequences.proofs.Big5Leaves.{trail_row, trail_none}
 use native.Mathlib.Omega.{arith}
-use borrow.Author.Rules.{rules}
 use Rattle.sequences.proofs.big5.pair.Goals as goal
 
 pub returns-then-i-lt4 : goal.returns-then-i-lt4

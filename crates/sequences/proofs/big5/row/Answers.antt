@@ -1,7 +1,6 @@
 use mathlib.Core.Path.{sym, ◌∙◌}
 use Rattle.sequences.proofs.Big5Leaves.{row_0, row_1, row_2, row_3, row_4}
 use native.Mathlib.Omega.{arith}
-use borrow.Author.Rules.{rules}
 use Rattle.sequences.proofs.big5.row.Goals as goal
 
 pub returns-then-p-entry : goal.returns-then-p-entry

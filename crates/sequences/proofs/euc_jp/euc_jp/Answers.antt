@@ -9,7 +9,6 @@ use Rattle.standard.proofs.Tests.{fails, holds}
 use Rattle.layouts.specs.Rows.{layout_of}
 use Rattle.sequences.proofs.EucJpLeaves.{euc_jp-ascii, euc_jp-8e, euc_jp-8f_wait, euc_jp-8f, euc_jp-bad, euc_jp-led}
 use native.Mathlib.Omega.{arith}
-use borrow.Author.Rules.{rules}
 use Rattle.std.proofs.lemmas.Bool.{not_from_true, not_from_false}
 use Rattle.sequences.proofs.euc_jp.euc_jp.Goals as goal
 

@@ -1,7 +1,5 @@
 use mathlib.Core.Path.{sym, ◌∙◌}
 use Rattle.sequences.proofs.EucJpLeaves.{kana_some, kana_none}
-use native.Mathlib.Omega.{arith}
-use borrow.Author.Rules.{rules}
 use Rattle.sequences.proofs.euc_jp.katakana.Goals as goal
 
 pub returns-then-within : goal.returns-then-within

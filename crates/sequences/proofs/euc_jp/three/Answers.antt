@@ -5,7 +5,6 @@ use Rattle.standard.specs.Sequence.{trailed}
 use Rattle.sequences.proofs.Leaves.{pair_there}
 use Rattle.sequences.proofs.EucJpLeaves.{three_other, three_wait, three_trail}
 use native.Mathlib.Omega.{arith}
-use borrow.Author.Rules.{rules}
 use Rattle.std.proofs.lemmas.Bool.{not_from_true, not_from_false}
 use Rattle.sequences.proofs.euc_jp.three.Goals as goal
 

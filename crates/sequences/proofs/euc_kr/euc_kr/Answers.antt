@@ -9,7 +9,6 @@ use Rattle.standard.proofs.Tests.{fails, holds}
 use Rattle.layouts.specs.Rows.{layout_of}
 use Rattle.sequences.proofs.EucKrLeaves.{euc_kr-ascii, euc_kr-bad, euc_kr-led}
 use native.Mathlib.Omega.{arith}
-use borrow.Author.Rules.{rules}
 use Rattle.std.proofs.lemmas.Bool.{not_from_true, not_from_false}
 use Rattle.sequences.proofs.euc_kr.euc_kr.Goals as goal
 

@@ -1,7 +1,6 @@
 use mathlib.Core.Path.{sym, ◌∙◌}
 use Rattle.sequences.proofs.Gb18030Leaves.{four_gap, four_7457, four_past, four_mapped, four_unmapped}
 use native.Mathlib.Omega.{arith}
-use borrow.Author.Rules.{rules}
 use Rattle.sequences.proofs.gb18030.four_code.Goals as goal
 
 pub returns-then-gap : goal.returns-then-gap

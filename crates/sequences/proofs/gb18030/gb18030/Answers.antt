@@ -4,7 +4,6 @@ use Rattle.standard.proofs.Tests.{fails, holds}
 use Rattle.layouts.specs.Rows.{layout_of}
 use Rattle.sequences.proofs.Gb18030Leaves.{gb18030_ascii, gb18030_80, gb18030_bad, gb18030_pair, gb18030_wait, gb18030_third_lem}
 use native.Mathlib.Omega.{arith}
-use borrow.Author.Rules.{rules}
 use Rattle.std.proofs.lemmas.Bool.{not_from_true, not_from_false}
 use Rattle.sequences.proofs.gb18030.gb18030.Goals as goal
 

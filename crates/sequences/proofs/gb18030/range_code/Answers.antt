@@ -1,9 +1,8 @@
-use mathlib.Core.Path.{◌≡◌, refl, sym, ap, ◌∙◌}
+use mathlib.Core.Path.{refl, sym, ap, ◌∙◌}
 use Rattle.standard.specs.Sequences.Gb18030.{gb18030_range}
-use lib.ListN.{length, drop}
-use Prim.Native.Nat.{◌≤◌, ◌*◌, ◌+◌, ◌/◌, ◌-◌}
+use lib.ListN.{drop}
+use Prim.Native.Nat.{◌*◌, ◌+◌}
 use Rattle.sequences.proofs.Gb18030Leaves.{range_step, range_end}
-use borrow.Author.Rules.{rules}
 use native.Mathlib.Omega.{arith}
 use Rattle.sequences.proofs.gb18030.range_code.Goals as goal
 

@@ -1,10 +1,7 @@
-use mathlib.Core.Path.{◌≡◌, refl, sym, ap, ◌∙◌}
+use mathlib.Core.Path.{◌≡◌}
 use Rattle.standard.specs.Sequences.Gb18030.{gb18030_range}
 use lib.ListN.{length, drop}
-use Prim.Native.Nat.{◌≤◌, ◌*◌, ◌+◌, ◌/◌, ◌-◌}
-use Rattle.sequences.proofs.Gb18030Leaves.{range_step, range_end}
-use borrow.Author.Rules.{rules}
-use native.Mathlib.Omega.{arith}
+use Prim.Native.Nat.{◌≤◌, ◌*◌, ◌/◌, ◌-◌}
 use Rattle.sequences.proofs.gb18030.range_code.Given as goal
 
 -- At each turn: the search of all pairs is the search of those from pair i on, with the answer so far.

@@ -1,6 +1,5 @@
 use borrow.Author.Tests.{lt-leb, le-leb}
 use native.Mathlib.Omega.{arith}
-use borrow.Author.Rules.{rules}
 use Rattle.sequences.proofs.gb18030.range_next.Goals as goal
 
 pub returns-then-p-q : goal.returns-then-p-q

@@ -7,7 +7,6 @@ use Rattle.standard.specs.Sequences.Gb18030.{gb18030_four_code}
 use Rattle.layouts.proofs.Fours.{four_in}
 use Rattle.sequences.proofs.Gb18030Leaves.{third_other, third_wait, fourth_other, fourth_digit}
 use native.Mathlib.Omega.{arith}
-use borrow.Author.Rules.{rules}
 use Rattle.std.proofs.lemmas.Bool.{not_from_true, not_from_false}
 use Rattle.sequences.proofs.gb18030.third.Goals as goal
 use Rattle.sequences.proofs.gb18030.third.Goals.{After-within-2}

@@ -1,7 +1,6 @@
 use mathlib.Core.Path.{sym, ◌∙◌}
 use Rattle.sequences.proofs.Iso2022JpLeaves.{byte_kana, byte_none, byte_roman, byte_self}
 use native.Mathlib.Omega.{arith}
-use borrow.Author.Rules.{rules}
 use Rattle.sequences.proofs.iso_2022_jp.byte.Goals as goal
 
 pub returns-then-state-eq2 : goal.returns-then-state-eq2

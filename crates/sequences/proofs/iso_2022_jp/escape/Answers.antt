@@ -3,7 +3,6 @@ use lib.Dec.{eqb}
 use Rattle.standard.specs.Sequence.{shift}
 use Rattle.sequences.proofs.Iso2022JpLeaves.{escape_none, escape_wait, escape_whole}
 use native.Mathlib.Omega.{arith}
-use borrow.Author.Rules.{rules}
 use Rattle.sequences.proofs.iso_2022_jp.escape.Goals as goal
 
 pub returns-then-have-lt3 : goal.returns-then-have-lt3

@@ -4,7 +4,6 @@ use lib.Dec.{eqb}
 use Rattle.standard.specs.Sequence.{shift}
 use Rattle.sequences.proofs.Iso2022JpLeaves.{end_none, end_again, end_first}
 use native.Mathlib.Omega.{arith}
-use borrow.Author.Rules.{rules}
 use Rattle.sequences.proofs.iso_2022_jp.escape_end.Goals as goal
 
 pub returns-then-chosen-ge4 : goal.returns-then-chosen-ge4

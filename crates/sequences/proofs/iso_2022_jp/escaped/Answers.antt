@@ -1,7 +1,6 @@
 use mathlib.Core.Path.{sym, ◌∙◌}
 use Rattle.sequences.proofs.Iso2022JpLeaves.{chosen_28, chosen_none, chosen_24_40, chosen_24_42, chosen_24_other}
 use native.Mathlib.Omega.{arith}
-use borrow.Author.Rules.{rules}
 use Rattle.sequences.proofs.iso_2022_jp.escaped.Goals as goal
 
 pub returns-then-c-eq40 : goal.returns-then-c-eq40

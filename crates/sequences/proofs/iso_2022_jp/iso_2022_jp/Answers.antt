@@ -6,7 +6,6 @@ use Rattle.standard.proofs.Tests.{fails, holds}
 use Rattle.layouts.specs.Rows.{layout_of}
 use Rattle.sequences.proofs.Iso2022JpLeaves.{iso_2022_jp_1b_wait, iso_2022_jp_1b, iso_2022_jp_byte, iso_2022_jp_bad, iso_2022_jp_wait, iso_2022_jp_pair}
 use native.Mathlib.Omega.{arith}
-use borrow.Author.Rules.{rules}
 use Rattle.std.proofs.lemmas.Bool.{not_from_true, not_from_false}
 use Rattle.sequences.proofs.iso_2022_jp.iso_2022_jp.Goals as goal
 

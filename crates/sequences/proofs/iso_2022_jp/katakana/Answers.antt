@@ -2,7 +2,6 @@ use mathlib.Core.Path.{sym, ap, ◌∙◌}
 use mathlib.Core.Bool.{false}
 use Rattle.standard.specs.Sequence.{item, shift}
 use Rattle.sequences.proofs.Iso2022JpLeaves.{kana_some, kana_none}
-use borrow.Author.Rules.{rules}
 use Rattle.sequences.proofs.iso_2022_jp.katakana.Goals as goal
 
 pub returns-then-within : goal.returns-then-within

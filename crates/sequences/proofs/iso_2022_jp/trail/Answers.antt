@@ -2,7 +2,6 @@ use mathlib.Core.Path.{sym, ◌∙◌}
 use Rattle.layouts.specs.Rows.{layout_of}
 use Rattle.sequences.proofs.Iso2022JpLeaves.{trail_1b, trail_null, trail_some}
 use native.Mathlib.Omega.{arith}
-use borrow.Author.Rules.{rules}
 use Rattle.sequences.proofs.iso_2022_jp.trail.Goals as goal
 
 pub returns-then-c-eq27 : goal.returns-then-c-eq27

@@ -4,7 +4,6 @@ use borrow.Author.Tests.{eq-eqb, ne_eqb}
 use Rattle.standard.specs.Sequence.{shift}
 use Rattle.sequences.proofs.ReplacementLeaves.{replacement_given, replacement_first}
 use native.Mathlib.Omega.{arith}
-use borrow.Author.Rules.{rules}
 use Rattle.sequences.proofs.replacement.replacement.Goals as goal
 
 pub returns-then-flag-eq1 : goal.returns-then-flag-eq1

@@ -1,6 +1,5 @@
 use mathlib.Core.Path.{◌∙◌}
 use native.Mathlib.Omega.{arith}
-use borrow.Author.Rules.{rules}
 use Rattle.standard.proofs.Tests.{under, above}
 use Rattle.layouts.specs.Rows.{layout_of}
 use Rattle.sequences.proofs.ShiftJisLeaves.{code_private, code_indexed}

@@ -9,7 +9,6 @@ use Rattle.standard.proofs.Tests.{fails, holds}
 use Rattle.layouts.specs.Rows.{layout_of}
 use Rattle.sequences.proofs.ShiftJisLeaves.{shift_jis-ascii, shift_jis-kana, shift_jis-bad, shift_jis-led}
 use native.Mathlib.Omega.{arith}
-use borrow.Author.Rules.{rules}
 use Rattle.std.proofs.lemmas.Bool.{not_from_true, not_from_false}
 use Rattle.sequences.proofs.shift_jis.shift_jis.Goals as goal
 

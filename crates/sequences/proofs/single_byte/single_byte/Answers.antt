@@ -1,7 +1,6 @@
 use mathlib.Core.Path.{sym, ◌∙◌}
 use Rattle.sequences.proofs.SingleByteLeaves.{single_ascii, single_cell}
 use native.Mathlib.Omega.{arith}
-use borrow.Author.Rules.{rules}
 use Rattle.sequences.proofs.single_byte.single_byte.Goals as goal
 
 pub returns-then-b0-lt128 : goal.returns-then-b0-lt128

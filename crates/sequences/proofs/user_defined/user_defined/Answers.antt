@@ -1,7 +1,6 @@
 use mathlib.Core.Path.{sym, ◌∙◌}
 use Rattle.sequences.proofs.SingleByteLeaves.{user_ascii, user_high}
 use native.Mathlib.Omega.{arith}
-use borrow.Author.Rules.{rules}
 use Rattle.sequences.proofs.user_defined.user_defined.Goals as goal
 
 pub returns-then-b0-lt128 : goal.returns-then-b0-lt128

@@ -2,7 +2,6 @@ use mathlib.Core.Path.{sym, ◌∙◌}
 use Rattle.standard.proofs.Tests.{fails, holds}
 use Rattle.sequences.proofs.Utf8Leaves.{begun_first, begun_second, begun_wait, begun_third, begun_right, second_range}
 use native.Mathlib.Omega.{arith}
-use borrow.Author.Rules.{rules}
 use Rattle.std.proofs.lemmas.Bool.{not_from_true, not_from_false}
 use Rattle.sequences.proofs.utf8.begun.Goals as goal
 

@@ -1,8 +1,7 @@
 use mathlib.Core.Path.{sym, ◌∙◌}
 use Rattle.standard.proofs.Tests.{fails, holds, within_low}
-use Rattle.sequences.proofs.Utf8Leaves.{Right, right, four_stopped, four_wait, four_bad, four_good, second_least}
+use Rattle.sequences.proofs.Utf8Leaves.{right, four_stopped, four_wait, four_bad, four_good, second_least}
 use native.Mathlib.Omega.{arith}
-use borrow.Author.Rules.{rules}
 use Rattle.std.proofs.lemmas.Bool.{not_from_true, not_from_false}
 use Rattle.sequences.proofs.utf8.four.Goals as goal
 

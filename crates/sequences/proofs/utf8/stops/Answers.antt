@@ -1,7 +1,6 @@
 use mathlib.Core.Path.{sym, ◌∙◌}
 use Rattle.sequences.proofs.Utf8Leaves.{stop_wait, stop_bad}
 use native.Mathlib.Omega.{arith}
-use borrow.Author.Rules.{rules}
 use Rattle.sequences.proofs.utf8.stops.Goals as goal
 
 pub returns-then-k-eq3 : goal.returns-then-k-eq3

@@ -1,8 +1,7 @@
 use mathlib.Core.Path.{sym, ◌∙◌}
 use Rattle.standard.proofs.Tests.{within_low}
-use Rattle.sequences.proofs.Utf8Leaves.{Right, right, three_stopped, three_good, second_least}
+use Rattle.sequences.proofs.Utf8Leaves.{right, three_stopped, three_good, second_least}
 use native.Mathlib.Omega.{arith}
-use borrow.Author.Rules.{rules}
 use Rattle.sequences.proofs.utf8.three.Goals as goal
 
 pub returns-then-k-ne0 : goal.returns-then-k-ne0

@@ -2,7 +2,6 @@ use mathlib.Core.Path.{sym, ◌∙◌}
 use Rattle.standard.proofs.Tests.{fails, holds, within_low}
 use Rattle.sequences.proofs.Utf8Leaves.{two_wait, two_bad, two_good}
 use native.Mathlib.Omega.{arith}
-use borrow.Author.Rules.{rules}
 use Rattle.std.proofs.lemmas.Bool.{not_from_true, not_from_false}
 use Rattle.sequences.proofs.utf8.two.Goals as goal
 

@@ -6,7 +6,6 @@ use Rattle.standard.proofs.Tests.{within_low}
 use Rattle.standard.proofs.Leads.{in_two, in_three, in_four, utf8_two_lem, utf8_three_lem, utf8_four_lem, utf8_none}
 use Rattle.sequences.proofs.Utf8Leaves.{utf8_ascii}
 use native.Mathlib.Omega.{arith}
-use borrow.Author.Rules.{rules}
 use Rattle.sequences.proofs.utf8.utf8.Goals as goal
 
 pub returns-then-b0-lt128 : goal.returns-then-b0-lt128

@@ -1,7 +1,6 @@
 use mathlib.Core.Path.{sym, ◌∙◌}
 use Rattle.sequences.proofs.Utf16Leaves.{pair_under, pair_above, pair_trail}
 use native.Mathlib.Omega.{arith}
-use borrow.Author.Rules.{rules}
 use Rattle.sequences.proofs.utf_16.pair.Goals as goal
 
 pub returns-then-u-lt56320 : goal.returns-then-u-lt56320

@@ -1,6 +1,5 @@
 use mathlib.Core.Path.{sym}
 use Rattle.sequences.proofs.Utf16Leaves.{unit_be, unit_le}
-use borrow.Author.Rules.{rules}
 use Rattle.sequences.proofs.utf_16.unit.Goals as goal
 
 pub returns-then-be : goal.returns-then-be

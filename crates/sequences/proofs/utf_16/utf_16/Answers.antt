@@ -2,7 +2,6 @@ use mathlib.Core.Path.{sym, ap, ◌∙◌}
 use Rattle.standard.specs.Sequences.Utf16.{utf16_pair}
 use Rattle.sequences.proofs.Utf16Leaves.{utf_16_short, utf_16_low, utf_16_high, utf_16_trail, utf_16_wait, utf_16_pair}
 use native.Mathlib.Omega.{arith}
-use borrow.Author.Rules.{rules}
 use Rattle.sequences.proofs.utf_16.utf_16.Goals as goal
 
 pub returns-then-have-lt2 : goal.returns-then-have-lt2

@@ -3,7 +3,6 @@ use Rattle.standard.specs.Indexes.{irregular, windows1252}
 use Rattle.sequences.proofs.SingleByteLeaves.{single_ascii}
 use Rattle.sequences.proofs.Windows1252Leaves.{windows_irregular, windows_itself}
 use native.Mathlib.Omega.{arith}
-use borrow.Author.Rules.{rules}
 use Rattle.sequences.proofs.windows_1252.windows_1252.Goals as goal
 
 pub returns-then-b0-lt128 : goal.returns-then-b0-lt128

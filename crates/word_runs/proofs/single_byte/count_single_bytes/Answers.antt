@@ -1,4 +1,3 @@
-use borrow.Author.Rules.{rules}
 use mathlib.Core.Path.{◌∙◌}
 use Rattle.standard.specs.Encodings.{lent, single-byte, traits}
 use Rattle.runs.proofs.Counting.{runs_line_feeds}

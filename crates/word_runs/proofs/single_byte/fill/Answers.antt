@@ -1,11 +1,10 @@
-use borrow.Author.Rules.{rules}
 use native.Mathlib.Omega.{arith}
-use mathlib.Core.Path.{◌≡◌, sym, ap, ◌∙◌}
-use Prim.Native.Nat.{ℕ, ◌-◌, ◌≤◌}
+use mathlib.Core.Path.{sym, ap, ◌∙◌}
+use Prim.Native.Nat.{ℕ}
 use lib.ListN.{get_or}
 use Rattle.standard.specs.Base.{◌then◌else◌, mapped}
-use Rattle.word_runs.specs.Bytes.{unmapped, byte_scalar}
-use Rattle.word_runs.proofs.ByteRuns.{Replaced, replaced_none, replaced_more, replaced_all, byte_ascii, byte_upper}
+use Rattle.word_runs.specs.Bytes.{byte_scalar}
+use Rattle.word_runs.proofs.ByteRuns.{replaced_none, replaced_more, replaced_all, byte_ascii, byte_upper}
 use Rattle.word_runs.proofs.single_byte.fill.Goals as goal
 
 pub loop-k-init : goal.loop-k-init

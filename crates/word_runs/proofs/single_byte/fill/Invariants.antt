@@ -1,11 +1,9 @@
-use borrow.Author.Rules.{rules}
-use native.Mathlib.Omega.{arith}
-use mathlib.Core.Path.{◌≡◌, sym, ap, ◌∙◌}
+use mathlib.Core.Path.{◌≡◌}
 use Prim.Native.Nat.{ℕ, ◌-◌, ◌≤◌}
 use lib.ListN.{get_or}
 use Rattle.standard.specs.Base.{◌then◌else◌, mapped}
-use Rattle.word_runs.specs.Bytes.{unmapped, byte_scalar}
-use Rattle.word_runs.proofs.ByteRuns.{Replaced, replaced_none, replaced_more, replaced_all, byte_ascii, byte_upper}
+use Rattle.word_runs.specs.Bytes.{unmapped}
+use Rattle.word_runs.proofs.ByteRuns.{Replaced}
 use Rattle.word_runs.proofs.single_byte.fill.Given as goal
 
 -- The invariant: the table has the places of its cells, but for the scalars of the first k bytes from 80 on.

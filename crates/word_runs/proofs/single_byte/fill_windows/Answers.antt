@@ -1,10 +1,9 @@
-use borrow.Author.Rules.{rules}
 use native.Mathlib.Omega.{arith}
 use mathlib.Core.Path.{refl, sym, ap, ◌∙◌}
-use Prim.Native.Nat.{ℕ, ◌+◌, ◌-◌, ◌≤◌}
+use Prim.Native.Nat.{◌+◌}
 use lib.ListN.{length, get_or}
 use Rattle.word_runs.specs.Bytes.{windows_scalar}
-use Rattle.word_runs.proofs.ByteRuns.{Replaced, replaced_none, replaced_more, replaced_all, windows_ascii, windows_upper, windows_same, irregular_length}
+use Rattle.word_runs.proofs.ByteRuns.{replaced_none, replaced_more, replaced_all, windows_ascii, windows_upper, windows_same, irregular_length}
 use Rattle.word_runs.proofs.single_byte.fill_windows.Goals as goal
 
 pub loop-k-init : goal.loop-k-init

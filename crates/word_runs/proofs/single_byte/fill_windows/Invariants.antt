@@ -1,10 +1,6 @@
-use borrow.Author.Rules.{rules}
-use native.Mathlib.Omega.{arith}
-use mathlib.Core.Path.{refl, sym, ap, ◌∙◌}
-use Prim.Native.Nat.{ℕ, ◌+◌, ◌-◌, ◌≤◌}
-use lib.ListN.{length, get_or}
-use Rattle.word_runs.specs.Bytes.{windows_scalar}
-use Rattle.word_runs.proofs.ByteRuns.{Replaced, replaced_none, replaced_more, replaced_all, windows_ascii, windows_upper, windows_same, irregular_length}
+use Prim.Native.Nat.{ℕ, ◌-◌, ◌≤◌}
+use lib.ListN.{get_or}
+use Rattle.word_runs.proofs.ByteRuns.{Replaced}
 use Rattle.word_runs.proofs.single_byte.fill_windows.Given as goal
 
 -- The invariant: the table has the places of its cells, but for the first k irregular scalars from 80 on.

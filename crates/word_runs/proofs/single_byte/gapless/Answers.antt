@@ -1,10 +1,8 @@
 use mathlib.Core.Path.{◌≡◌, sym, subst}
-use Prim.Native.Nat.{ℕ, ◌-◌, ◌≤◌, ◌<◌}
-use borrow.Author.Rules.{rules}
+use Prim.Native.Nat.{ℕ}
 use native.Mathlib.Omega.{arith}
 use lib.Dec.{T}
 use lib.ListN.{get_or}
-use Rattle.word_runs.specs.Bytes.{Gapless}
 use Rattle.word_runs.proofs.ByteRuns.{below_one}
 use Rattle.word_runs.proofs.single_byte.gapless.Goals as goal
 

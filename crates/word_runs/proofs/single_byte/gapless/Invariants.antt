@@ -1,11 +1,5 @@
-use mathlib.Core.Path.{◌≡◌, sym, subst}
-use Prim.Native.Nat.{ℕ, ◌-◌, ◌≤◌, ◌<◌}
-use borrow.Author.Rules.{rules}
-use native.Mathlib.Omega.{arith}
-use lib.Dec.{T}
-use lib.ListN.{get_or}
+use Prim.Native.Nat.{◌-◌, ◌≤◌}
 use Rattle.word_runs.specs.Bytes.{Gapless}
-use Rattle.word_runs.proofs.ByteRuns.{below_one}
 use Rattle.word_runs.proofs.single_byte.gapless.Given as goal
 
 -- The cells so far are scalars. What falls is the cells that are left.

@@ -1,10 +1,6 @@
-use borrow.Author.Rules.{rules}
-use native.Mathlib.Omega.{arith}
-use mathlib.Core.Path.{◌≡◌, ap, ◌∙◌, sym}
+use mathlib.Core.Path.{◌≡◌}
 use Prim.Native.Nat.{ℕ, ◌-◌, ◌*◌, ◌≤◌, ◌<◌}
-use lib.ListN.{length, get_or, length-set}
-use borrow.Author.Count.{below_more}
-use Rattle.runs.proofs.Below.{filled_more}
+use lib.ListN.{length, get_or}
 use Rattle.word_runs.proofs.single_byte.halves.Given as goal
 
 -- The invariant: the first b cells stand in the upper half, and are below 2^32.

@@ -4,7 +4,6 @@ use Prim.Native.Nat.{ℕ, ◌+◌, ◌-◌, ◌%◌}
 use lib.ListN.{length, get_or}
 use Rattle.line_feeds.proofs.Parts.{Counted, part_more, last_part, at_most}
 use Rattle.word_runs.proofs.ByteRuns.{through_on}
-use borrow.Author.Rules.{rules}
 use Rattle.word_runs.proofs.single_byte.look_up.Goals as goal
 use Rattle.word_runs.proofs.single_byte.look_up.Goals.{After-in_bytes-last}
 

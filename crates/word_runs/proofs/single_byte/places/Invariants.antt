@@ -1,9 +1,6 @@
-use borrow.Author.Rules.{rules}
-use native.Mathlib.Omega.{arith}
-use mathlib.Core.Path.{◌≡◌, refl, sym, ◌∙◌}
+use mathlib.Core.Path.{◌≡◌}
 use Prim.Native.Nat.{ℕ, ◌-◌, ◌≤◌, ◌<◌}
-use lib.ListN.{length, get_or, length-set}
-use Rattle.runs.proofs.Below.{filled_more}
+use lib.ListN.{length, get_or}
 use Rattle.word_runs.proofs.single_byte.places.Given as goal
 
 -- The invariant: each of the first b cells is its place.

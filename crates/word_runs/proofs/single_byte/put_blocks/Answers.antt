@@ -1,11 +1,10 @@
 use borrow.Author.Rules.{rules}
 use native.Mathlib.Omega.{arith}
 use mathlib.Core.Bool.{false}
-use mathlib.Core.Path.{◌≡◌, refl, ap, ◌∙◌}
-use Prim.Native.Nat.{ℕ, ◌+◌, ◌-◌, ◌≤◌}
-use lib.ListN.{length, get_or}
+use mathlib.Core.Path.{refl, ap, ◌∙◌}
+use Prim.Native.Nat.{ℕ, ◌+◌}
+use lib.ListN.{get_or}
 use Rattle.line_feeds.proofs.Parts.{Counted, none_yet, part_more, at_most}
-use Rattle.word_runs.specs.Bytes.{Halves, Through}
 use Rattle.word_runs.specs.Units.{values, unit_at}
 use Rattle.word_runs.proofs.ByteRuns.{through_none, through_on}
 use Rattle.word_runs.proofs.WordBytes.{words_through}

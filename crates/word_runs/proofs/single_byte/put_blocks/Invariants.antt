@@ -1,14 +1,8 @@
-use borrow.Author.Rules.{rules}
-use native.Mathlib.Omega.{arith}
-use mathlib.Core.Bool.{false}
-use mathlib.Core.Path.{◌≡◌, refl, ap, ◌∙◌}
-use Prim.Native.Nat.{ℕ, ◌+◌, ◌-◌, ◌≤◌}
+use mathlib.Core.Path.{◌≡◌}
+use Prim.Native.Nat.{ℕ, ◌-◌, ◌≤◌}
 use lib.ListN.{length, get_or}
-use Rattle.line_feeds.proofs.Parts.{Counted, none_yet, part_more, at_most}
+use Rattle.line_feeds.proofs.Parts.{Counted}
 use Rattle.word_runs.specs.Bytes.{Halves, Through}
-use Rattle.word_runs.specs.Units.{values, unit_at}
-use Rattle.word_runs.proofs.ByteRuns.{through_none, through_on}
-use Rattle.word_runs.proofs.WordBytes.{words_through}
 use Rattle.word_runs.proofs.single_byte.put_blocks.Given as goal
 
 -- The invariant: k bytes are written through the table, which stands in the upper halves too, and `lines` line feeds are among them.

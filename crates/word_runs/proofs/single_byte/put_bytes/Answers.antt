@@ -1,9 +1,8 @@
 use borrow.Author.Rules.{rules}
 use native.Mathlib.Omega.{arith}
 use mathlib.Core.Path.{◌≡◌, ap}
-use Prim.Native.Nat.{ℕ, ◌-◌, ◌≤◌}
-use lib.ListN.{length, get_or, length-set}
-use Rattle.word_runs.specs.Bytes.{Through}
+use Prim.Native.Nat.{ℕ}
+use lib.ListN.{get_or, length-set}
 use Rattle.word_runs.proofs.ByteRuns.{through_none, through_more}
 use Rattle.word_runs.proofs.single_byte.put_bytes.Goals as goal
 

@@ -1,10 +1,7 @@
-use borrow.Author.Rules.{rules}
-use native.Mathlib.Omega.{arith}
-use mathlib.Core.Path.{◌≡◌, ap}
+use mathlib.Core.Path.{◌≡◌}
 use Prim.Native.Nat.{ℕ, ◌-◌, ◌≤◌}
-use lib.ListN.{length, get_or, length-set}
+use lib.ListN.{length, get_or}
 use Rattle.word_runs.specs.Bytes.{Through}
-use Rattle.word_runs.proofs.ByteRuns.{through_none, through_more}
 use Rattle.word_runs.proofs.single_byte.put_bytes.Given as goal
 
 -- The invariant: k bytes are written through the table.

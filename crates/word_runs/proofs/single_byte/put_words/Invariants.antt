@@ -1,13 +1,9 @@
-use borrow.Author.Rules.{rules}
-use native.Mathlib.Omega.{arith}
-use mathlib.Core.Path.{◌≡◌, refl, ap, ◌∙◌}
-use Prim.Native.Nat.{ℕ, ◌+◌, ◌-◌, ◌*◌, ◌%◌, ◌≤◌}
+use mathlib.Core.Path.{◌≡◌}
+use Prim.Native.Nat.{ℕ, ◌-◌, ◌*◌, ◌%◌, ◌≤◌}
 use lib.ListN.{length, get_or}
 use Rattle.word_runs.specs.Bytes.{byte_of}
 use Rattle.word_runs.specs.Units.{values}
 use Rattle.runs.specs.Run.{patch}
-use Rattle.word_runs.proofs.Values.{wrote_on}
-use Rattle.runs.proofs.Patches.{patch_none}
 use Rattle.word_runs.proofs.single_byte.put_words.Given as goal
 
 -- The invariant: the scalars of the first j words, a multiple of sixteen, are written.

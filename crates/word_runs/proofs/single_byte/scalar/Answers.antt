@@ -1,7 +1,6 @@
 use native.Mathlib.Omega.{arith}
 use mathlib.Core.Path.{sym, ◌∙◌}
 use Rattle.word_runs.proofs.ByteRuns.{byte_ascii, byte_mapped, byte_unmapped}
-use borrow.Author.Rules.{rules}
 use Rattle.word_runs.proofs.single_byte.scalar.Goals as goal
 
 pub returns-then-mapped : goal.returns-then-mapped

@@ -2,7 +2,6 @@ use Rattle.runs.proofs.Guard.{guarded_plain}
 use Rattle.word_runs.proofs.ByteRuns.{counts_none}
 use Rattle.standard.specs.Encodings.{lent, single-byte}
 use native.Mathlib.Omega.{arith}
-use borrow.Author.Rules.{rules}
 use Rattle.std.proofs.lemmas.Bool.{not_from_true}
 use Rattle.word_runs.proofs.single_byte.single_byte_run.Goals as goal
 

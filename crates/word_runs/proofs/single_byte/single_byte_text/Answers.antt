@@ -2,11 +2,9 @@ use mathlib.Core.Path.{◌∙◌}
 use native.Mathlib.Omega.{arith}
 use Prim.Native.Nat.{◌+◌, ◌-◌}
 use lib.ListN.{length, get_or}
-use borrow.Author.Tests.{not-false}
 use Rattle.standard.specs.Encodings.{lent, single-byte, traits}
 use Rattle.word_runs.specs.Bytes.{byte_scalar}
 use Rattle.word_runs.proofs.ByteRuns.{looked_up_lem, counts_through, single_at}
-use borrow.Author.Rules.{rules}
 use Rattle.word_runs.proofs.single_byte.single_byte_text.Goals as goal
 
 -- each byte through the table; in mode 1 none is unmapped

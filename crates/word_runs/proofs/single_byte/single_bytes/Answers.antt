@@ -1,10 +1,5 @@
-use borrow.Author.Rules.{rules}
 use native.Mathlib.Omega.{arith}
-use Prim.Native.Nat.{◌-◌}
-use lib.ListN.{length}
-use Rattle.standard.specs.Encodings.{lent, single-byte}
-use Rattle.standard.specs.Sequence.{plain}
-use Rattle.runs.proofs.Running.{Going, going_start}
+use Rattle.runs.proofs.Running.{going_start}
 use Rattle.word_runs.proofs.ByteRuns.{single_step}
 use Rattle.word_runs.proofs.single_byte.single_bytes.Goals as goal
 

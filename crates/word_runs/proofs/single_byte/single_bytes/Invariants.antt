@@ -1,11 +1,8 @@
-use borrow.Author.Rules.{rules}
-use native.Mathlib.Omega.{arith}
 use Prim.Native.Nat.{◌-◌}
 use lib.ListN.{length}
 use Rattle.standard.specs.Encodings.{lent, single-byte}
 use Rattle.standard.specs.Sequence.{plain}
-use Rattle.runs.proofs.Running.{Going, going_start}
-use Rattle.word_runs.proofs.ByteRuns.{single_step}
+use Rattle.runs.proofs.Running.{Going}
 use Rattle.word_runs.proofs.single_byte.single_bytes.Given as goal
 
 -- The invariant: a run has come from the start to this place.

@@ -6,7 +6,6 @@ use Rattle.word_runs.proofs.ByteRuns.{counts_through, counts_none, windows_at}
 use Rattle.word_runs.specs.Bytes.{windows_scalar}
 use Rattle.standard.specs.Encodings.{windows-1252, traits}
 use native.Mathlib.Omega.{arith}
-use borrow.Author.Rules.{rules}
 use Rattle.std.proofs.lemmas.Bool.{not_from_true}
 use Rattle.word_runs.proofs.single_byte.windows_1252_run.Goals as goal
 use Rattle.word_runs.proofs.single_byte.windows_1252_run.Goals.{After-windows_scalars-lines}

@@ -1,13 +1,8 @@
-use borrow.Author.Rules.{rules}
-use native.Mathlib.Omega.{arith}
-use mathlib.Core.Path.{◌≡◌, refl, ap, ◌∙◌}
+use mathlib.Core.Path.{◌≡◌}
 use Prim.Native.Nat.{ℕ, ◌+◌, ◌-◌, ◌≤◌, ◌<◌}
-use lib.ListN.{length, get_or, length-set}
+use lib.ListN.{length, get_or}
 use Rattle.runs.specs.Run.{patch}
 use Rattle.word_runs.specs.Units.{values}
-use Rattle.word_runs.proofs.Values.{wrote_more}
-use Rattle.runs.proofs.Patches.{patch_none}
-use borrow.Author.Count.{below_more}
 use Rattle.word_runs.specs.Bytes.{windows_scalar}
 use Rattle.word_runs.proofs.single_byte.windows_bytes.Given as goal
 

@@ -2,7 +2,6 @@ use native.Mathlib.Omega.{arith}
 use mathlib.Core.Path.{ap, ◌∙◌}
 use lib.ListN.{length}
 use Rattle.word_runs.proofs.ByteRuns.{windows_ascii, windows_cell, windows_same, irregular_length}
-use borrow.Author.Rules.{rules}
 use Rattle.word_runs.proofs.single_byte.windows_scalar.Goals as goal
 
 pub bounds-cells-b : goal.bounds-cells-b

@@ -5,7 +5,6 @@ use mathlib.Core.Path.{refl}
 use Rattle.word_runs.specs.Bytes.{windows_scalar}
 use Rattle.word_runs.proofs.ByteRuns.{looked_up_lem}
 use Rattle.standard.specs.Indexes.{irregular}
-use borrow.Author.Rules.{rules}
 use Rattle.word_runs.proofs.single_byte.windows_scalars.Goals as goal
 
 pub windows_bytes-requires : goal.windows_bytes-requires

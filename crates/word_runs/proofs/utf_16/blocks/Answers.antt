@@ -1,11 +1,9 @@
-use borrow.Author.Rules.{rules}
 use native.Mathlib.Omega.{arith}
-use mathlib.Core.Path.{◌≡◌, refl}
-use Prim.Native.Nat.{ℕ, ◌+◌, ◌-◌, ◌*◌, ◌≤◌, ◌<◌}
+use mathlib.Core.Path.{refl}
+use Prim.Native.Nat.{ℕ, ◌+◌, ◌*◌}
 use lib.ListN.{length}
 use Rattle.standard.specs.Sequence.{plain}
 use Rattle.standard.specs.Encodings.{no_tables}
-use Rattle.runs.specs.Run.{Ready}
 use Rattle.word_runs.specs.Units.{utf16_family}
 use Rattle.word_runs.proofs.Utf16Runs.{counting_put}
 use Rattle.runs.proofs.Counting.{Counting, counting_start, counting_fewer}

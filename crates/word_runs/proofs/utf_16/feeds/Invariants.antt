@@ -1,12 +1,8 @@
-use borrow.Author.Rules.{rules}
-use native.Mathlib.Omega.{arith}
-use mathlib.Core.Path.{◌≡◌, refl, ap, ◌∙◌}
-use mathlib.Core.List.{[], ◌∷◌}
-use Prim.Native.Nat.{ℕ, ◌+◌, ◌-◌, ◌≤◌}
+use mathlib.Core.Path.{◌≡◌}
+use Prim.Native.Nat.{ℕ, ◌-◌, ◌≤◌}
 use lib.ListN.{length, get_or}
 use Rattle.standard.specs.Base.{line_feeds}
 use Rattle.word_runs.specs.Units.{values, oriented}
-use Rattle.word_runs.proofs.Values.{values_feeds, values_fewer}
 use Rattle.word_runs.proofs.utf_16.feeds.Given as goal
 
 -- The invariant: `count` line feeds are among the first k units.

@@ -2,7 +2,6 @@ use native.Mathlib.Omega.{arith}
 use Rattle.runs.proofs.Running.{gives_scalar}
 use Rattle.sequences.proofs.Utf16Leaves.{pair_under, pair_above, pair_trail}
 use Rattle.runs.proofs.Scalars.{gives_same}
-use borrow.Author.Rules.{rules}
 use Rattle.word_runs.proofs.utf_16.pair.Goals as goal
 
 pub returns-then-u-lt56320 : goal.returns-then-u-lt56320

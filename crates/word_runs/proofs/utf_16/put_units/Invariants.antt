@@ -1,12 +1,8 @@
-use borrow.Author.Rules.{rules}
-use native.Mathlib.Omega.{arith}
-use mathlib.Core.Path.{◌≡◌, refl, ap, ◌∙◌}
+use mathlib.Core.Path.{◌≡◌}
 use Prim.Native.Nat.{ℕ, ◌-◌, ◌≤◌}
-use lib.ListN.{length, get_or, length-set}
+use lib.ListN.{length, get_or}
 use Rattle.word_runs.specs.Units.{values, oriented}
 use Rattle.runs.specs.Run.{patch}
-use Rattle.word_runs.proofs.Values.{wrote_more}
-use Rattle.runs.proofs.Patches.{patch_none}
 use Rattle.word_runs.proofs.utf_16.put_units.Given as goal
 
 -- The invariant: the first k units are written.

@@ -4,7 +4,6 @@ use Rattle.runs.proofs.Running.{gives_scalar}
 use Rattle.runs.proofs.Scalars.{gives_same}
 use Rattle.word_runs.proofs.Utf16Runs.{at_low, at_high, at_trail, at_lead}
 use Rattle.standard.specs.Sequences.Utf16.{utf16_pair}
-use borrow.Author.Rules.{rules}
 use Rattle.word_runs.proofs.utf_16.sequence.Goals as goal
 
 pub returns-then-u-lt55296 : goal.returns-then-u-lt55296

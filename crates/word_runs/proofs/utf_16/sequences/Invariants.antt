@@ -1,12 +1,8 @@
-use borrow.Author.Rules.{rules}
-use native.Mathlib.Omega.{arith}
-use Prim.Native.Nat.{◌+◌, ◌-◌}
-use lib.ListN.{set}
+use Prim.Native.Nat.{◌-◌}
 use Rattle.standard.specs.Encodings.{no_tables}
 use Rattle.standard.specs.Sequence.{plain}
 use Rattle.word_runs.specs.Units.{utf16_family}
-use Rattle.runs.proofs.Counting.{Counting, counting_start, counting_fewer}
-use Rattle.word_runs.proofs.Utf16Runs.{counting_step}
+use Rattle.runs.proofs.Counting.{Counting}
 use Rattle.word_runs.proofs.utf_16.sequences.Given as goal
 
 -- The invariant: a run has come from the start to this place.

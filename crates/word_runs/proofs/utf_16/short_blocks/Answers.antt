@@ -1,4 +1,3 @@
-use borrow.Author.Rules.{rules}
 use Rattle.word_runs.proofs.utf_16.short_blocks.Goals as goal
 
 pub returns-then-be : goal.returns-then-be

@@ -1,10 +1,7 @@
-use borrow.Author.Rules.{rules}
 use native.Mathlib.Omega.{arith}
-use mathlib.Core.Path.{◌≡◌, refl, subst}
-use Prim.Native.Nat.{ℕ, ◌-◌, ◌≤◌, ◌<◌}
-use lib.ListN.{length, get_or}
+use mathlib.Core.Path.{refl, subst}
 use borrow.Author.Count.{below_more}
-use Rattle.word_runs.specs.Units.{NoSurrogate, oriented}
+use Rattle.word_runs.specs.Units.{NoSurrogate}
 use Rattle.word_runs.proofs.utf_16.surrogates.Goals as goal
 
 pub loop-k-init : goal.loop-k-init

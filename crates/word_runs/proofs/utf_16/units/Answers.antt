@@ -1,10 +1,6 @@
 use native.Mathlib.Omega.{arith}
-use Prim.Native.Nat.{ℕ, ◌-◌}
-use lib.ListN.{length}
-use Rattle.standard.specs.Sequence.{plain}
-use Rattle.standard.specs.Encodings.{no_tables}
-use Rattle.word_runs.specs.Units.{utf16_family}
-use Rattle.runs.proofs.Counting.{Counting, counting_start, counting_fewer}
+use Prim.Native.Nat.{ℕ}
+use Rattle.runs.proofs.Counting.{counting_start, counting_fewer}
 use Rattle.word_runs.proofs.Utf16Runs.{counting_units}
 use Rattle.word_runs.proofs.utf_16.units.Goals as goal
 use Rattle.word_runs.proofs.utf_16.units.Goals.{After-long_blocks-b}

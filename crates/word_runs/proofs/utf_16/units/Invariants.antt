@@ -1,11 +1,9 @@
-use native.Mathlib.Omega.{arith}
-use Prim.Native.Nat.{ℕ, ◌-◌}
+use Prim.Native.Nat.{◌-◌}
 use lib.ListN.{length}
 use Rattle.standard.specs.Sequence.{plain}
 use Rattle.standard.specs.Encodings.{no_tables}
 use Rattle.word_runs.specs.Units.{utf16_family}
-use Rattle.runs.proofs.Counting.{Counting, counting_start, counting_fewer}
-use Rattle.word_runs.proofs.Utf16Runs.{counting_units}
+use Rattle.runs.proofs.Counting.{Counting}
 use Rattle.word_runs.proofs.utf_16.units.Given as goal
 
 -- The invariant: a run has come from the start to this place.

@@ -5,7 +5,6 @@ use Rattle.runs.proofs.Running.{runs_none}
 use Prim.Native.Nat.{◌-◌}
 use Rattle.line_feeds.proofs.Parts.{none_in}
 use native.Mathlib.Omega.{arith}
-use borrow.Author.Rules.{rules}
 use Rattle.std.proofs.lemmas.Bool.{not_from_true}
 use Rattle.word_runs.proofs.utf_16.utf_16_run.Goals as goal
 

@@ -1,14 +1,9 @@
-use borrow.Author.Rules.{rules}
-use native.Mathlib.Omega.{arith}
 use mathlib.Core.Bool.{false}
-use mathlib.Core.Path.{◌≡◌, refl, ap, ◌∙◌}
+use mathlib.Core.Path.{◌≡◌}
 use Prim.Native.Nat.{ℕ, ◌+◌, ◌-◌, ◌*◌, ◌≤◌, ◌<◌}
-use lib.ListN.{length, get_or, length-set}
-use borrow.Author.Count.{below_more}
+use lib.ListN.{length, get_or}
 use Rattle.word_runs.specs.Units.{values, unit_at}
 use Rattle.runs.specs.Run.{patch}
-use Rattle.word_runs.proofs.Values.{values_length, wrote_more}
-use Rattle.runs.proofs.Patches.{patch_none, patch_all}
 use Rattle.word_runs.proofs.words.read_words.Given as goal
 
 -- The invariant: the first k words are read.
