@@ -20,6 +20,20 @@ KEEP = {"UTF-8", "single-byte", "windows-1252", "GB18030", "Big5", "EUC-JP", "IS
 # A lemma that would have the name of a definition gets `_lem`. A state of the decoder of ISO-2022-JP and a field of the variables of UTF-16
 # have one name. The others had lost their dashes already.
 CHOSEN = {"lead-byte": "lead_byte"}
+# Names under which a file brings others in, and parameters.
+OTHERS = {
+    "isGBK": "is_gbk",
+    "areScalars": "are_scalars",
+    "columnIn": "column_in",
+    "writerAccount": "writer_account",
+    "sameAs": "same_as",
+    "joinedPieces": "joined_pieces",
+    "readingEnd": "reading_end",
+    "joinedFeeds": "joined_feeds",
+    "replacementNext": "replacement_next",
+    "readerAt": "reader_at",
+    "indexFits": "index_fits",
+}
 CHOSEN_IN = {
     "crates/demands/proofs/Theorems.antt": {"held_in": "held_in_lem"},
     "crates/encoder/proofs/Ones.antt": {"by_count": "by_count_lem"},
@@ -114,6 +128,7 @@ def main():
         if "-" in n and n not in CHOSEN and t in taken:
             table[n] = t + "_lem"
     table = {n: t for n, t in table.items() if n != t}
+    table.update(OTHERS)
 
     def spell(text, here={}):
         """The text with the names of the table, but for what stands in strings."""

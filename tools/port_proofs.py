@@ -68,6 +68,10 @@ class Names:
             self.steps[bare(so)] = sn
             self.steps[bare(so) + "-test"] = sn + "-test"
         self.changed = d["changed"]
+        self.params = {}
+        for (_, _, (_, sn), callee, _) in d["places"]:
+            if callee and callee in d["params"]:
+                self.params[sn] = d["params"][callee]
         self.own = {}
         for (_, n), (_, at) in zip(d["needs"], d["asked_at"]):
             self.own.setdefault(n, at)
@@ -77,8 +81,8 @@ class Names:
         """A step's old name as the file of names has it."""
         if k not in self.steps and k.endswith("-lem"):
             k = k[:-4]
-        if k not in self.steps and k[:1].isupper():
-            k = k[:1].lower() + k[1:]
+        if k not in self.steps and k.lower() in self.steps:
+            k = k.lower()
         m = re.fullmatch(r"fits(\d)", k)
         if m:
             k = "fits" if m.group(1) == "2" else "fits%d" % (int(m.group(1)) - 1)
@@ -181,20 +185,24 @@ def convert(path, d, crate, where):
             for k in raw:
                 raw[k] = put(raw[k], n, m.group(1))
     # helpers that only go back from one place to another
-    for _ in range(4):
+    back = {}
+    for _ in range(5):
         for n in list(raw):
             m = re.match(r"^abbrev (?:pub )?%s :\s+(?:tie|lts)\.[A-Z][^\n]*(?:\n    [^\n]*)*\n%s (\w+) =\s+(%s)$" % (re.escape(n), re.escape(n), REF), raw[n])
             if m and re.search(r"→\s+(tie|lts)\.[A-Z]", raw[n]):
-                var, body = m.group(1), m.group(2)
+                back[n] = (m.group(1), m.group(2))
                 del raw[n]
+        for _ in range(4):
+            for n, (var, body) in back.items():
                 for k in raw:
                     raw[k] = apply(raw[k], n, var, body, False)
-    raw = {n: re.sub(r"\.inv(?![\w-])", ".invariant", b) for n, b in raw.items()}
+    old_words = {"inv": "invariant", "good": "well_formed", "kept": "auto", "last": "new"}
+    raw = {n: re.sub(r"(\.[^\s(){};,.]+)\.(inv|good|kept|last)(?=[\s(){};,.])(?!\.(?:ensures|result|requires)\b)", lambda m: m.group(0) if m.group(1) == ".args" else m.group(1) + "." + old_words[m.group(2)], b + " ").rstrip() for n, b in raw.items()}
     helpers = {}
     for n in raw:
         m = re.match(r"^(?:abbrev )?(?:pub )?%s :\s+(?:\(\w+ : )?(?:tie|lts)\.([A-Z][^\s(){};,.]*)" % re.escape(n), raw[n])
-        if m and not m.group(1).startswith("Need-") and bare(m.group(1)) in names.places:
-            helpers[n] = names.places[bare(m.group(1))]
+        if m and not m.group(1).startswith("Need-") and names.place(bare(m.group(1))) in names.places:
+            helpers[n] = names.places[names.place(bare(m.group(1)))]
     inv, ans = [], []
     inv_names = set()
 
@@ -235,9 +243,12 @@ def convert(path, d, crate, where):
 
         # places: the parameters of the definition, and what goes back from them
         roots = {re.match(r"\w*", x).group(0) for x in params}
-        for m in re.finditer(r"(?m)^[^\s:=]+((?: [A-Za-z_][\w'₀-₉-]*)+) =", body):
-            roots.update(m.group(1).split())
-        roots.update(re.findall(r"\((\w+) : [A-Z]", body))
+        if not params and new is not None:
+            for m in re.finditer(r"(?m)^[^\s:=]+ ([A-Za-z_]\w*)[^=\n]*=", body):
+                roots.add(m.group(1))
+        for w, q in re.findall(r"\((\w+) : ([A-Z][^\s(){};,.]*)\)", body):
+            if q in named:
+                roots.add(w)
         for v, e in re.findall(r"let ([\w'₀-₉-]+) = ([^\n]*?) in(?=\s|$)", body):
             if re.fullmatch(REF, e) and e.split(".")[0] in roots:
                 roots.add(v)
@@ -249,11 +260,29 @@ def convert(path, d, crate, where):
             k = names.step(k)
             if k in names.steps:
                 return root + "." + names.steps[k]
-            if k in ("args", "requires", "ranges", "pre"):
+            if k in ("args", "requires", "ranges", "pre", "well-formed"):
                 return root + "." + m.group(3).replace("pre", "requires")
             return m.group(0)
 
         body = re.sub(r"((?<![\w.'₀-₉-])[A-Za-z_][\w'₀-₉-]*|\))((?:\.before)*)\.(?!before(?![\w-]))([^\s(){};,.\[\]]+)", step, body)
+        # a step has its name at each place behind it
+        for v in list(chains):
+            if not re.search(r"(?<![\w.'₀-₉-])%s(?![\w'₀-₉.-])" % re.escape(v), re.sub(r"let %s = " % re.escape(v), "", body)):
+                body = re.sub(r"([ ]*)let %s = %s in(\n|[ ])" % (re.escape(v), REF), lambda m: "" if m.group(2) == "\n" else m.group(1), body)
+                body = re.sub(r"(?<![\w.'₀-₉-])%s(?:\.before)*\." % re.escape(v), chains[v] + ".", body)
+        # what a call leaves, by the names of its parameters
+        steps = {v: e.split(".")[-1] for v, e in re.findall(r"let ([\w'₀-₉-]+) = ([^\n ]*?) in(?=\s|$)", body)}
+
+        def left(m):
+            s = m.group(1).split(".")[-1]
+            ps = names.params.get(s) or names.params.get(steps.get(s, ""))
+            i = m.group(3).count(".1")
+            if not ps or i >= len(ps):
+                notes.append("no parameter for " + m.group(0))
+                return m.group(0)
+            return f"{m.group(1)}.{m.group(2)}.{ps[i]}"
+
+        body = re.sub(r"([A-Za-z_][^\s(){};,]*)\.(auto|new)((?:\.1)*\.0)(?![\w])", left, body)
         body = re.sub(r"(\.(?:if|loop)-[^\s(){};,.\[\]]+)\.taken(?![\w-])", r"\1.true", body)
         body = re.sub(r"(\.(?:if|loop)-[^\s(){};,.\[\]]+)\.left(?![\w-])", r"\1.false", body)
         for v in re.findall(r"let ([\w'-]+) = [\w'.-]+\.if-not-[^\s(){};,.\[\]]+ in", body):
@@ -344,7 +373,7 @@ def convert(path, d, crate, where):
     moved = []
     for a in list(ans):
         n = a[2]
-        if n in inv_names and "goal." not in a[1]:
+        if n in inv_names and "goal." not in a[1] and not any(re.search(r"(?<![\w.'-])%s(?![\w'-])" % re.escape(q), a[1]) for q in named):
             moved.append(a)
             ans.remove(a)
     use_lines = []

@@ -19,7 +19,7 @@ use Rattle.standard.proofs.Stages.{at_mark, not_one, none_rest}
 use Rattle.sequences.specs.Code.{next_of, out_of, front}
 use Rattle.sequences.specs.declared.Sequence.{Sequence}
 use Rattle.reading.specs.Reading.{chosen_of, Result, refused, wrote, read_chunk}
-use Rattle.reading.specs.Reading.{read_end as readingEnd}
+use Rattle.reading.specs.Reading.{read_end as reading_end}
 use Rattle.reading.specs.declared.choice.Chosen.{Chosen}
 use Rattle.reading.specs.declared.Left.{Left}
 use Rattle.decoder.specs.Record.{shift_of, spot_of, held_of, new, closed}
@@ -301,10 +301,10 @@ module _ (d : Decoder) (t : Tables) (room : List ℕ) where
     finish_tables f = let g = record_good d good in rw (g.0, g.1, f)
 
     abbrev pub end_read : Result
-    end_read = readingEnd d.encoding d.mode d.stage d.state d.flag (held_in d) t room
+    end_read = reading_end d.encoding d.mode d.stage d.state d.flag (held_in d) t room
 
     pub end_is : end_read ≡ end_by (ltb (length room) d.held) (eqb d.mode 1 && broken (read_end d t))
-    unfolding readingEnd end_by handed_by_lem
+    unfolding reading_end end_by handed_by_lem
     end_is = rw (le-ltb 3 d.held (parts d (record_good d good).0).held)
 
     pub finish_read : misfit d t ≡ false → {l : Left} {a : Answer} {room' : List ℕ} → Answers d d.taken (finished d) l a →

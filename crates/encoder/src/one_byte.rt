@@ -1,7 +1,7 @@
 // The encodings of one byte a scalar: single-byte and x-user-defined. In html mode an unwritable scalar is a reference.
 
 ghost use Rattle.std.specs.Prelude.{◌≡◌, true, ◌≤◌, length};
-ghost use Rattle.standard.specs.Base.{scalars as areScalars};
+ghost use Rattle.standard.specs.Base.{scalars as are_scalars};
 ghost use Rattle.reverse_index_spec.specs.ReverseIndex.{look_up};
 ghost use Rattle.encoder.specs.WriterCode.{given, encoder_of, OneByte, BySlots, writing_of, Space, Wrote};
 
@@ -31,7 +31,7 @@ fn count_by(
     links: &[u32],
     slots: &[u32],
 ) -> usize
-    requires { BySlots encoding table.now links.now slots.now × (areScalars scalars.now ≡ true) × (length scalars.now ≤ 16384) }
+    requires { BySlots encoding table.now links.now slots.now × (are_scalars scalars.now ≡ true) × (length scalars.now ≤ 16384) }
     ensures { result ≡ length (writing_of (look_up table.now links.now) encoding mode scalars.now).bytes }
 {
     let mut n: usize = 0;
@@ -54,7 +54,7 @@ fn count_by(
 
 // The same, with slots where they save time.
 pub(crate) fn count(encoding: u8, mode: u8, scalars: &[u32], table: &[u32], links: &[u32]) -> usize
-    requires { OneByte encoding table.now × (areScalars scalars.now ≡ true) × (length scalars.now ≤ 16384) }
+    requires { OneByte encoding table.now × (are_scalars scalars.now ≡ true) × (length scalars.now ≤ 16384) }
     ensures { result ≡ length (writing_of (look_up table.now links.now) encoding mode scalars.now).bytes }
 {
     if scalars.len() < slots::least(encoding, links) {

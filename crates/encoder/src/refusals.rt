@@ -1,7 +1,7 @@
 // The refusals of the writer's call, in the papers' order: 2, 3, 5, 9, 4, 15, 8, 10, 7.
 
 ghost use Rattle.std.specs.Prelude.{◌≡◌, true, ◌≤◌, ltb, length};
-ghost use Rattle.standard.specs.Base.{is_scalar, scalars as areScalars};
+ghost use Rattle.standard.specs.Base.{is_scalar, scalars as are_scalars};
 ghost use Rattle.standard.specs.Encodings.{lent};
 ghost use Rattle.reverse_index_spec.specs.ReverseIndex.{look_up};
 ghost use Rattle.encoder.specs.WriterCode.{no_scalar, Tabled, tables_fit, lent_writing, text_refusal, refusal_of};
@@ -33,7 +33,7 @@ fn no_scalar(c: u32) -> u32
 // Are all of them scalars? The others are counted: a loop with no return in it takes several numbers at once.
 fn all_scalars(scalars: &[u32]) -> bool
     requires { length scalars.now ≤ 16384 }
-    ensures { result ≡ areScalars scalars.now }
+    ensures { result ≡ are_scalars scalars.now }
 {
     let mut others: u32 = 0;
     let mut i: usize = 0;
@@ -55,7 +55,7 @@ fn lacks(
     links: &[u32],
     room: usize,
 ) -> bool
-    requires { (areScalars scalars.now ≡ true) × (length scalars.now ≤ 16384) × Tabled encoding t1.now }
+    requires { (are_scalars scalars.now ≡ true) × (length scalars.now ≤ 16384) × Tabled encoding t1.now }
     ensures { result ≡
         ltb room (length (lent_writing (look_up t1.now links.now)
         encoding mode state (lent t1.now t2.now) scalars.now).bytes) }

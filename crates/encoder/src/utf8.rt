@@ -3,7 +3,7 @@
 ghost use Rattle.std.specs.Prelude.{◌≡◌, true, [], ◌∷◌, ◌+◌, ◌%◌, ◌≤◌, ltb, length};
 ghost use Rattle.std.proofs.Math.Option.{none};
 ghost use Rattle.std.proofs.lemmas.List.Edits.{sets};
-ghost use Rattle.standard.specs.Base.{◌then◌else◌, scalars as areScalars};
+ghost use Rattle.standard.specs.Base.{◌then◌else◌, scalars as are_scalars};
 ghost use Rattle.standard.specs.Encoders.Utf8.{utf8_encode};
 ghost use Rattle.encoder_spec.specs.Writing.{writing};
 ghost use Rattle.encoder_spec.specs.Writer.{answer_of};
@@ -107,7 +107,7 @@ pub(crate) fn count(scalars: &[u32]) -> usize
 
 // The scalars written into a room that has space for all their bytes; how many bytes.
 pub(crate) fn write(scalars: &[u32], room: &mut [u8]) -> usize
-    requires { (areScalars scalars.now ≡ true) × Space (writing (plain utf8_encode) 0 0 scalars.now) room.old }
+    requires { (are_scalars scalars.now ≡ true) × Space (writing (plain utf8_encode) 0 0 scalars.now) room.old }
     ensures { Wrote (writing (plain utf8_encode) 0 0 scalars.now) room.old (answer_of result 0 none) room.new }
 {
     let mut o: usize = 0;

@@ -1,7 +1,7 @@
 // The writer of each encoding number: UTF-8, pairs, or one byte a scalar.
 
 ghost use Rattle.std.specs.Prelude.{◌≡◌, true, ◌≤◌, length};
-ghost use Rattle.standard.specs.Base.{scalars as areScalars};
+ghost use Rattle.standard.specs.Base.{scalars as are_scalars};
 ghost use Rattle.standard.specs.Encodings.{lent};
 ghost use Rattle.reverse_index_spec.specs.ReverseIndex.{look_up};
 ghost use Rattle.encoder.specs.WriterCode.{pairs, writes, Tabled, lent_writing, front_of, most_of, handed_back, Space, Wrote};
@@ -73,7 +73,7 @@ pub(crate) fn count(
     t2: &[u32],
     links: &[u32],
 ) -> usize
-    requires { (areScalars scalars.now ≡ true) × (length scalars.now ≤ 16384) × Tabled encoding t1.now }
+    requires { (are_scalars scalars.now ≡ true) × (length scalars.now ≤ 16384) × Tabled encoding t1.now }
     ensures { result ≡ length (lent_writing (look_up t1.now links.now)
         encoding mode state (lent t1.now t2.now) scalars.now).bytes }
 {
@@ -109,7 +109,7 @@ pub(crate) fn write(
     links: &[u32],
     room: &mut [u8],
 ) -> Written
-    requires scalars_value { (areScalars scalars.now ≡ true) × (length scalars.now ≤ 16384) × Tabled encoding t1.now }
+    requires scalars_value { (are_scalars scalars.now ≡ true) × (length scalars.now ≤ 16384) × Tabled encoding t1.now }
     requires space { Space (lent_writing (look_up t1.now links.now) encoding mode state (lent t1.now t2.now) scalars.now) room.old }
     ensures { Wrote (lent_writing (look_up t1.now links.now)
         encoding mode state (lent t1.now t2.now) scalars.now)

@@ -74,13 +74,13 @@ module _ (look : Lookup) (c : ℕ) where
       choose Answer (within 0xFF61 c 0xFF9F) (λ _. bytes _) (λ _.
       by_pair shift_jis_layout (look first shift_jis_over (minus c)) (fault (minus c))))))
 
-  gb18030_answer : (isGBK : Bool) (ranges : List ℕ) → Answer (gb18030_encode isGBK look ranges c)
+  gb18030_answer : (is_gbk : Bool) (ranges : List ℕ) → Answer (gb18030_encode is_gbk look ranges c)
   unfolding gb18030_encode
-  gb18030_answer isGBK ranges =
+  gb18030_answer is_gbk ranges =
       choose Answer (ascii c) (λ _. bytes _) (λ _.
       choose Answer (eqb c 0xE5E5) (λ _. fault c) (λ _.
-      choose Answer (isGBK && eqb c 0x20AC) (λ _. bytes _) (λ _. by_pair gb18030_layout (look first none_over c) (
-      choose Answer isGBK (λ _. fault c) (λ _. by_four ranges (ranges_pointer ranges c) c)))))
+      choose Answer (is_gbk && eqb c 0x20AC) (λ _. bytes _) (λ _. by_pair gb18030_layout (look first none_over c) (
+      choose Answer is_gbk (λ _. fault c) (λ _. by_four ranges (ranges_pointer ranges c) c)))))
 
   big5_answer : Answer (big5_encode look c)
   unfolding big5_encode

@@ -8,12 +8,12 @@ use Rattle.standard.specs.Encoders.SingleByte.{single_byte_encode}
 use Rattle.standard.specs.Writers.{writer_of}
 use Rattle.encoder_spec.specs.Writing.{writing}
 use Rattle.encoder_spec.specs.Writer.{call_by}
-use Rattle.reverse_index_spec.specs.ReverseIndex.{fits as indexFits, bucket, hit, walk_first, walk, look_up}
+use Rattle.reverse_index_spec.specs.ReverseIndex.{fits as index_fits, bucket, hit, walk_first, walk, look_up}
 use Rattle.indexed_writing.specs.Call.{indexed_call}
 use Rattle.indexed_writing.specs.Samples.{Samples}
 
 pub samples : Samples
-unfolding every traits fits irregular count_from windows1252 search_from single_byte_encode writer_of writing call_by indexFits bucket hit walk_first
+unfolding every traits fits irregular count_from windows1252 search_from single_byte_encode writer_of writing call_by index_fits bucket hit walk_first
     walk look_up indexed_call
 samples = record {
   2-before-15 = refl;

@@ -91,10 +91,10 @@ module _ (look look' : Lookup) (A : MissAlike look look') where
         like_test (ascii c || eqb c 0x80) _ (like_test (eqb c 0xA5) _ (like_test (eqb c 0x203E) _ (like_test (within 0xFF61 c 0xFF9F) _
         (like_pair shift_jis_layout _ first shift_jis_over (minus c)))))
 
-    like_gb18030 : (isGBK : Bool) (ranges : List ℕ) → L c (gb18030_encode isGBK look ranges c) (gb18030_encode isGBK look' ranges c)
+    like_gb18030 : (is_gbk : Bool) (ranges : List ℕ) → L c (gb18030_encode is_gbk look ranges c) (gb18030_encode is_gbk look' ranges c)
     unfolding gb18030_encode
-    like_gb18030 isGBK ranges =
-        like_test (ascii c) _ (like_test (eqb c 0xE5E5) _ (like_test (isGBK && eqb c 0x20AC) _ (like_pair gb18030_layout _ first none_over c)))
+    like_gb18030 is_gbk ranges =
+        like_test (ascii c) _ (like_test (eqb c 0xE5E5) _ (like_test (is_gbk && eqb c 0x20AC) _ (like_pair gb18030_layout _ first none_over c)))
 
     -- ISO-2022-JP looks up what a scalar is changed to
     like_changed : (o : Option ℕ) → L (changed_name o c) (changed_pair look o c) (changed_pair look' o c)

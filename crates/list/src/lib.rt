@@ -1,5 +1,6 @@
 // Document 02, Ask 11: the list reader. A text is walked line by line by the record of cursor.rt; a list is judged whole before anything
 // is written.
+#![tactic(auto)]
 
 pub mod cursor;
 mod judge;

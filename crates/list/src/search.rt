@@ -2,7 +2,7 @@
 
 ghost use Rattle.std.specs.Prelude.{◌≡◌, ◌+◌, ◌≤◌, length};
 ghost use Rattle.std.proofs.Math.Seq.{slice};
-ghost use Rattle.list_spec.specs.Lines.{before, same as sameAs};
+ghost use Rattle.list_spec.specs.Lines.{before, same as same_as};
 
 // The place of the first x from a on, or e.
 pub(crate) fn find(s: &[u32], a: usize, e: usize, x: u32) -> usize
@@ -22,7 +22,7 @@ pub(crate) fn find(s: &[u32], a: usize, e: usize, x: u32) -> usize
 // Are the characters of s from a to b those of t from c to d?
 pub(crate) fn same(s: &[u32], a: usize, b: usize, t: &[u32], c: usize, d: usize) -> bool
     requires { (a ≤ b) × (b ≤ length s.now) × (c ≤ d) × (d ≤ length t.now) }
-    ensures { result ≡ sameAs (slice a b s.now) (slice c d t.now) }
+    ensures { result ≡ same_as (slice a b s.now) (slice c d t.now) }
 {
     if b - a != d - c {
         return false;

@@ -23,7 +23,7 @@ use Rattle.standard.proofs.UserRows.{shift_jis-other}
 use Rattle.standard.proofs.Tests.{split, under, above, out_above, within_low, within_high}
 use Rattle.index.proofs.Cells.{cell_out}
 use Rattle.layouts.specs.Rows.{no_cell, place, layout_of}
-use Rattle.layouts.specs.Rows.{row as row_in, column as columnIn}
+use Rattle.layouts.specs.Rows.{row as row_in, column as column_in}
 use Rattle.layouts.proofs.Rows.{led, by_row, layout_gb18030, layout_big5, layout_euc_jp, layout_shift_jis, layout_euc_kr}
 use Rattle.sequences.proofs.Leaves.{trailed_some}
 use Rattle.sequences.proofs.Big5Leaves.{big5_led}
@@ -36,14 +36,14 @@ use Rattle.pair_runs.proofs.Layouts.{left_big5, left_shift_jis, row_in_lem, row_
 use Rattle.pair_runs.specs.Paired.{Paired}
 
 -- the code point after a lead, by its row and column
-no_column : (y : Layout) (c : ℕ) → trails y c ≡ false → columnIn y c ≡ no_cell
+no_column : (y : Layout) (c : ℕ) → trails y c ≡ false → column_in y c ≡ no_cell
 unfolding place
 no_column y c h = rw h
 
-by_column : (y : Layout) (t : List ℕ) (b c : ℕ) → length t ≤ no_cell → leads y b ≡ true → pair_code y t b c ≡ cell t (row_in y b + columnIn y c)
+by_column : (y : Layout) (t : List ℕ) (b c : ℕ) → length t ≤ no_cell → leads y b ≡ true → pair_code y t b c ≡ cell t (row_in y b + column_in y c)
 by_column y t b c h l = pair_led y t b c l ∙ split (trails y c)
     (λ g. rw g (ap (cell t) (sym (by_row y b c l g))))
-    (λ g. rw g (sym (cell_out t (row_in y b + columnIn y c) (omega (arith, h, no_column y c g)))))
+    (λ g. rw g (sym (cell_out t (row_in y b + column_in y c) (omega (arith, h, no_column y c g)))))
 
 -- a lead of Big5 other than 88 gives one scalar
 big5_one : (b c : ℕ) (t : List ℕ) → leads big5_layout b ≡ true → (b ≡ 0x88 → ⊥) → big5_trail t b c ≡ pair c (pair_code big5_layout t b c)
@@ -63,7 +63,7 @@ big5_one b c t l n = rw (pair_led big5_layout t b c l) (split (trails big5_layou
         )
 
 -- a trail below 40 has no column
-low_column : (y : Layout) (c : ℕ) → Proper y.trail y.divisor → c < least y.trail → columnIn y c ≡ no_cell
+low_column : (y : Layout) (c : ℕ) → Proper y.trail y.divisor → c < least y.trail → column_in y c ≡ no_cell
 low_column y c p h = no_column y c (ranges_under y.trail y.divisor c p h)
 
 -- an encoding with pairs
@@ -104,7 +104,7 @@ module _ (t1 t2 : List ℕ) (e : ℕ) (E : Paired e) where
   column_low : (c : ℕ) → c < 0x40 → column e c ≡ no_cell
   unfolding column
   column_low c h =
-      each (columnIn (layout_of e) c ≡ no_cell)
+      each (column_in (layout_of e) c ≡ no_cell)
       (λ k. rw (layout_gb18030 e k) (low_column gb18030_layout c gb18030_regular.columns h))
       (λ k. rw (layout_big5 e k) (low_column big5_layout c big5_regular.columns h))
       (λ k. rw (layout_euc_jp e k) (low_column euc_jp_layout c euc_jp-regular.columns (omega arith)))
@@ -190,9 +190,9 @@ module _ (t1 t2 : List ℕ) (b : ℕ) (xs : List ℕ) where
   unfolding euc_jp
   kana_pair c h k = is_euc_jp t1 t2 32 plain (b ∷ c ∷ xs) refl ∙ rw (h, k) (trailed_some 1 2 c (0xFF61 - 0xA1 + c) (λ z. omega arith))
 
-  pub user_pair : (c p : ℕ) → p ≡ row_in shift_jis_layout b + columnIn shift_jis_layout c → 8836 ≤ p → p ≤ 10715 →
+  pub user_pair : (c p : ℕ) → p ≡ row_in shift_jis_layout b + column_in shift_jis_layout c → 8836 ≤ p → p ≤ 10715 →
       next (lent t1 t2) (family 34) plain (b ∷ c ∷ xs) ≡ scalar 2 (0xE000 - 8836 + p)
   user_pair c p e h k =
       is_shift_jis t1 t2 34 plain (b ∷ c ∷ xs) refl ∙
-      shift_jis-led (lent t1 []) b (c ∷ xs) (led shift_jis_layout b (columnIn shift_jis_layout c) (omega (arith, e, k))) ∙
+      shift_jis-led (lent t1 []) b (c ∷ xs) (led shift_jis_layout b (column_in shift_jis_layout c) (omega (arith, e, k))) ∙
       ap (pair c) (sym (code_private t1 b c p e h k)) ∙ trailed_some 1 2 c (0xE000 - 8836 + p) (λ z. omega arith)

@@ -2,7 +2,7 @@
 use Rattle.std.specs.Prelude.{◌≡◌, Bool, false, ◌&&◌, List, ℕ, ◌+◌, ◌-◌, ◌*◌, ◌<◌, ltb, leb, eqb, length, get_or}
 use Rattle.standard.specs.Base.{◌then◌else◌, within}
 use Rattle.layouts.specs.Rows.{no_cell, layout_of}
-use Rattle.layouts.specs.Rows.{row as row_in, column as columnIn}
+use Rattle.layouts.specs.Rows.{row as row_in, column as column_in}
 
 -- Leads that have no row: in Big5 88, which has pairs of two scalars; in Shift_JIS those of the user rows, which are not in the index.
 unfoldable pub left_out : ℕ → ℕ → Bool
@@ -12,7 +12,7 @@ unfoldable pub row : ℕ → ℕ → ℕ
 row encoding b = left_out encoding b then no_cell else row_in (layout_of encoding) b
 
 unfoldable pub column : ℕ → ℕ → ℕ
-column encoding c = columnIn (layout_of encoding) c
+column encoding c = column_in (layout_of encoding) c
 
 -- n cells from a place on hold steps from a number on, and the others what they held
 unfoldable pub stepped : ℕ → ℕ → ℕ → ℕ → (ℕ → ℕ) → ℕ → ℕ

@@ -1,15 +1,14 @@
 -- What is written into a room of bytes, from a place on. Assumes nothing.
 use mathlib.Core.Path.{◌≡◌, refl, sym, ap, ◌∙◌}
-use mathlib.Core.List.{List, [], ◌∷◌, ◌++◌, append_assoc, append-nil}
-use Prim.Native.Nat.{ℕ, suc, ◌+◌, ◌-◌, ◌*◌, ◌/◌, ◌%◌, ◌^◌, ◌≤◌, ◌<◌}
+use mathlib.Core.List.{List, [], ◌∷◌, ◌++◌, append_assoc}
+use Prim.Native.Nat.{ℕ, suc, ◌+◌, ◌-◌, ◌/◌, ◌%◌, ◌≤◌, ◌<◌}
 use native.Mathlib.Nat.{add-zero}
 use native.Mathlib.Numerals.{add-one}
 use native.Mathlib.Omega.{arith}
 use lib.ListN.{length, get_or, take, set, length-append}
-use lib.Seq.{sets, take-suc, take_all, length-take-le}
-use Rattle.standard.specs.Text.{bytes}
+use lib.Seq.{sets, take-suc, take_all}
 use Rattle.program_text.specs.Lines.{digit, digits, count, line}
-use Rattle.program_text.specs.Places.{Put, Puts}
+use Rattle.program_text.specs.Places.{Put}
 use Rattle.program_text.proofs.Numbers.{last, count_few}
 
 -- Stores one after the other.

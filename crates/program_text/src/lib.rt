@@ -1,4 +1,5 @@
 // What programs share: the first line and its label, numbers and lines, text in UTF-8. Where a room is too small nothing is written.
+#![tactic(auto)]
 
 mod lines;
 mod utf8;

@@ -23,7 +23,7 @@ use Rattle.standard.proofs.Search.{plain_sound}
 use Rattle.standard.proofs.Reading.{no_bytes}
 use Rattle.standard.proofs.Writers.{reader_of, own_image}
 use Rattle.standard.specs.Choice.{spot, Parsed, lift, read_from, everything_from}
-use Rattle.standard.specs.Choice.{reader as readerAt}
+use Rattle.standard.specs.Choice.{reader as reader_at}
 use Rattle.standard.proofs.Stages.{read_on_lem}
 use Rattle.standard.proofs.Sniffing.{all_read}
 use Rattle.decoder.specs.Record.{holding, closed, new_spot}
@@ -36,7 +36,7 @@ use Rattle.demands.proofs.Cutting.{cut_is_whole, feeds_give}
 use Rattle.encoder_spec.specs.Writing.{Fault, Writing, writing}
 use Rattle.encoder_spec.specs.Writer.{Outcome, one_by, writer_call, writer_finish}
 use Rattle.encoder_spec.specs.Calls.{Calling, calls_by, all_scalars, written, accepted, index_of, one_piece}
-use Rattle.encoder_spec.specs.Calls.{Piece as WriterPiece, Account as WriterAccount, account as writerAccount}
+use Rattle.encoder_spec.specs.Calls.{Piece as WriterPiece, Account as WriterAccount, account as writer_account}
 use Rattle.encoder_spec.proofs.Calls.{Called, refused, writes, called, as_one_piece, all_scalars_lem}
 use Rattle.reverse_index_spec.specs.ReverseIndex.{fits, look_up}
 use Rattle.reverse_index_spec.proofs.Theorems.{looks_up}
@@ -105,14 +105,14 @@ module _ (look : Lookup) (right : Bool) (w : Writer) (e : ℕ) (t : Tables) (S :
   call = calls_by look right e 1 t
 
   calls_good : (ps : List WriterPiece) (room : List ℕ) → accepted call 0 ps ≡ true →
-      let a = writerAccount call 0 ps in
+      let a = writer_account call 0 ps in
       a.report ≡ none → (writer_finish a.state room).answer.refusal ≡ 0 →
       Good e (reader_tables w t) a.state (map (image w t.second) (all_scalars ps)) (a.output ++ written (writer_finish a.state room))
-  unfolding writerAccount all_scalars
+  unfolding writer_account all_scalars
   calls_good [] room h u f = record { number = small e w q; read = rw (finish_wrote 0 room f) (none_reads (reader_tables w t) (family e)) }
   calls_good (p ∷ ps) room h u f = record {
     number = small e w q;
-    read = rw (finish_wrote (writerAccount call 0 (p ∷ ps)).state room f, whole, reader_of e w q)
+    read = rw (finish_wrote (writer_account call 0 (p ∷ ps)).state room f, whole, reader_of e w q)
         (written_reads w t look (first_fits look right w e t p ps q h) S (all_scalars (p ∷ ps))
         (all_scalars_lem look right w e 1 t q 0 (p ∷ ps) h u) (unreported W.unwritable (ap (λ (a : WriterAccount). a.report) (sym whole) ∙ u)));
   }
@@ -120,7 +120,7 @@ module _ (look : Lookup) (right : Bool) (w : Writer) (e : ℕ) (t : Tables) (S :
       W : Writing
       W = writing (one_by w look t) 1 0 (all_scalars (p ∷ ps))
 
-      whole : writerAccount call 0 (p ∷ ps) ≡ one_piece W
+      whole : writer_account call 0 (p ∷ ps) ≡ one_piece W
       whole = as_one_piece look right w e 1 t q 0 (p ∷ ps) h
 
 opens : (e m : ℕ) → e ≤ 39 → m ≤ 1 → open_refusal e m 1 ≡ 0
@@ -136,7 +136,7 @@ module _ (e m : ℕ) (t : Tables) (s : ℕ) (cs bs : List ℕ) (m-number : m ≤
   end = shift 0 (not (eqb s 0))
 
   new_reads : (xs : List ℕ) → xs ≡ bs → read_from t e (new_spot e 1) xs ≡ lift 0 (record { items = items; shift = end; rest = [] })
-  unfolding readerAt
+  unfolding reader_at
   new_reads xs q = rw (kept_new e, q) (read_on_lem t e (spot 0 plain) bs refl ∙ ap (lift 0) (reads_whole t (family e) g.read))
 
   fed : (calls : List Call) → AllFeeds t calls → (after (start e m 1) calls).taken ≡ bs →
@@ -149,7 +149,7 @@ module _ (e m : ℕ) (t : Tables) (s : ℕ) (cs bs : List ℕ) (m-number : m ≤
       (out, f.1 ∙ (λ i. holding e m (length (q i)) (line_feeds (out i)) (d i).spot (d i).rest))
 
   all : everything_from t e (new_spot e 1) bs ≡ items
-  unfolding everything readerAt
+  unfolding everything reader_at
   all = rw (kept_new e) (all_read t e (spot 0 plain) bs refl ∙
       ap (λ (r : Read). r.items ++ ending t (family e) r.shift r.rest) (reads_whole t (family e) g.read) ∙
       rw (no_bytes t (family e) end, append-nil))
@@ -178,7 +178,7 @@ by_look : (look : Lookup) (right : Bool) (w : Writer) (e m : ℕ) (t : Tables) �
     WrittenBack w e m t (calls_by look right e 1 t)
 by_look look right w e m t S h q ps room a u f =
     let cs = all_scalars ps in
-    let o = writerAccount (calls_by look right e 1 t) 0 ps in
+    let o = writer_account (calls_by look right e 1 t) 0 ps in
     let bs = o.output ++ written (writer_finish o.state room) in
     let images = back e m (reader_tables w t) o.state (map (image w t.second) cs) bs h (calls_good look right w e t S q ps room a u f) in
     record { as_images = images; as_themselves = λ n. rw (selves w t.second cs n) at images }

@@ -12,7 +12,7 @@ use Rattle.demands.specs.Histories.{Call, after, start}
 use Rattle.demands.specs.Statements.{Piece, joined, cutting, account, Accepts, AllFeeds}
 use Rattle.encoder_spec.specs.Writer.{writer_finish}
 use Rattle.encoder_spec.specs.Calls.{Calling, calls_of, all_scalars, written, accepted}
-use Rattle.encoder_spec.specs.Calls.{Piece as WriterPiece, account as writerAccount}
+use Rattle.encoder_spec.specs.Calls.{Piece as WriterPiece, account as writer_account}
 use Rattle.indexed_writing.specs.Call.{indexed_calls}
 
 -- Demand 2, reading back: the bytes bs, written through a finish from the state s, go through the decoder's calls with the tables t, mark kept,
@@ -37,7 +37,7 @@ pub record Back (w : Writer) (e m : ℕ) (t : Tables) (s : ℕ) (cs bs : List �
 -- without a state stays in state 0, where a finish writes nothing.
 abbrev pub WrittenBack : Writer → ℕ → ℕ → Tables → Calling → Type 0
 WrittenBack w e m t call = (ps : List WriterPiece) (room : List ℕ) → accepted call 0 ps ≡ true →
-    let a = writerAccount call 0 ps in
+    let a = writer_account call 0 ps in
     a.report ≡ none → (writer_finish a.state room).answer.refusal ≡ 0 →
     Back w e m t a.state (all_scalars ps) (a.output ++ written (writer_finish a.state room))
 

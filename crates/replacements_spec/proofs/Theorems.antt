@@ -19,7 +19,7 @@ use Rattle.decoder.specs.Calls.{open_refusal}
 use Rattle.decoder.specs.declared.Decoder.{Decoder}
 use Rattle.demands.specs.Histories.{History, start}
 use Rattle.demands.specs.Statements.{cutting, Report, reports, Account, account}
-use Rattle.demands.specs.Statements.{Piece as Feed, joined as joinedFeeds, Accepts as AcceptsFeeds}
+use Rattle.demands.specs.Statements.{Piece as Feed, joined as joined_feeds, Accepts as AcceptsFeeds}
 use Rattle.demands.specs.Whole.{dealt, whole_account}
 use Rattle.demands.proofs.Cutting.{cut_is_whole}
 use Rattle.demands.proofs.Steps.{opened_is}
@@ -62,7 +62,7 @@ module _ (t : Tables) (e rule : ℕ) (o : open_refusal e 0 rule ≡ 0) where
 
   module _ (ps : List Feed) (last : List ℕ) (a : AcceptsFeeds t (start e 1 rule) ps last) where
     abbrev is : List Item
-    is = items_of t e rule (joinedFeeds ps)
+    is = items_of t e rule (joined_feeds ps)
 
     -- what refusing mode reports, by the items
     reported : reports (start e 1 rule) (cutting t ps last) ≡ (dealt e 1 0 is []).reports

@@ -10,7 +10,7 @@ use Rattle.decoder.specs.Record.{new_spot}
 use Rattle.decoder.specs.declared.Decoder.{Decoder}
 use Rattle.demands.specs.Histories.{start}
 use Rattle.demands.specs.Statements.{cutting, Report, reports}
-use Rattle.demands.specs.Statements.{Piece as Feed, joined as joinedFeeds, Accepts as AcceptsFeeds}
+use Rattle.demands.specs.Statements.{Piece as Feed, joined as joined_feeds, Accepts as AcceptsFeeds}
 use Rattle.replacements_spec.specs.Replaced.{Replaced, replaced, cells}
 use Rattle.replacements_spec.specs.Calls.{Handed, feed_tell_refusal, feed_telling, finish_tell_refusal, finish_telling}
 
@@ -84,10 +84,10 @@ pub record Tells (t : Tables) (e rule : ℕ) : Type 0 where
   pub rising : (xs : List ℕ) → Rising 0 (replaced_in t e rule xs) (length xs)
   -- none is told exactly where refusing mode reports nothing, however the bytes are cut there
   pub none_right : (ps : List Feed) (last : List ℕ) → AcceptsFeeds t (start e 1 rule) ps last →
-      (replaced_in t e rule (joinedFeeds ps) ≡ []) ↔ (reports (start e 1 rule) (cutting t ps last) ≡ [])
+      (replaced_in t e rule (joined_feeds ps) ≡ []) ↔ (reports (start e 1 rule) (cutting t ps last) ≡ [])
   -- and the first one's place is the place that is reported there
   pub first_place_lem : (ps : List Feed) (last : List ℕ) → AcceptsFeeds t (start e 1 rule) ps last →
-      (r : Replaced) (rs : List Replaced) → replaced_in t e rule (joinedFeeds ps) ≡ r ∷ rs →
+      (r : Replaced) (rs : List Replaced) → replaced_in t e rule (joined_feeds ps) ≡ r ∷ rs →
       (handed : ℕ) × (line : ℕ) ×
       (reports (start e 1 rule) (cutting t ps last) ≡ record { handed = handed; place = r.place; line = line } ∷ [])
 

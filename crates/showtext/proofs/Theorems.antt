@@ -28,7 +28,7 @@ use Rattle.decoder.specs.Record.{holding, new_shift, new_spot}
 use Rattle.decoder.specs.Calls.{Outcome, open_refusal, opening, feed_refusal, feeding, finishing}
 use Rattle.demands.specs.Histories.{Call, History, noted, after, start}
 use Rattle.demands.specs.Statements.{Piece, cutting, Account, account, Roomy, Accepts}
-use Rattle.demands.specs.Statements.{joined as joinedPieces}
+use Rattle.demands.specs.Statements.{joined as joined_pieces}
 use Rattle.demands.specs.Whole.{dealt, whole_account}
 use Rattle.decoder.specs.declared.Decoder.{Decoder}
 use Rattle.demands.proofs.Steps.{opened_is, feed_holding}
@@ -59,8 +59,8 @@ last_room d room (b ∷ bs) = let o = feeding d no_tables b room in last_room o.
 calls : Decoder → List ℕ → List (List ℕ) → List Call
 calls d room bs = cutting no_tables (pieces d room bs) (last_room d room bs)
 
-pieces_joined : (d : Decoder) (room : List ℕ) (bs : List (List ℕ)) → joinedPieces (pieces d room bs) ≡ joined bs
-unfolding pieces joined joinedPieces
+pieces_joined : (d : Decoder) (room : List ℕ) (bs : List (List ℕ)) → joined_pieces (pieces d room bs) ≡ joined bs
+unfolding pieces joined joined_pieces
 pieces_joined d room [] = refl
 pieces_joined d room (b ∷ bs) = let o = feeding d no_tables b room in ap (λ (l : List ℕ). b ++ l) (pieces_joined o.answer.decoder o.room bs)
 
@@ -248,8 +248,8 @@ module _ (room out first : List ℕ) (bs : List (List ℕ)) (h : 4099 ≤ length
 
       module _ (f : fits (family F.encoding) no_tables ≡ true) where
         -- the bytes of all feeds
-        fed_bytes : joinedPieces ps ≡ after_line (first ++ joined bs)
-        unfolding joinedPieces
+        fed_bytes : joined_pieces ps ≡ after_line (first ++ joined bs)
+        unfolding joined_pieces
         fed_bytes = ap (λ (ys : List ℕ). after_line first ++ ys) (pieces_joined O.answer.decoder O.room bs) ∙ sym cut.1
 
         accepts : Accepts no_tables (start F.encoding 0 0) ps last
@@ -282,7 +282,7 @@ module _ (room out first : List ℕ) (bs : List (List ℕ)) (h : 4099 ≤ length
         handed : (after (start F.encoding 0 0) (cutting no_tables ps last)).handed ≡ all
         unfolding account whole_account dealt all reader
         handed = ap (λ (a : Account). a.handed) (cut_is_whole no_tables F.encoding 0 0 opens ps last accepts) ∙
-            ap shown (all_read no_tables F.encoding (new_spot F.encoding 0) (joinedPieces ps) refl) ∙
+            ap shown (all_read no_tables F.encoding (new_spot F.encoding 0) (joined_pieces ps) refl) ∙
             ap (λ (xs : List ℕ). shown (everything no_tables (family F.encoding) (new_shift F.encoding 0) xs)) fed_bytes
 
         -- the lines behind the first

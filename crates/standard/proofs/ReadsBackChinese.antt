@@ -136,15 +136,15 @@ four_back t c (some p) = choose (ReadsBack (gb18030 t) c) (gives_back (ranges_co
     by_bytes (four_bytes p) (λ ys. four_reads t p c ys (four_small t.second p (λ z. g.1 (sym g.0 ∙ z))) g.0 g.1))
     (λ h. no_bytes c)
 
-pub gb18030_back : (t : Tables) → length t.first ≤ 23940 → {look : Lookup} → Sound look t.first → (isGBK : Bool) (c : ℕ) →
-    ReadsBack (gb18030 t) c (gb18030_encode isGBK look t.second c)
+pub gb18030_back : (t : Tables) → length t.first ≤ 23940 → {look : Lookup} → Sound look t.first → (is_gbk : Bool) (c : ℕ) →
+    ReadsBack (gb18030 t) c (gb18030_encode is_gbk look t.second c)
 unfolding gb18030_encode gb18030
-gb18030_back t n S isGBK c =
+gb18030_back t n S is_gbk c =
     choose (ReadsBack (gb18030 t) c) (ltb c 0x80) (λ h. by_bytes (c ∷ []) (λ ys. rw h)) (λ _.
     choose (ReadsBack (gb18030 t) c) (eqb c 0xE5E5) (λ _. no_bytes c) (λ _.
-    choose (ReadsBack (gb18030 t) c) (isGBK && eqb c 0x20AC)
+    choose (ReadsBack (gb18030 t) c) (is_gbk && eqb c 0x20AC)
     (λ g.
-    let e : c ≡ 0x20AC = eqb-true c 0x20AC (and_right isGBK (eqb c 0x20AC) g) in
+    let e : c ≡ 0x20AC = eqb-true c 0x20AC (and_right is_gbk (eqb c 0x20AC) g) in
     rw e (by_bytes (0x80 ∷ []) (λ ys. refl)))
-    (λ _. by_lookup (gb18030_pairs t n) S first c (choose (ReadsBack (gb18030 t) c) isGBK (λ _. no_bytes c)
+    (λ _. by_lookup (gb18030_pairs t n) S first c (choose (ReadsBack (gb18030 t) c) is_gbk (λ _. no_bytes c)
     (λ _. four_back t c (ranges_pointer t.second c))))))

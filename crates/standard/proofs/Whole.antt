@@ -16,7 +16,7 @@ use Rattle.standard.specs.Standard.{standard, drop_mark}
 use Rattle.standard.specs.Sequence.{Shift, Out, text, error, Next, more, item, shift, plain}
 use Rattle.standard.specs.Sequences.Utf8.{utf8}
 use Rattle.standard.specs.Sequences.Utf16.{utf16}
-use Rattle.standard.specs.Sequences.Replacement.{replacement as replacementNext}
+use Rattle.standard.specs.Sequences.Replacement.{replacement as replacement_next}
 use Rattle.standard.specs.Next.{unmark, unmarked, next}
 use Rattle.standard.specs.Decode.{Item, span, Read, put, decode, one_error, ending, shown, broken, before, reach, everything}
 use Rattle.standard.proofs.Tests.{true_t}
@@ -30,7 +30,7 @@ use Rattle.standard.proofs.Agreements.{Agrees, steps, early, agrees}
 -- The sequences of replacement leave nothing over, and after the first byte nothing comes.
 module _ (t : Tables) where
   pub no_rest : (s : Shift) (xs : List ℕ) → (decode (next t Replacement) s xs).rest ≡ []
-  unfolding next replacementNext
+  unfolding next replacement_next
   no_rest = walk (keeps Replacement) (next t Replacement) (next_laws t Replacement) (λ s xs r. r.rest ≡ []) base (λ s xs w s' o r e ih. ih)
     where
       base : (s : Shift) (xs : List ℕ) → next t Replacement s xs ≡ more → xs ≡ []
@@ -38,7 +38,7 @@ module _ (t : Tables) where
       base s (x ∷ xs) e = cc
 
   first_item : (told : Bool) (x : ℕ) (xs : List ℕ) → decode (next t Replacement) (shift 0 told) (x ∷ xs) ≡ put 1 (told then text [] else error) (decode (next t Replacement) (shift 0 true) xs)
-  unfolding next replacementNext
+  unfolding next replacement_next
   first_item told x xs = decode_item (keeps Replacement) (next t Replacement) (next_laws t Replacement) (shift 0 told) (x ∷ xs) {w = 1} refl
 
   -- A machine R that gives the error at the first byte, and then finishes.

@@ -1,4 +1,3 @@
-use borrow.Author.Rules.{rules}
 use Rattle.list.proofs.Answers.{answered_fault, answered_small, room_fits, answered_good}
 use Rattle.list.proofs.read_list.Goals as goal
 

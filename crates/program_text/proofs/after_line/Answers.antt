@@ -1,6 +1,5 @@
 use Rattle.program_text.proofs.FirstLine.{after_more, after_none}
 use native.Mathlib.Omega.{arith}
-use borrow.Author.Rules.{rules}
 use Rattle.program_text.proofs.after_line.Goals as goal
 
 pub returns-then-n-input : goal.returns-then-n-input

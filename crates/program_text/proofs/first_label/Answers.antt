@@ -1,5 +1,4 @@
 use Rattle.program_text.proofs.FirstLine.{label_long, label_short}
-use borrow.Author.Rules.{rules}
 use Rattle.program_text.proofs.first_label.Goals as goal
 
 pub returns-then-n-gt255 : goal.returns-then-n-gt255

@@ -1,6 +1,4 @@
-use Rattle.program_text.proofs.FirstLine.{Passed, passed_none, passed_on, passed_end, passed_all}
-use lib.ListN.{length}
-use Prim.Native.Nat.{◌-◌}
+use Rattle.program_text.proofs.FirstLine.{passed_none, passed_on, passed_end, passed_all}
 use borrow.Author.Rules.{rules}
 use native.Mathlib.Omega.{arith}
 use Rattle.program_text.proofs.first_line.Goals as goal

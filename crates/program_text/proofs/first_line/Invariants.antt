@@ -1,8 +1,6 @@
-use Rattle.program_text.proofs.FirstLine.{Passed, passed_none, passed_on, passed_end, passed_all}
+use Rattle.program_text.proofs.FirstLine.{Passed}
 use lib.ListN.{length}
 use Prim.Native.Nat.{◌-◌}
-use borrow.Author.Rules.{rules}
-use native.Mathlib.Omega.{arith}
 use Rattle.program_text.proofs.first_line.Given as goal
 
 -- No line feed is among the first i bytes. What falls is the bytes that are left.

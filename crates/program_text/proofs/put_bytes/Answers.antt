@@ -3,7 +3,6 @@ use mathlib.Core.Path.{refl, sym, ◌∙◌}
 use Prim.Native.Nat.{◌+◌}
 use lib.ListN.{length}
 use borrow.Author.Tests.{leb-true, leb-false}
-use borrow.Author.Rules.{rules}
 use Rattle.program_text.proofs.put_bytes.Goals as goal
 
 pub put_bytes-requires : goal.put_bytes-requires
@@ -33,7 +32,7 @@ returns c = record {
       (omega (
         arith,
         leb-false (c.args.at + length c.args.bytes.now)
-            (length c.args.out.now) (sym c.fits.ensures ∙ (c).if1.false),
+            (length c.args.out.now) (sym c.fits.ensures ∙ c.if-fits.false),
       ));
   none = λ h.
       (refl, refl);

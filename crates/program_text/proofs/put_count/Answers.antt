@@ -4,7 +4,6 @@ use Prim.Native.Nat.{◌+◌}
 use lib.ListN.{length}
 use borrow.Author.Tests.{leb-true, leb-false}
 use Rattle.program_text.proofs.Numbers.{count_few}
-use borrow.Author.Rules.{rules}
 use Rattle.program_text.proofs.put_count.Goals as goal
 
 pub put_count-requires : goal.put_count-requires
@@ -33,7 +32,7 @@ returns c = record {
       (omega (
         arith,
         leb-false (c.args.at + 20) (length c.args.out.now)
-            (sym c.fits.ensures ∙ (c).if1.false),
+            (sym c.fits.ensures ∙ c.if-fits.false),
       ));
   none = λ h. (refl, refl);
 }

@@ -3,7 +3,6 @@ use mathlib.Core.Path.{refl, sym, ◌∙◌}
 use Prim.Native.Nat.{◌+◌}
 use lib.ListN.{length}
 use borrow.Author.Tests.{leb-true, leb-false}
-use borrow.Author.Rules.{rules}
 use Rattle.program_text.proofs.put_hexadecimal.Goals as goal
 
 pub put_hexadecimal-requires : goal.put_hexadecimal-requires
@@ -31,7 +30,7 @@ returns c = record {
       (omega (
         arith,
         leb-false (c.args.at + 8) (length c.args.out.now)
-            (sym c.fits.ensures ∙ (c).if1.false),
+            (sym c.fits.ensures ∙ c.if-fits.false),
       ));
   none = λ h. (refl, refl);
 }

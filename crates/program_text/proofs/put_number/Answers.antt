@@ -3,14 +3,13 @@ use mathlib.Core.Path.{refl, sym, ◌∙◌}
 use Prim.Native.Nat.{◌+◌, ◌-◌}
 use lib.ListN.{length}
 use borrow.Author.Tests.{leb-true, leb-false}
-use borrow.Author.Rules.{rules}
 use Rattle.program_text.proofs.put_number.Goals as goal
 
 pub overflow_sub-out : goal.overflow_sub-out
 overflow_sub-out c = omega (
   arith,
   leb-true (c.args.at + 22)
-      (length c.args.out.now) (sym c.fits.ensures ∙ (c).if1.true),
+      (length c.args.out.now) (sym c.fits.ensures ∙ c.if-fits.true),
 )
 
 pub put_number-requires : goal.put_number-requires
@@ -52,7 +51,7 @@ returns-else-fits-2 c = record {
         leb-false (c.args.at + length
             c.args.word.now)
             (length c.args.out.now - 22)
-            (sym c.fits-then-fits.ensures ∙ (c).if2.false),
+            (sym c.fits-then-fits.ensures ∙ c.if-fits-2.false),
       ));
   none = λ h. (refl, refl);
 }
@@ -63,7 +62,7 @@ returns-else-fits c = record {
       (omega (
         arith,
         leb-false (c.args.at + 22)
-            (length c.args.out.now) (sym c.fits.ensures ∙ (c).if1.false),
+            (length c.args.out.now) (sym c.fits.ensures ∙ c.if-fits.false),
       ));
   none = λ h.
       (refl, refl);

@@ -1,6 +1,5 @@
 use native.Mathlib.Omega.{arith}
 use mathlib.Core.Path.{refl}
-use borrow.Author.Rules.{rules}
 use Rattle.program_text.proofs.put_text.Goals as goal
 
 pub returns-then-out-scalars : goal.returns-then-out-scalars

@@ -29,7 +29,7 @@ returns-then-not-first_fits c = build_table _ _ _ c.if-encoding-gt39.false (fail
 pub returns-then-not-fits : goal.returns-then-not-fits
 returns-then-not-fits c =
     let f = c.before in
-    build_index _ _ _ f.if-encoding-gt39.false (known f) (fails f.fits.ensures (not_from_false _ c.if-not-fits.true))
+    build_index _ _ _ f.if-encoding-gt39.false (known (goal.at.returns-then-not-fits c).After-fits) (fails f.fits.ensures (not_from_false _ c.if-not-fits.true))
 
 pub clear-requires : goal.clear-requires
 clear-requires c = omega (arith, (fits_facts _ _ (fitted (goal.at.clear-requires c).Else-not-fits)).1)
@@ -49,4 +49,4 @@ pub returns : goal.returns
 returns c =
     let a = c.before.before in
     let t = a.before.before.before.before.before.before in
-    build_done _ _ _ t.if-encoding-gt39.false (known t.before) (fitted (goal.at.returns c).Else-not-fits) _ a.fill.ensures
+    build_done _ _ _ t.if-encoding-gt39.false (known (goal.at.returns c).After-fits) (fitted (goal.at.returns c).Else-not-fits) _ a.fill.ensures

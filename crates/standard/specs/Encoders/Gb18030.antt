@@ -1,4 +1,4 @@
--- 000, 10.2.2: the encoder of gb18030, and with `isGBK` that of GBK (10.1.2), with the numbers of 000's steps; (02) stands where document
+-- 000, 10.2.2: the encoder of gb18030, and with `is_gbk` that of GBK (10.1.2), with the numbers of 000's steps; (02) stands where document
 -- 02 changes one. Assumes nothing.
 use Rattle.std.specs.Prelude.{Bool, false, ◌&&◌, List, [], ◌∷◌, ℕ, ◌+◌, ◌/◌, ◌%◌, eqb}
 use Rattle.std.proofs.Math.Option.{Option, some, none}
@@ -26,10 +26,10 @@ four_or_error_with ranges (some p) c = gives_back (ranges_code_point ranges p) c
 
 -- `index`: the look-up in index gb18030
 unfoldable pub gb18030_encode : Bool → Lookup → List ℕ → ℕ → Result
-gb18030_encode isGBK index ranges c =
+gb18030_encode is_gbk index ranges c =
     ascii c then tokens (c ∷ []) else  -- 2
     eqb c 0xE5E5 then error_with c else  -- 3
-    isGBK && eqb c 0x20AC then tokens (0x80 ∷ []) else  -- 4
+    is_gbk && eqb c 0x20AC then tokens (0x80 ∷ []) else  -- 4
     pair_or gb18030_layout (index first none_over c) ( -- 5, 6
-    isGBK then error_with c else  -- 7
+    is_gbk then error_with c else  -- 7
     four_or_error_with ranges (ranges_pointer ranges c) c)  -- 8 to 15

@@ -1,4 +1,3 @@
-use borrow.Author.Rules.{rules}
 use borrow.Author.Tests.{lt-ltb, le-ltb}
 use Rattle.list_spec.specs.Spans.{end_at, span_at}
 use Rattle.list.proofs.cursor.line_at.Goals as goal

@@ -1,4 +1,3 @@
-use borrow.Author.Rules.{rules}
 use borrow.Author.Tests.{eq-eqb, ne_eqb}
 use Rattle.list_spec.specs.Spans.{stop_at}
 use Rattle.list.proofs.cursor.stop_at.Goals as goal

@@ -1,21 +1,8 @@
-use mathlib.Core.Path.{◌≡◌, refl}
-use mathlib.Core.List.{List}
-use Prim.Native.Nat.{ℕ, ◌+◌, ◌-◌, ◌≤◌, ◌<◌}
-use borrow.Author.Rules.{rules}
-use native.Mathlib.Omega.{arith}
-use lib.ListN.{length}
-use Rattle.list_spec.specs.Lines.{line}
+use Rattle.std.proofs.Common.{◌≡◌, ◌+◌, ◌-◌, ◌≤◌, ◌<◌, length}
 use Rattle.list.specs.Slots.{Marked}
-use Rattle.list.proofs.Spanned.{Spanned, spanned}
-use Rattle.list.proofs.Judging.{Judges, judged_fault, judged_on, judged_none}
-use Rattle.list.proofs.Slotted.{Split, split_start, split_on, mark_next, mark_length}
+use Rattle.list.proofs.Judging.{Judges}
+use Rattle.list.proofs.Slotted.{Split}
 use Rattle.list.proofs.judge.judge_by.Given as goal
-
-abbrev pub text : After-next_line-l → List ℕ
-text l = l.args.text.now
-
-abbrev pub names : After-next_line-l → List ℕ
-names l = l.args.names.now
 
 -- The lines before a have no fault, and k of them are options: what is judged from a on is what is judged of the whole. The marks tell
 -- which names are used before a. What falls is the characters that are left.

@@ -1,6 +1,5 @@
 use mathlib.Core.Path.{◌≡◌, sym, ◌∙◌}
 use Prim.Native.Nat.{ℕ}
-use borrow.Author.Rules.{rules}
 use native.Mathlib.Omega.{arith}
 use lib.ListN.{length, length-replicate}
 use Rattle.list.proofs.Slotted.{mark_none}
@@ -9,5 +8,5 @@ use Rattle.list.proofs.judge.judge_short.Goals as goal
 pub judge_by-requires : goal.judge_by-requires
 judge_by-requires c =
     let f = c.fill in
-    let e : 8192 ≡ length f.new.1.0 = sym (f.ensures ∙ length-replicate {A = ℕ} 8192 0) in
+    let e : 8192 ≡ length f.new.slots = sym (f.ensures ∙ length-replicate {A = ℕ} 8192 0) in
     (omega arith, omega arith, e, mark_none _ _ _ 8192)

@@ -1,10 +1,10 @@
 use mathlib.Core.Path.{◌≡◌, sym, ap, ◌∙◌}
 use mathlib.Core.List.{◌∷◌}
-use Prim.Native.Nat.{◌+◌, ◌-◌, ◌≤◌}
+use Prim.Native.Nat.{◌+◌}
 use borrow.Author.Rules.{rules}
-use lib.ListN.{length, drop, drop_of_length-le}
+use lib.ListN.{drop, drop_of_length-le}
 use lib.Seq.{slice}
-use Rattle.list_spec.specs.Lines.{names_of, among}
+use Rattle.list_spec.specs.Lines.{names_of}
 use Rattle.list.proofs.Known.{names_turn, names_last, among_hit, among_on, among_none}
 use Rattle.list.proofs.names.known.Goals as goal
 use Rattle.list.proofs.names.known.Goals.{Else-q-names}

@@ -1,11 +1,8 @@
-use mathlib.Core.Path.{◌≡◌, sym, ap, ◌∙◌}
-use mathlib.Core.List.{◌∷◌}
+use mathlib.Core.Path.{◌≡◌}
 use Prim.Native.Nat.{◌+◌, ◌-◌, ◌≤◌}
-use borrow.Author.Rules.{rules}
-use lib.ListN.{length, drop, drop_of_length-le}
+use lib.ListN.{length, drop}
 use lib.Seq.{slice}
 use Rattle.list_spec.specs.Lines.{names_of, among}
-use Rattle.list.proofs.Known.{names_turn, names_last, among_hit, among_on, among_none}
 use Rattle.list.proofs.names.known.Given as goal
 
 -- The characters are a known name if they are one of those from p on. What falls is the characters of the names that are left.

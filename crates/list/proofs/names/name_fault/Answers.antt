@@ -1,5 +1,4 @@
 use mathlib.Core.Path.{sym, ◌∙◌}
-use borrow.Author.Rules.{rules}
 use Rattle.list.specs.Walking.{name_fault}
 use Rattle.list.proofs.names.name_fault.Goals as goal
 

@@ -1,20 +1,9 @@
-use mathlib.Core.Path.{◌≡◌, refl, sym, ap, ◌∙◌}
-use mathlib.Core.List.{List}
-use Prim.Native.Nat.{ℕ, ◌+◌, ◌-◌, ◌≤◌}
-use borrow.Author.Rules.{rules}
-use native.Mathlib.Omega.{arith}
-use lib.ListN.{length}
-use lib.Seq.{slice}
-use Rattle.list_spec.specs.Lines.{same as sameAs, lines_of, line, name_of}
+use Rattle.std.proofs.Common.{◌≡◌, ℕ, ◌+◌, ◌-◌, ◌≤◌, length}
+use Rattle.std.proofs.Math.Seq.{slice}
+use Rattle.list_spec.specs.Lines.{lines_of}
 use Rattle.list_spec.specs.ListCall.{used_before}
-use Rattle.list_spec.proofs.Parts.{name_part}
 use Rattle.list_spec.proofs.Turns.{lines_at}
-use Rattle.list.proofs.Known.{used_hit, used_on, used_end}
-use Rattle.list.proofs.Spanned.{Spanned, spanned}
 use Rattle.list.proofs.names.used.Given as goal
-
-abbrev pub text : After-next_line-l → List ℕ
-text l = l.args.text.now
 
 -- The name is used before the place if one of the lines from p on has it. What falls is the characters that are left.
 abbrev pub invariant-loop-p : goal.invariant-loop-p

@@ -1,10 +1,5 @@
-use mathlib.Core.Path.{◌≡◌}
-use Prim.Native.Nat.{◌+◌, ◌-◌, ◌≤◌}
 use borrow.Author.Rules.{rules}
 use native.Mathlib.Omega.{arith}
-use lib.ListN.{length}
-use lib.Seq.{slice}
-use Rattle.list_spec.specs.Lines.{before}
 use Rattle.list.proofs.Characters.{before_here, before_on, before_end}
 use Rattle.list.proofs.search.find.Goals as goal
 

@@ -1,11 +1,8 @@
 use mathlib.Core.Path.{◌≡◌}
 use Prim.Native.Nat.{◌+◌, ◌-◌, ◌≤◌}
-use borrow.Author.Rules.{rules}
-use native.Mathlib.Omega.{arith}
 use lib.ListN.{length}
 use lib.Seq.{slice}
 use Rattle.list_spec.specs.Lines.{before}
-use Rattle.list.proofs.Characters.{before_here, before_on, before_end}
 use Rattle.list.proofs.search.find.Given as goal
 
 -- The first x from i on is the first from a on. What falls is the places that are left.

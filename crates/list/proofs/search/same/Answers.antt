@@ -1,10 +1,6 @@
-use mathlib.Core.Path.{◌≡◌, sym, ◌∙◌}
-use Prim.Native.Nat.{◌+◌, ◌-◌, ◌≤◌}
+use mathlib.Core.Path.{sym, ◌∙◌}
 use borrow.Author.Rules.{rules}
 use native.Mathlib.Omega.{arith}
-use lib.ListN.{length}
-use lib.Seq.{slice}
-use Rattle.list_spec.specs.Lines.{same as sameAs}
 use Rattle.list.proofs.Characters.{same_differ, same_on, same_off, same_end}
 use Rattle.list.proofs.search.same.Goals as goal
 

@@ -1,14 +1,14 @@
-use mathlib.Core.Path.{◌≡◌, sym, ◌∙◌}
-use mathlib.Core.List.{List}
-use Prim.Native.Nat.{ℕ, ◌≤◌, ◌<◌}
-use borrow.Author.Rules.{rules}
-use lib.ListN.{length}
-use lib.Seq.{slice}
-use Rattle.list.specs.Slots.{look_from, look_of}
+use Rattle.std.proofs.Common.{List, ℕ, sym, ◌∙◌, rules}
+use Rattle.std.proofs.Math.Seq.{slice}
 use Rattle.list.proofs.Slotted.{look_start, look_empty, look_found, look_on, look_none}
-use Rattle.list.proofs.slots.look.Invariants.{slots, names}
 use Rattle.list.proofs.slots.look.Goals as goal
 use Rattle.list.proofs.slots.look.Goals.{At-loop-left}
+
+abbrev slots : At-loop-left → List ℕ
+slots c = c.args.slots.now
+
+abbrev names : At-loop-left → List ℕ
+names c = c.args.names.now
 
 abbrev name : At-loop-left → List ℕ
 name c = slice c.args.a c.args.e c.args.text.now
@@ -26,40 +26,34 @@ loop-left-init c =
 
 pub returns-then-p-eq0 : goal.returns-then-p-eq0
 returns-then-p-eq0 c =
-    let r = c.before in
-    let h = r.before.before.before in (
-      sym (look_empty (slots (goal.at.returns-then-p-eq0 c).At-loop-left) (names (goal.at.returns-then-p-eq0 c).At-loop-left) (name (goal.at.returns-then-p-eq0 c).At-loop-left) h.loop-left.false h.loop-left.j r.loop-left-test.true
-          (sym r.wide-p.ensures.0 ∙ c.if-p-eq0.true)) ∙ h.loop-left.invariant.5,
+    let h = (goal.at.returns-then-p-eq0 c).At-loop-left in (
+      sym (look_empty (slots h) (names h) (name h) c.loop-left.left c.loop-left.j c.loop-left-test.true
+          (sym c.wide-p.ensures.0 ∙ c.if-p-eq0.true)) ∙ c.loop-left.invariant.5,
       search rules,
     )
 
 pub returns-then-name_at : goal.returns-then-name_at
 returns-then-name_at c =
-    let n = c.before in
-    let r = n.before.before in
-    let h = r.before.before.before in (
-      sym (look_found (slots (goal.at.returns-then-name_at c).At-loop-left) (names (goal.at.returns-then-name_at c).At-loop-left) (name (goal.at.returns-then-name_at c).At-loop-left) h.loop-left.false h.loop-left.j r.loop-left-test.true r.wide-p.result
-          r.wide-p.ensures.0 n.if-p-eq0.false (sym c.if-name_at.true ∙ n.name_at.ensures)) ∙ h.loop-left.invariant.5,
+    let h = (goal.at.returns-then-name_at c).At-loop-left in (
+      sym (look_found (slots h) (names h) (name h) c.loop-left.left c.loop-left.j c.loop-left-test.true c.wide-p.result
+          c.wide-p.ensures.0 c.if-p-eq0.false (sym c.if-name_at.true ∙ c.name_at.ensures)) ∙ c.loop-left.invariant.5,
       search rules,
     )
 
 pub loop-left-preserved : goal.loop-left-preserved
 loop-left-preserved c =
-    let e = c.before in
-    let n = e.before in
-    let r = n.before.before in
-    let h = r.before.before.before in (
+    let h = (goal.at.loop-left-preserved c).At-loop-left in (
       search rules,
       search rules,
       search rules,
       search rules,
       search rules,
-      rw c.slot_after-j.ensures.0 (sym (look_on (slots (goal.at.loop-left-preserved c).At-loop-left) (names (goal.at.loop-left-preserved c).At-loop-left) (name (goal.at.loop-left-preserved c).At-loop-left) h.loop-left.false h.loop-left.j
-          r.loop-left-test.true r.wide-p.result r.wide-p.ensures.0 n.if-p-eq0.false
-          (sym e.if-name_at.false ∙ n.name_at.ensures))) ∙ h.loop-left.invariant.5,
+      rw c.slot_after-j.ensures.0 (sym (look_on (slots h) (names h) (name h) c.loop-left.left c.loop-left.j
+          c.loop-left-test.true c.wide-p.result c.wide-p.ensures.0 c.if-p-eq0.false
+          (sym c.if-name_at.false ∙ c.name_at.ensures))) ∙ c.loop-left.invariant.5,
     )
 
 pub returns : goal.returns
 returns c =
-    let h = c.before in
-    (sym (look_none (slots (goal.at.returns c).At-loop-left) (names (goal.at.returns c).At-loop-left) (name (goal.at.returns c).At-loop-left) h.loop-left.false h.loop-left.j c.loop-left-test.false) ∙ h.loop-left.invariant.5, search rules)
+    let h = (goal.at.returns c).At-loop-left in
+    (sym (look_none (slots h) (names h) (name h) c.loop-left.left c.loop-left.j c.loop-left-test.false) ∙ c.loop-left.invariant.5, search rules)

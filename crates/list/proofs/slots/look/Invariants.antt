@@ -1,18 +1,7 @@
-use mathlib.Core.Path.{◌≡◌, sym, ◌∙◌}
-use mathlib.Core.List.{List}
-use Prim.Native.Nat.{ℕ, ◌≤◌, ◌<◌}
-use borrow.Author.Rules.{rules}
-use lib.ListN.{length}
-use lib.Seq.{slice}
+use Rattle.std.proofs.Common.{◌≡◌, ◌≤◌, ◌<◌, length}
+use Rattle.std.proofs.Math.Seq.{slice}
 use Rattle.list.specs.Slots.{look_from, look_of}
-use Rattle.list.proofs.Slotted.{look_start, look_empty, look_found, look_on, look_none}
 use Rattle.list.proofs.slots.look.Given as goal
-
-abbrev pub slots : At-loop-left → List ℕ
-slots c = c.args.slots.now
-
-abbrev pub names : At-loop-left → List ℕ
-names c = c.args.names.now
 
 -- What is looked for from j on, in the slots that are left, is what is looked for from the first slot on. What falls is the slots left.
 abbrev pub invariant-loop-left : goal.invariant-loop-left

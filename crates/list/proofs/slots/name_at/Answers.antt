@@ -1,7 +1,6 @@
 use mathlib.Core.Path.{sym, ◌∙◌}
 use mathlib.Core.List.{List}
 use Prim.Native.Nat.{ℕ}
-use borrow.Author.Rules.{rules}
 use lib.Seq.{slice}
 use Rattle.list.proofs.Slotted.{name_off, name_amid, name_open, name_test}
 use Rattle.list.proofs.slots.name_at.Goals as goal

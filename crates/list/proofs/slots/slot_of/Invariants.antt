@@ -1,11 +1,8 @@
-use mathlib.Core.Path.{◌≡◌, sym, ap, ◌∙◌}
-use Prim.Native.Nat.{ℕ, ◌*◌, ◌/◌, ◌-◌, ◌≤◌, ◌<◌}
-use borrow.Author.Rules.{rules}
-use native.Mathlib.Omega.{arith}
+use mathlib.Core.Path.{◌≡◌}
+use Prim.Native.Nat.{◌-◌, ◌≤◌, ◌<◌}
 use lib.ListN.{length}
 use lib.Seq.{slice}
-use Rattle.list.specs.Slots.{hash_from, slot_of}
-use Rattle.list.proofs.Slotted.{hash_on, hash_end, hash_fits, hash_slot}
+use Rattle.list.specs.Slots.{hash_from}
 use Rattle.list.proofs.slots.slot_of.Given as goal
 
 -- The hash of the characters from i on, from h on, is that of all. What falls is the characters that are left.

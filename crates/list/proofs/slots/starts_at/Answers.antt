@@ -1,4 +1,3 @@
-use borrow.Author.Rules.{rules}
 use borrow.Author.Tests.{eq-eqb, ne_eqb}
 use Rattle.list.specs.Slots.{starts_at}
 use Rattle.list.proofs.slots.starts_at.Goals as goal

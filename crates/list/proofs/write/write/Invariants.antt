@@ -1,17 +1,8 @@
-use mathlib.Core.Path.{◌≡◌, refl}
-use mathlib.Core.List.{List}
-use Prim.Native.Nat.{ℕ, ◌+◌, ◌-◌, ◌≤◌}
-use borrow.Author.Rules.{rules}
-use native.Mathlib.Omega.{arith}
-use lib.ListN.{length}
+use Rattle.std.proofs.Common.{◌≡◌, ◌+◌, ◌-◌, ◌≤◌, length}
 use Rattle.list_spec.specs.ListCall.{options_of, cells}
 use Rattle.list.specs.Walking.{put}
-use Rattle.list.proofs.Spanned.{Spanned, spanned}
-use Rattle.list.proofs.Cells.{Writes, writes_fit, writes_on, writes_none}
+use Rattle.list.proofs.Cells.{Writes}
 use Rattle.list.proofs.write.write.Given as goal
-
-abbrev pub text : After-next_line-l → List ℕ
-text l = l.args.text.now
 
 -- What stands in the room up to o, with the options from a on, is the room as it is to be. What falls is the characters that are left.
 abbrev pub invariant-loop-a : goal.invariant-loop-a

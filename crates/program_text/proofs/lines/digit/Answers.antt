@@ -1,6 +1,5 @@
 use Rattle.program_text.proofs.Numbers.{digit_low, digit_high}
 use native.Mathlib.Omega.{arith}
-use borrow.Author.Rules.{rules}
 use Rattle.program_text.proofs.lines.digit.Goals as goal
 
 pub returns-then-d-lt10 : goal.returns-then-d-lt10

@@ -1,6 +1,5 @@
 use mathlib.Core.Path.{sym, ap, ◌∙◌}
 use Prim.Native.Nat.{ℕ, ◌%◌}
-use borrow.Author.Rules.{rules}
 use Rattle.program_text.specs.Lines.{digit}
 use Rattle.program_text.proofs.Numbers.{sixteen}
 use Rattle.program_text.proofs.lines.last_digit.Goals as goal

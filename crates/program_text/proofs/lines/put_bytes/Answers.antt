@@ -1,8 +1,6 @@
 use Rattle.program_text.proofs.Texts.{put_none, put_byte, put_all}
-use Rattle.program_text.specs.Places.{Put}
-use lib.ListN.{length, take, length-set}
-use Prim.Native.Nat.{◌+◌, ◌-◌, ◌≤◌}
-use mathlib.Core.Path.{◌≡◌, refl}
+use lib.ListN.{length-set}
+use mathlib.Core.Path.{refl}
 use borrow.Author.Rules.{rules}
 use native.Mathlib.Omega.{arith}
 use Rattle.program_text.proofs.lines.put_bytes.Goals as goal

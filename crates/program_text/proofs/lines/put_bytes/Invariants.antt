@@ -1,10 +1,7 @@
-use Rattle.program_text.proofs.Texts.{put_none, put_byte, put_all}
 use Rattle.program_text.specs.Places.{Put}
-use lib.ListN.{length, take, length-set}
+use lib.ListN.{length, take}
 use Prim.Native.Nat.{◌+◌, ◌-◌, ◌≤◌}
-use mathlib.Core.Path.{◌≡◌, refl}
-use borrow.Author.Rules.{rules}
-use native.Mathlib.Omega.{arith}
+use mathlib.Core.Path.{◌≡◌}
 use Rattle.program_text.proofs.lines.put_bytes.Given as goal
 
 -- The first i bytes stand from the place on. What falls is the bytes that are left.

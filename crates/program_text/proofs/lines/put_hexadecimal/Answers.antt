@@ -4,7 +4,6 @@ use mathlib.Core.Path.{refl}
 use mathlib.Core.Logic.{inr}
 use lib.ListN.{length-set}
 use native.Mathlib.Omega.{arith}
-use borrow.Author.Rules.{rules}
 use Rattle.program_text.proofs.lines.put_hexadecimal.Goals as goal
 
 pub put_digits-requires : goal.put_digits-requires

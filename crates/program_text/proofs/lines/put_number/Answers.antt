@@ -4,14 +4,13 @@ use lib.ListN.{length-set}
 use Rattle.program_text.specs.Lines.{count}
 use mathlib.Core.Path.{◌∙◌}
 use native.Mathlib.Omega.{arith}
-use borrow.Author.Rules.{rules}
 use Rattle.program_text.proofs.lines.put_number.Goals as goal
 
 pub bounds-out-tab : goal.bounds-out-tab
 bounds-out-tab c =
     let at_pre = c.requires in
     let at-put-bytes = c.put_bytes-tab in
-    omega (arith, at_pre, at-put-bytes.ensures.behind, at-put-bytes.auto.0)
+    omega (arith, at_pre, at-put-bytes.ensures.behind, at-put-bytes.auto.out)
 
 pub overflow_add-tab : goal.overflow_add-tab
 overflow_add-tab c =
@@ -24,7 +23,7 @@ put_count-end-requires c =
     let args = c.args in
     let at_pre = c.requires in
     let at-put-bytes = c.put_bytes-tab in
-    simp length-set (omega (arith, count_few args.n, at_pre, at-put-bytes.ensures.behind, at-put-bytes.auto.0))
+    simp length-set (omega (arith, count_few args.n, at_pre, at-put-bytes.ensures.behind, at-put-bytes.auto.out))
 
 pub bounds-out-end : goal.bounds-out-end
 bounds-out-end c =
@@ -32,7 +31,7 @@ bounds-out-end c =
     let at_pre = c.requires in
     let at-put-bytes = c.put_bytes-tab in
     let at-put-count = c.put_count-end in
-    omega (arith, count_few args.n, at_pre, at-put-bytes.ensures.behind, at-put-bytes.auto.0, at-put-count.ensures.behind, simp length-set at at-put-count.auto.0)
+    omega (arith, count_few args.n, at_pre, at-put-bytes.ensures.behind, at-put-bytes.auto.out, at-put-count.ensures.behind, simp length-set at at-put-count.auto.out)
 
 pub overflow_add-result : goal.overflow_add-result
 overflow_add-result c =
@@ -46,7 +45,7 @@ pub shape_of-out : goal.shape_of-out
 shape_of-out c =
     let at-put-bytes = c.put_bytes-tab in
     let at-put-count = c.put_count-end in
-    simp length-set (simp length-set at at-put-count.auto.0 ∙ at-put-bytes.auto.0)
+    simp length-set (simp length-set at at-put-count.auto.out ∙ at-put-bytes.auto.out)
 
 pub returns : goal.returns
 returns c =

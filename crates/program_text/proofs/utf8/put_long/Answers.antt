@@ -2,7 +2,6 @@ use native.Mathlib.Omega.{arith}
 use mathlib.Core.Path.{sym}
 use Rattle.program_text.proofs.Texts.{same, nothing}
 use Rattle.program_text.proofs.Utf8Texts.{two, three, four, above}
-use borrow.Author.Rules.{rules}
 use Rattle.program_text.proofs.utf8.put_long.Goals as goal
 
 pub returns-then-c-le2047 : goal.returns-then-c-le2047

@@ -2,7 +2,6 @@ use native.Mathlib.Omega.{arith}
 use mathlib.Core.Path.{refl}
 use Rattle.program_text.proofs.Texts.{same}
 use Rattle.program_text.proofs.Utf8Texts.{one}
-use borrow.Author.Rules.{rules}
 use Rattle.program_text.proofs.utf8.put_one.Goals as goal
 
 pub returns : goal.returns

@@ -1,12 +1,9 @@
 use native.Mathlib.Omega.{arith}
-use mathlib.Core.Path.{◌≡◌, refl, ◌∙◌}
-use Prim.Native.Nat.{◌*◌, ◌-◌, ◌≤◌}
-use lib.ListN.{length, take, length-take}
-use Rattle.program_text.specs.Places.{Put}
+use mathlib.Core.Path.{refl, ◌∙◌}
+use lib.ListN.{take, length-take}
 use Rattle.program_text.specs.Utf8.{utf8}
 use Rattle.program_text.proofs.Texts.{nothing, put_all}
 use Rattle.program_text.proofs.Utf8Texts.{utf8_few, put_scalar}
-use borrow.Author.Rules.{rules}
 use Rattle.program_text.proofs.utf8.put_text.Goals as goal
 
 pub loop-i-init : goal.loop-i-init
@@ -29,7 +26,7 @@ loop-i-preserved c =
     let p = c.put_one-o in (
       omega arith,
       omega arith,
-      p.auto.0 ∙ l.invariant.2,
+      p.auto.out ∙ l.invariant.2,
       put_scalar
           c.args.scalars.now l.i (omega arith) l.invariant.3
           p.ensures,

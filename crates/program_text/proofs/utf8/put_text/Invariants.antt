@@ -1,12 +1,8 @@
-use native.Mathlib.Omega.{arith}
-use mathlib.Core.Path.{◌≡◌, refl, ◌∙◌}
+use mathlib.Core.Path.{◌≡◌}
 use Prim.Native.Nat.{◌*◌, ◌-◌, ◌≤◌}
-use lib.ListN.{length, take, length-take}
+use lib.ListN.{length, take}
 use Rattle.program_text.specs.Places.{Put}
 use Rattle.program_text.specs.Utf8.{utf8}
-use Rattle.program_text.proofs.Texts.{nothing, put_all}
-use Rattle.program_text.proofs.Utf8Texts.{utf8_few, put_scalar}
-use borrow.Author.Rules.{rules}
 use Rattle.program_text.proofs.utf8.put_text.Given as goal
 
 -- The invariant: the bytes of the first i scalars stand at the front of the room.

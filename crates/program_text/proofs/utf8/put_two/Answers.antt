@@ -1,7 +1,6 @@
 use native.Mathlib.Omega.{arith}
 use lib.ListN.{length-set}
 use Rattle.program_text.proofs.Utf8Texts.{put_two}
-use borrow.Author.Rules.{rules}
 use Rattle.program_text.proofs.utf8.put_two.Goals as goal
 
 pub bounds-out-at-2 : goal.bounds-out-at-2

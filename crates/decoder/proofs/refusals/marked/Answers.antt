@@ -1,0 +1,16 @@
+use mathlib.Core.Path.{sym, ◌∙◌}
+use native.Mathlib.Omega.{arith}
+use borrow.Author.Rules.{rules}
+use borrow.Author.Tests.{eq-eqb, ne_eqb}
+use Rattle.decoder.proofs.Numbers.{marked_is}
+use Rattle.decoder.proofs.refusals.marked.Goals as goal
+
+pub returns-then-encoding-eq0 : goal.returns-then-encoding-eq0
+returns-then-encoding-eq0 c =
+    let e = c.args.encoding in
+    sym (marked_is e ∙ rw (eq-eqb e 0 (omega arith)))
+
+pub returns : goal.returns
+returns c =
+    let e = c.args.encoding in
+    c.utf_16.ensures ∙ sym (marked_is e ∙ rw (ne_eqb e 0 (omega arith)))

@@ -1,0 +1,18 @@
+use borrow.Author.Tests.{eq-eqb, ne_eqb}
+use native.Mathlib.Omega.{arith}
+use Rattle.decoder.proofs.refusals.unshifted.Goals as goal
+
+pub returns-then-state-ne0 : goal.returns-then-state-ne0
+returns-then-state-ne0 c =
+    let args = c.args in
+    rw (ne_eqb args.state 0 (omega arith))
+
+pub returns-then-flag-eq1 : goal.returns-then-flag-eq1
+returns-then-flag-eq1 c =
+    let args = c.args in
+    rw (eq-eqb args.state 0 (omega arith), eq-eqb args.flag 1 (omega arith))
+
+pub returns : goal.returns
+returns c =
+    let args = c.args in
+    rw (eq-eqb args.state 0 (omega arith), ne_eqb args.flag 1 (omega arith))

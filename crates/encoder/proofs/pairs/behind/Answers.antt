@@ -1,0 +1,9 @@
+-- `behind`. Assumes nothing.
+use borrow.Author.Rules.{rules}
+use Rattle.encoder.proofs.pairs.behind.Goals as goal
+
+pub returns-then-two : goal.returns-then-two
+returns-then-two c = rw c.if-two.true
+
+pub returns-else-two : goal.returns-else-two
+returns-else-two c = rw c.if-two.false

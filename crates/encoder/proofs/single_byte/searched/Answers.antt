@@ -1,0 +1,17 @@
+-- `searched`: below 80 the scalar itself, else its pointer. Assumes nothing.
+use Rattle.standard.specs.Search.{searching}
+use Rattle.encoder.proofs.Scalars.{given_byte, single_one, single_by, pointer_below}
+use native.Mathlib.Omega.{arith}
+use borrow.Author.Rules.{rules}
+use Rattle.encoder.proofs.single_byte.searched.Goals as goal
+
+pub returns-then-c-lt128 : goal.returns-then-c-lt128
+returns-then-c-lt128 c = given_byte _ _ (omega (arith, c.if-c-lt128.true)) (single_one _ _ c.if-c-lt128.true)
+
+pub at-requires : goal.at-requires
+at-requires c =
+    pointer_below c.args.table.now c.args.c c.pointer.ensures c.requires
+
+pub returns : goal.returns
+returns c =
+    single_by (searching c.args.table.now) c.args.c c.if-c-lt128.false c.pointer.ensures c.at.ensures

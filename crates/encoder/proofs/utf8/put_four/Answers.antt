@@ -1,0 +1,20 @@
+-- `put_four`: four stores. Assumes nothing.
+use Rattle.encoder.proofs.Rooms.{put_four}
+use native.Mathlib.Omega.{arith}
+use lib.ListN.{length-set}
+use borrow.Author.Rules.{rules}
+use Rattle.encoder.proofs.utf8.put_four.Goals as goal
+
+pub bounds-room-at-2 : goal.bounds-room-at-2
+bounds-room-at-2 c = simp length-set (omega arith)
+
+pub bounds-room-at-3 : goal.bounds-room-at-3
+bounds-room-at-3 c = simp length-set (omega arith)
+
+pub bounds-room-at-4 : goal.bounds-room-at-4
+bounds-room-at-4 c = simp length-set (omega arith)
+
+pub returns : goal.returns
+returns c =
+    let args = c.args in
+    put_four args.room.now args.at args.u args.v args.w args.x

@@ -1,0 +1,51 @@
+use native.Mathlib.Omega.{arith}
+use borrow.Author.Rules.{rules}
+use borrow.Author.Tests.{eq-eqb, ne_eqb}
+use Rattle.reading.proofs.Choosing.{choose_is}
+use Rattle.reading.proofs.choice.choose.Goals as goal
+
+pub returns-then-have-eq0 : goal.returns-then-have-eq0
+returns-then-have-eq0 c =
+    let a = c.args in
+    rw (choose_is a.have a.first a.second a.third, eq-eqb a.have 0 (omega arith))
+
+pub returns-then-first-eq239 : goal.returns-then-first-eq239
+returns-then-first-eq239 c =
+    let a = c.args in
+    rw (
+      choose_is a.have a.first a.second a.third,
+      ne_eqb a.have 0 (omega arith),
+      eq-eqb a.first 0xEF (omega arith),
+    ) c.of_three.ensures
+
+pub returns-then-first-eq254 : goal.returns-then-first-eq254
+returns-then-first-eq254 c =
+    let a = c.args in
+    rw (
+      choose_is a.have a.first a.second a.third,
+      ne_eqb a.have 0 (omega arith),
+      ne_eqb a.first 0xEF (omega arith),
+      eq-eqb a.first 0xFE (omega arith),
+    ) c.of_two.ensures
+
+pub returns-then-first-eq255 : goal.returns-then-first-eq255
+returns-then-first-eq255 c =
+    let a = c.args in
+    rw (
+      choose_is a.have a.first a.second a.third,
+      ne_eqb a.have 0 (omega arith),
+      ne_eqb a.first 0xEF (omega arith),
+      ne_eqb a.first 0xFE (omega arith),
+      eq-eqb a.first 0xFF (omega arith),
+    ) c.of_two-then-first-eq255.ensures
+
+pub returns : goal.returns
+returns c =
+    let a = c.args in
+    rw (
+      choose_is a.have a.first a.second a.third,
+      ne_eqb a.have 0 (omega arith),
+      ne_eqb a.first 0xEF (omega arith),
+      ne_eqb a.first 0xFE (omega arith),
+      ne_eqb a.first 0xFF (omega arith),
+    )

@@ -1,0 +1,22 @@
+use mathlib.Core.List.{◌++◌}
+use native.Mathlib.Omega.{arith}
+use borrow.Author.Rules.{rules}
+use Rattle.reading.specs.Reading.{bytes_of}
+use Rattle.reading.proofs.Staged.{starts_on, starts_first}
+use Rattle.reading.proofs.feed.starting.Goals as goal
+
+pub returns-then-held-gt3 : goal.returns-then-held-gt3
+returns-then-held-gt3 c h l = absurd (omega arith)
+
+pub returns-then-chunk-gt65536 : goal.returns-then-chunk-gt65536
+returns-then-chunk-gt65536 c h l = absurd (omega arith)
+
+pub returns-then-stage-ne1 : goal.returns-then-stage-ne1
+returns-then-stage-ne1 c h l =
+    let a = c.args in
+    starts_on a.encoding a.stage a.state a.flag (bytes_of a.held ++ a.chunk.now) c.at_spot.ensures (omega arith)
+
+pub returns : goal.returns
+returns c h l =
+    let a = c.args in
+    starts_first a.encoding a.stage a.state a.flag (bytes_of a.held ++ a.chunk.now) c.at_choice.ensures (omega arith)

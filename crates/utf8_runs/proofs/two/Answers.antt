@@ -1,0 +1,40 @@
+use mathlib.Core.Path.{◌≡◌, refl, sym, ◌∙◌}
+use Rattle.standard.specs.Leads.{lead_length}
+use Rattle.standard.proofs.Leads.{in_two}
+use Rattle.standard.proofs.Tests.{within_low}
+use Rattle.utf8_runs.proofs.GoodUtf8.{good_two}
+use native.Mathlib.Omega.{arith}
+use borrow.Author.Rules.{rules}
+use Rattle.utf8_runs.proofs.two.Goals as goal
+use Rattle.utf8_runs.proofs.two.Goals.{Else-lead_length-gt2}
+
+leads : (c : Else-lead_length-gt2) → lead_length c.args.b0 ≡ 2
+leads c = omega (arith, c.lead_length.ensures, c.lead_length-2.ensures)
+
+pub returns-then-lead_length-lt2 : goal.returns-then-lead_length-lt2
+returns-then-lead_length-lt2 c = λ n. absurd (n refl)
+
+pub returns-then-lead_length-gt2 : goal.returns-then-lead_length-gt2
+returns-then-lead_length-gt2 c = λ n. absurd (n refl)
+
+pub overflow_sub-result : goal.overflow_sub-result
+overflow_sub-result c =
+    let at = c.before.before in
+    let args = at.args in
+    omega (arith, within_low 0xC2 args.b0 0xDF (in_two args.b0 (omega arith) (leads (goal.at.overflow_sub-result c).Else-lead_length-gt2)))
+
+pub overflow_sub-result-then-within : goal.overflow_sub-result-then-within
+overflow_sub-result-then-within c =
+    let args = c.args in
+    let follows = sym c.within.ensures ∙ c.if-within.true in
+    omega (arith, within_low 0x80 args.b1 0xBF follows)
+
+pub returns-then-within : goal.returns-then-within
+returns-then-within c =
+    let at = c.before.before in
+    let args = at.args in
+    let follows = sym c.within.ensures ∙ c.if-within.true in
+    λ n xs. good_two args.b0 (omega arith) args.b1 xs (leads (goal.at.returns-then-within c).Else-lead_length-gt2) follows
+
+pub returns : goal.returns
+returns c = λ n. absurd (n refl)
