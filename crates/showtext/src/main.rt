@@ -1,13 +1,16 @@
 // Document 01, "Program `showtext`": the encoding that the first line of standard input names, the scalars of the rest, and their number.
+#![tactic(auto)]
 
 mod lines;
 
-ghost use Rattle.std.specs.Prelude.{◌≡◌, ◌+◌, ◌*◌, ◌≤◌, ◌<◌, ◌^◌, length, take, IfOk};
+ghost use Rattle.std.specs.Prelude.{◌≡◌, ◌+◌, ◌*◌, ◌≤◌, ◌<◌, ◌^◌, length, take, IfOk, IfSome, OnOk};
+ghost use Rattle.std.specs.Io.KnownBytes.{Appends, Consumes, IsAtEnd};
 ghost use Rattle.standard.specs.Encodings.{no_tables};
 ghost use Rattle.decoder.specs.Calls.{feeding, finishing};
-ghost use Rattle.showtext.specs.Output.{refused, scalar_lines};
+ghost use Rattle.showtext.specs.Output.{printed, refused, scalar_lines};
 ghost use Rattle.showtext.specs.Code.{heading, feeding_on};
 ghost use Rattle.showtext.specs.Program.{Answers, Left, beginning, going_on, closing, turning, next_step};
+ghost use Rattle.showtext.specs.Statements.{Whole};
 
 use decoder::{Answer, Decoder};
 use lines::{put_encoding, put_scalars};
@@ -176,7 +179,10 @@ fn next_step(step: u8, refusal: u8, n: usize, full: usize) -> u8
 // Reads until the buffer is full or the input ends; how many bytes there are. The last step reads nothing.
 fn fill<R: Read>(step: u8, input: &mut R, buffer: &mut [u8]) -> io::Result<usize>
     requires { length buffer.old < 2 ^ 32 }
-    ensures { IfOk result (λ n. n ≤ length buffer.old) }
+    ensures few { IfOk result (λ n. n ≤ length buffer.old) }
+    ensures bytes { IfOk result (λ n. Consumes (R.remaining input.old) (R.remaining input.new) (take n buffer.new)) }
+    ensures end { IfOk result (λ n. step < 2 → n < length buffer.old → IsAtEnd (R.remaining input.new)) }
+    ensures last { IfOk result (λ n. step ≡ 2 → n ≡ 0) }
 {
     if step == LAST {
         return Ok(0);
@@ -195,6 +201,7 @@ fn fill<R: Read>(step: u8, input: &mut R, buffer: &mut [u8]) -> io::Result<usize
 // Writes so many bytes of text.
 fn print<W: Write>(output: &mut W, out: &[u8], bytes: usize) -> io::Result<()>
     requires { bytes ≤ length out.now }
+    ensures { OnOk result (Appends (W.contents output.old) (W.contents output.new) (take bytes out.now)) }
 {
     output.write_all(&out[0..bytes])
 }
@@ -223,7 +230,9 @@ fn run<R: Read, W: Write>(
     out: &mut [u8],
 ) -> io::Result<u8>
     requires { (length buffer.old < 2 ^ 32) × (length room.old ≤ 4099) × (32 * length room.old + 32 ≤ length out.old) }
-    ensures { IfOk result (λ step. 3 ≤ step) }
+    ensures step { IfOk result (λ step. 3 ≤ step) }
+    ensures bytes { OnOk result (IfSome (R.remaining input.old) (λ all.
+        Whole (length buffer.old) (length room.old) all → Appends (W.contents output.old) (W.contents output.new) (printed all))) }
 {
     let mut s = idle();
     let mut step = FIRST;

@@ -1,6 +1,5 @@
 use Rattle.showtext.proofs.Buffers.{begun_refused, begun_text}
 use native.Mathlib.Omega.{arith}
-use borrow.Author.Rules.{rules}
 use Rattle.showtext.proofs.begin.Goals as goal
 
 pub returns-then-found-eq1 : goal.returns-then-found-eq1

@@ -1,7 +1,6 @@
 use Rattle.showtext.proofs.Buffers.{fed_fits, encoding_few, left_refused, left_fed}
 use Rattle.showtext.specs.Code.{heading}
 use native.Mathlib.Omega.{arith}
-use borrow.Author.Rules.{rules}
 use Rattle.showtext.proofs.begin_text.Goals as goal
 
 pub returns-then-first-ne0 : goal.returns-then-first-ne0

@@ -3,7 +3,6 @@ use Prim.Native.Nat.{◌+◌, ◌≤◌}
 use lib.ListN.{length}
 use Rattle.standard.specs.Text.{bytes}
 use native.Mathlib.Omega.{arith}
-use borrow.Author.Rules.{rules}
 use Rattle.showtext.proofs.close.Goals as goal
 use Rattle.showtext.proofs.close.Goals.{After-show-s}
 

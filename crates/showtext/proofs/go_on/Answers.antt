@@ -4,7 +4,6 @@ use Rattle.showtext.specs.Program.{going_on}
 use Rattle.showtext.specs.Code.{feeding_on}
 use mathlib.Core.List.{[]}
 use native.Mathlib.Omega.{arith}
-use borrow.Author.Rules.{rules}
 use Rattle.showtext.proofs.go_on.Goals as goal
 
 pub returns-then-fed-ne0 : goal.returns-then-fed-ne0

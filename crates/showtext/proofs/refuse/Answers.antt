@@ -1,7 +1,6 @@
 use Rattle.standard.specs.Text.{bytes}
 use mathlib.Core.Path.{refl}
 use native.Mathlib.Omega.{arith}
-use borrow.Author.Rules.{rules}
 use Rattle.showtext.proofs.refuse.Goals as goal
 
 pub returns : goal.returns

@@ -1,7 +1,5 @@
 use Rattle.showtext.proofs.Texts.{shown_part}
-use Prim.Native.Nat.{◌-◌}
 use mathlib.Core.Path.{refl}
-use borrow.Author.Rules.{rules}
 use Rattle.showtext.proofs.show.Goals as goal
 
 pub returns : goal.returns

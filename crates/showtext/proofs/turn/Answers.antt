@@ -1,6 +1,5 @@
 use borrow.Author.Tests.{eq-eqb, ne_eqb}
 use Rattle.showtext.specs.Program.{turning}
-use borrow.Author.Rules.{rules}
 use Rattle.showtext.proofs.turn.Goals as goal
 
 pub returns-then-step-eq-FIRST : goal.returns-then-step-eq-FIRST

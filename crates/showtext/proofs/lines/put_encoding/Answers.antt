@@ -5,7 +5,6 @@ use Rattle.standard.specs.Text.{bytes}
 use lib.ListN.{length-take, replicate}
 use mathlib.Core.Path.{ap}
 use native.Mathlib.Omega.{arith}
-use borrow.Author.Rules.{rules}
 use Rattle.showtext.proofs.lines.put_encoding.Goals as goal
 
 pub slice_bounds-put_words-end-2 : goal.slice_bounds-put_words-end-2

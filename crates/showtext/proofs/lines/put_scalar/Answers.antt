@@ -4,7 +4,6 @@ use Rattle.program_text.proofs.Numbers.{count_few, hexadecimal_few}
 use Prim.Native.Nat.{◌+◌, ◌≤◌}
 use lib.ListN.{length, length-set}
 use native.Mathlib.Omega.{arith}
-use borrow.Author.Rules.{rules}
 use Rattle.showtext.proofs.lines.put_scalar.Goals as goal
 use Rattle.showtext.proofs.lines.put_scalar.Goals.{After-put_count-tab}
 

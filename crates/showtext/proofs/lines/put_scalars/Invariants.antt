@@ -1,13 +1,8 @@
-use lib.ListN.{get_or}
-use mathlib.Core.Path.{◌∙◌}
-use Rattle.showtext.proofs.Texts.{no_lines, put_next, put_all, line_few}
 use Rattle.program_text.specs.Places.{Put}
 use Rattle.showtext.specs.Output.{scalar_lines}
 use lib.ListN.{length, take}
 use Prim.Native.Nat.{◌+◌, ◌-◌, ◌*◌, ◌≤◌}
-use mathlib.Core.Path.{◌≡◌, refl}
-use borrow.Author.Rules.{rules}
-use native.Mathlib.Omega.{arith}
+use mathlib.Core.Path.{◌≡◌}
 use Rattle.showtext.proofs.lines.put_scalars.Given as goal
 
 -- The lines of the first i scalars stand from the place on, in at most 32 bytes each. What falls is the scalars that are left.

@@ -2,7 +2,6 @@ use Rattle.showtext.proofs.Texts.{put_line}
 use lib.ListN.{length-set}
 use mathlib.Core.Path.{◌∙◌}
 use native.Mathlib.Omega.{arith}
-use borrow.Author.Rules.{rules}
 use Rattle.showtext.proofs.lines.put_words.Goals as goal
 
 pub bounds-out-tab : goal.bounds-out-tab
