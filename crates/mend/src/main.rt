@@ -1,9 +1,11 @@
 // Document 02, Ask 12, the program `mend`: the list on standard input, its label on the first line, in UTF-8 on standard output, and a line
 // for each replaced sequence on standard error.
+#![tactic(auto)]
 
 mod lines;
 
-ghost use Rattle.std.specs.Prelude.{◌≡◌, false, [], ◌+◌, ◌-◌, ◌*◌, ◌≤◌, ◌<◌, ◌^◌, length, IfOk};
+ghost use Rattle.std.specs.Prelude.{◌≡◌, false, [], ◌+◌, ◌-◌, ◌*◌, ◌≤◌, ◌<◌, ◌^◌, length, take, IfOk, OnOk};
+ghost use Rattle.std.specs.Io.KnownBytes.{Appends, Consumes, IsAtEnd};
 ghost use Rattle.standard.specs.Encodings.{lent};
 ghost use Rattle.labels_spec.specs.Labels.{label};
 ghost use Rattle.replacements_spec.specs.Calls.{feed_telling, finish_telling};
@@ -213,7 +215,9 @@ struct Console<R, W, E> {
 // Reads until the buffer is full or the end comes; how many bytes there are.
 fn fill<R: Read>(from: &mut R, buffer: &mut [u8]) -> io::Result<usize>
     requires { length buffer.old < 2 ^ 32 }
-    ensures { IfOk result (λ n. n ≤ length buffer.old) }
+    ensures few { IfOk result (λ n. n ≤ length buffer.old) }
+    ensures bytes { IfOk result (λ n. Consumes (R.remaining from.old) (R.remaining from.new) (take n buffer.new)) }
+    ensures end { IfOk result (λ n. n < length buffer.old → IsAtEnd (R.remaining from.new)) }
 {
     let mut n: usize = 0;
     while n < buffer.len() {
