@@ -1,14 +1,11 @@
 -- What an encoding is refused with, and the cells of its table. Assumes nothing.
 use mathlib.Core.Path.{◌≡◌, refl, sym, ap, ◌∙◌}
-use mathlib.Core.Bool.{Bool, true, false, ◌||◌, ◌&&◌}
 use mathlib.Core.List.{List}
 use Prim.Native.Nat.{ℕ, ◌≤◌, ◌<◌}
 use native.Mathlib.Omega.{arith}
-use lib.Dec.{ltb, leb, eqb}
 use borrow.Author.Tests.{eq-eqb, ne_eqb, le-leb, lt-leb}
-use Rattle.standard.specs.Base.{◌then◌else◌, within}
-use Rattle.standard.specs.Encodings.{Family, family, traits}
-use Rattle.standard.proofs.Families.{Cases, by_family}
+use Rattle.standard.specs.Encodings.{family, traits}
+use Rattle.standard.proofs.Families.{by_family}
 use Rattle.labels_spec.specs.Labels.{label}
 use Rattle.program_text.specs.Lines.{first_line, label_refusal}
 use Rattle.mend_spec.specs.Mended.{encoding_refusal, cells_of, begin_refusal}

@@ -1,7 +1,7 @@
 -- What a step writes, from the answers of the calls. Assumes nothing.
 use mathlib.Core.Path.{◌≡◌, refl, sym, ap, ◌∙◌, subst}
 use mathlib.Core.Bool.{Bool, true, false}
-use mathlib.Core.List.{List, [], ◌∷◌, ◌++◌, append-nil}
+use mathlib.Core.List.{List, [], ◌++◌, append-nil}
 use Prim.Native.Nat.{ℕ, ◌+◌, ◌-◌, ◌*◌, ◌≤◌, ◌<◌}
 use native.Mathlib.Omega.{arith}
 use lib.Dec.{ltb, eqb}
@@ -17,7 +17,7 @@ use Rattle.decoder.specs.Calls.{Outcome, refuse, hand_out, read_on, feeding, rea
 use Rattle.decoder.specs.declared.Decoder.{Decoder}
 use Rattle.demands.proofs.Steps.{handed_is, feed_is, finish_is}
 use Rattle.replacements_spec.specs.Replaced.{Replaced, cells}
-use Rattle.replacements_spec.specs.Calls.{Handed, telling, untold, replaced_by, feed_tell_refusal, feed_telling, finish_tell_refusal, finish_telling, Leaves}
+use Rattle.replacements_spec.specs.Calls.{Handed, telling, replaced_by, feed_tell_refusal, feed_telling, finish_tell_refusal, finish_telling, Leaves}
 use Rattle.replacements_spec.specs.declared.Replacing.{Replacing}
 use Rattle.replacements_spec.proofs.Spans.{cells_length}
 use Rattle.program_text.specs.Lines.{refused}
@@ -25,7 +25,7 @@ use Rattle.program_text.specs.Places.{Put}
 use Rattle.program_text.specs.Utf8.{utf8}
 use Rattle.program_text.proofs.Texts.{same, then_put}
 use Rattle.mend_spec.specs.Mended.{span_lines}
-use Rattle.mend_spec.specs.Program.{fitting, over, step_of, step_number, last_line, gives}
+use Rattle.mend_spec.specs.Program.{fitting, over, step_of, last_line}
 use Rattle.mend.specs.Steps.{Wrote}
 use Rattle.mend.specs.Code.{handed, Told}
 use Rattle.mend.specs.declared.Mended.{Mended}

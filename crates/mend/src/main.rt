@@ -1,9 +1,11 @@
 // Document 02, Ask 12, the program `mend`: the list on standard input, its label on the first line, in UTF-8 on standard output, and a line
 // for each replaced sequence on standard error.
+#![tactic(auto)]
 
 mod lines;
 
-ghost use Rattle.std.specs.Prelude.{◌≡◌, false, [], ◌+◌, ◌-◌, ◌*◌, ◌≤◌, ◌<◌, ◌^◌, length};
+ghost use Rattle.std.specs.Prelude.{◌≡◌, false, [], ◌+◌, ◌-◌, ◌*◌, ◌≤◌, ◌<◌, ◌^◌, length, take, IfOk, OnOk};
+ghost use Rattle.std.specs.Io.KnownBytes.{Appends, Consumes, IsAtEnd};
 ghost use Rattle.standard.specs.Encodings.{lent};
 ghost use Rattle.labels_spec.specs.Labels.{label};
 ghost use Rattle.replacements_spec.specs.Calls.{feed_telling, finish_telling};
@@ -15,10 +17,13 @@ ghost use Rattle.mend.specs.Code.{handed, Rooms, Told};
 
 use decoder::Decoder;
 use index_loading::{Loading, load, load_end};
-use libc::{STDERR_FILENO, STDIN_FILENO, STDOUT_FILENO};
 use lines::put_spans;
 use program_text::{after_line, first_label, put_number, put_text};
 use replacements_spec::Replacing;
+use std::fs::File;
+use std::io;
+use std::io::{Read, Write};
+use std::rt::Files;
 
 // What a step leaves: the decoder, the bytes at the front of `out` and of `report`, and the refusal number or 0.
 #[derive(Clone, Copy)]
@@ -199,74 +204,83 @@ fn mend_end(
     write_step(a, false, room, spans, out, report)
 }
 
-// Reads from a descriptor until the buffer is full or the end comes; how many bytes there are, one more than the buffer has where a read
-// failed.
-fn fill(from: i32, buffer: &mut [u8]) -> usize
+// Where the program reads the list, and where it writes the text and the report.
+#[derive(Drop)]
+struct Console<R, W, E> {
+    input: R,
+    output: W,
+    errors: E,
+}
+
+// Reads until the buffer is full or the end comes; how many bytes there are.
+fn fill<R: Read>(from: &mut R, buffer: &mut [u8]) -> io::Result<usize>
     requires { length buffer.old < 2 ^ 32 }
-    ensures { result ≤ length buffer.old + 1 }
+    ensures few { IfOk result (λ n. n ≤ length buffer.old) }
+    ensures bytes { IfOk result (λ n. Consumes (R.remaining from.old) (R.remaining from.new) (take n buffer.new)) }
+    ensures end { IfOk result (λ n. n < length buffer.old → IsAtEnd (R.remaining from.new)) }
 {
     let mut n: usize = 0;
     while n < buffer.len() {
-        let got = libc::read(from, &mut buffer[n..]);
-        if got < 0 {
-            return buffer.len() + 1;
-        }
-        let more = io::count(got, &buffer[n..]);
+        let more = from.read(&mut buffer[n..])?;
         if more == 0 {
-            return n;
+            return Ok(n);
         }
         n += more;
     }
-    n
+    Ok(n)
 }
 
-// Writes the first bytes of a text; was all of it written?
-fn print(to: i32, text: &[u8], bytes: usize) -> bool {
+// Writes the first bytes of a text; has it as many?
+fn print<W: Write>(to: &mut W, text: &[u8], bytes: usize) -> io::Result<bool> {
     if text.len() < bytes {
-        return false;
+        return Ok(false);
     }
-    let whole = io::write_all(to, &text[0..bytes]);
-    if !whole {
-        os::fail(b"write");
-    }
-    whole
+    to.write_all(&text[0..bytes])?;
+    Ok(true)
 }
 
 // Writes what a step gave to both streams; does the program go on?
-fn flush(s: Mended, out: &[u8], report: &[u8]) -> bool {
+fn flush<R, W: Write, E: Write>(
+    console: &mut Console<R, W, E>,
+    s: Mended,
+    out: &[u8],
+    report: &[u8],
+) -> io::Result<bool> {
     if s.told != 0 {
-        if !print(STDERR_FILENO, report, s.told) {
-            return false;
+        if !print(&mut console.errors, report, s.told)? {
+            return Ok(false);
         }
     }
     if s.written != 0 {
-        if !print(STDOUT_FILENO, out, s.written) {
-            return false;
+        if !print(&mut console.output, out, s.written)? {
+            return Ok(false);
         }
     }
-    s.refusal == 0
+    Ok(s.refusal == 0)
 }
 
 // The report of a program that is refused before the text.
-fn refuse(number: u8, report: &mut [u8]) {
+fn refuse<W: Write>(to: &mut W, number: u8, report: &mut [u8]) -> io::Result<()> {
     let n = put_number(report, 0, b"refused", number as u64);
-    print(STDERR_FILENO, report, n);
+    print(to, report, n)?;
+    Ok(())
 }
 
-// Opens the published index file of an encoding's table; a negative number where it cannot be opened.
-fn open_index(encoding: u8) -> i32 {
+// Opens the published index file of an encoding's table, if it can be opened.
+fn open_index<F: Files>(files: &F, encoding: u8) -> Option<F::File> {
     let mut name = [0u8; 32];
     let named = index_files::first_index_name(encoding, &mut name);
     let n = named.length;
     if 32 < n {
-        return -1;
+        return None;
     }
-    os::open_read(&name[0..n])
+    let path = str::from_utf8(&name[0..n]).ok()?;
+    File::open(files, path).ok()
 }
 
 // Fills the table from an open file: 4 where it cannot be read, 8, 12 or 13 by its first line at fault, or 0. The turns are more than any
 // file takes.
-fn load_file(file: i32, buffer: &mut [u8], line: &mut [u8], table: &mut [u32]) -> u8
+fn load_file<R: Read>(file: &mut R, buffer: &mut [u8], line: &mut [u8], table: &mut [u32]) -> u8
     requires { length buffer.old < 2 ^ 32 }
 {
     let mut s = Loading {
@@ -276,10 +290,10 @@ fn load_file(file: i32, buffer: &mut [u8], line: &mut [u8], table: &mut [u32]) -
     let mut turns: u64 = 0x4_0000_0000_0000;
     while turns > 0 {
         turns -= 1;
-        let n = fill(file, buffer);
-        if n > buffer.len() {
-            return 4;
-        }
+        let n = match fill(file, buffer) {
+            Ok(n) => n,
+            Err(_) => return 4,
+        };
         s = load(s, &buffer[0..n], line, table);
         if n < buffer.len() {
             let end = load_end(s, line, table);
@@ -290,21 +304,27 @@ fn load_file(file: i32, buffer: &mut [u8], line: &mut [u8], table: &mut [u32]) -
 }
 
 // The one table of an encoding, if it has cells; the refusal number or 0.
-fn load_table(encoding: u8, buffer: &mut [u8], line: &mut [u8], table: &mut [u32]) -> u8
+fn load_table<F: Files>(
+    files: &F,
+    encoding: u8,
+    buffer: &mut [u8],
+    line: &mut [u8],
+    table: &mut [u32],
+) -> u8
     requires { length buffer.old < 2 ^ 32 }
 {
     if table.len() == 0 {
         return 0;
     }
-    let file = open_index(encoding);
-    if file < 0 {
-        return 4;
+    match open_index(files, encoding) {
+        Some(mut file) => load_file(&mut file, buffer, line, table),
+        None => 4,
     }
-    load_file(file, buffer, line, table)
 }
 
 // The text behind the first line, of which so many bytes are in the buffer: buffer after buffer, and the end of input.
-fn mend_text(
+fn mend_text<R: Read, W: Write, E: Write>(
+    console: &mut Console<R, W, E>,
     encoding: u8,
     read: usize,
     buffer: &mut [u8],
@@ -313,7 +333,7 @@ fn mend_text(
     spans: &mut [u32],
     out: &mut [u8],
     report: &mut [u8],
-)
+) -> io::Result<()>
     requires { (read ≤ length buffer.old) × (length buffer.old < 2 ^ 32) × Rooms room.old spans.old out.old report.old }
 {
     let opened = Decoder::open(encoding, 0, 0);
@@ -321,27 +341,26 @@ fn mend_text(
     let mut s = mend_chunk(opened.decoder, first, table, room, spans, out, report);
     let mut n = read;
     let mut turns: u64 = 0x4_0000_0000_0000;
-    while flush(s, out, report) {
+    while flush(console, s, out, report)? {
         if turns == 0 {
-            return;
+            return Ok(());
         }
         turns -= 1;
         if n < buffer.len() {
             let last = mend_end(s.decoder, table, room, spans, out, report);
-            flush(last, out, report);
-            return;
+            flush(console, last, out, report)?;
+            return Ok(());
         }
-        n = fill(STDIN_FILENO, buffer);
-        if n > buffer.len() {
-            os::fail(b"read");
-            return;
-        }
+        n = fill(&mut console.input, buffer)?;
         s = mend_chunk(s.decoder, &buffer[0..n], table, room, spans, out, report);
     }
+    Ok(())
 }
 
 // The program, through a buffer, a room for a line and a table, and the rooms of a step.
-fn run(
+fn run<F: Files, R: Read, W: Write, E: Write>(
+    files: &F,
+    console: &mut Console<R, W, E>,
     buffer: &mut [u8],
     line: &mut [u8],
     table: &mut [u32],
@@ -349,27 +368,22 @@ fn run(
     spans: &mut [u32],
     out: &mut [u8],
     report: &mut [u8],
-)
+) -> io::Result<()>
     requires { (length buffer.old < 2 ^ 32) × (length out.old < 2 ^ 32) × (11280 ≤ length table.old) ×
         Rooms room.old spans.old out.old report.old }
 {
-    let n = fill(STDIN_FILENO, buffer);
-    if n > buffer.len() {
-        os::fail(b"read");
-        return;
-    }
+    let n = fill(&mut console.input, buffer)?;
     let begun = begin(&buffer[0..n]);
     if begun.refusal != 0 {
-        refuse(begun.refusal, report);
-        return;
+        return refuse(&mut console.errors, begun.refusal, report);
     }
     let cells = begun.cells;
-    let number = load_table(begun.encoding, out, line, &mut table[0..cells]);
+    let number = load_table(files, begun.encoding, out, line, &mut table[0..cells]);
     if number != 0 {
-        refuse(number, report);
-        return;
+        return refuse(&mut console.errors, number, report);
     }
     mend_text(
+        console,
         begun.encoding,
         n,
         buffer,
@@ -378,10 +392,10 @@ fn run(
         spans,
         out,
         report,
-    );
+    )
 }
 
-fn main() {
+fn main(rt: HostRuntime) -> io::Result<()> {
     let mut buffer = [0u8; 4096];
     let mut line = [0u8; 1025];
     let mut table = [0u32; 11280];
@@ -389,7 +403,14 @@ fn main() {
     let mut spans = [0u32; 8198];
     let mut out = [0u8; 16396];
     let mut report = [0u8; 262368];
+    let mut console = Console {
+        input: rt.stdin(),
+        output: rt.stdout(),
+        errors: rt.stderr(),
+    };
     run(
+        &rt,
+        &mut console,
         &mut buffer,
         &mut line,
         &mut table,
@@ -397,5 +418,5 @@ fn main() {
         &mut spans,
         &mut out,
         &mut report,
-    );
+    )
 }

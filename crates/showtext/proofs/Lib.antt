@@ -2,3 +2,4 @@ pub mod Texts
 pub mod Named
 pub mod Buffers
 pub mod Theorems
+pub mod Runs

@@ -1,14 +1,14 @@
 -- What is written into a room of bytes, from a place on. Assumes nothing.
 use mathlib.Core.Path.{◌≡◌, refl, sym, ap, ◌∙◌}
 use mathlib.Core.List.{List, [], ◌∷◌, ◌++◌, append_assoc, append-nil}
-use Prim.Native.Nat.{ℕ, suc, ◌+◌, ◌-◌, ◌*◌, ◌/◌, ◌%◌, ◌^◌, ◌≤◌, ◌<◌}
+use Prim.Native.Nat.{ℕ, suc, ◌+◌, ◌-◌, ◌*◌, ◌≤◌, ◌<◌}
 use native.Mathlib.Nat.{add-zero}
 use native.Mathlib.Numerals.{add-one}
 use native.Mathlib.Omega.{arith}
 use lib.ListN.{length, get_or, take, set, length-append}
-use lib.Seq.{sets, take-suc, take_all, length-take-le}
+use lib.Seq.{take-suc, length-take-le}
 use Rattle.standard.specs.Text.{bytes}
-use Rattle.showtext.specs.Output.{digit, digits, count, code_point, line, scalar_lines}
+use Rattle.showtext.specs.Output.{digits, count, code_point, line, scalar_lines}
 use Rattle.program_text.specs.Places.{Put}
 use Rattle.program_text.proofs.Numbers.{count_few, hexadecimal_few}
 pub use Rattle.program_text.proofs.Texts.{same, then_put, then_byte, nothing, number_few, put_line, put_all}

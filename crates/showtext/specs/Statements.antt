@@ -22,6 +22,13 @@ unfoldable pub Filled : ℕ → List ℕ → List (List ℕ) → Type 0
 Filled full b [] = length b < full
 Filled full b (c ∷ bs) = (length b ≡ full) × Filled full c bs
 
+-- An input that the steps print as a whole, through a buffer of `full` bytes and a room of so many cells.
+pub record Whole (full room : ℕ) (input : List ℕ) : Type 0 where
+  pub low : 256 ≤ full
+  pub high : full ≤ 4096
+  pub cells : 4099 ≤ room
+  pub bytes : length (after_line input) ≤ 4294967295
+
 -- For every room of at least 4,099 cells, every out, and all buffers of which the first has at least 256 bytes or is the whole input,
 -- with no more bytes behind the first line than a decoder takes.
 pub record Prints : Type 0 where

@@ -1,20 +1,24 @@
 // Document 01, "Program `showtext`": the encoding that the first line of standard input names, the scalars of the rest, and their number.
+#![tactic(auto)]
 
 mod lines;
 
-ghost use Rattle.std.specs.Prelude.{◌≡◌, ◌+◌, ◌*◌, ◌≤◌, ◌<◌, ◌^◌, length, take};
+ghost use Rattle.std.specs.Prelude.{◌≡◌, ◌+◌, ◌*◌, ◌≤◌, ◌<◌, ◌^◌, length, take, IfOk, IfSome, OnOk};
+ghost use Rattle.std.specs.Io.KnownBytes.{Appends, Consumes, IsAtEnd};
 ghost use Rattle.standard.specs.Encodings.{no_tables};
 ghost use Rattle.decoder.specs.Calls.{feeding, finishing};
-ghost use Rattle.showtext.specs.Output.{refused, scalar_lines};
+ghost use Rattle.showtext.specs.Output.{printed, refused, scalar_lines};
 ghost use Rattle.showtext.specs.Code.{heading, feeding_on};
 ghost use Rattle.showtext.specs.Program.{Answers, Left, beginning, going_on, closing, turning, next_step};
+ghost use Rattle.showtext.specs.Statements.{Whole};
 
 use decoder::{Answer, Decoder};
-use libc::{STDIN_FILENO, STDOUT_FILENO};
 use lines::{put_encoding, put_scalars};
 use program_text::{after_line, first_label, put_number};
+use std::io;
+use std::io::{Read, Write};
 
-// The steps: the first buffer, a further one, the end of input. Then the program is over, or a read or a write failed.
+// The steps: the first buffer, a further one, the end of input. Then the program is over, or no turn is left.
 const FIRST: u8 = 0;
 
 const FURTHER: u8 = 1;
@@ -172,40 +176,34 @@ fn next_step(step: u8, refusal: u8, n: usize, full: usize) -> u8
     FURTHER
 }
 
-// Reads until the buffer is full or the input ends; how many bytes there are, one more than the buffer has where a read failed.
-// The last step reads nothing.
-fn fill(step: u8, buffer: &mut [u8]) -> usize
+// Reads until the buffer is full or the input ends; how many bytes there are. The last step reads nothing.
+fn fill<R: Read>(step: u8, input: &mut R, buffer: &mut [u8]) -> io::Result<usize>
     requires { length buffer.old < 2 ^ 32 }
-    ensures { result ≤ length buffer.old + 1 }
+    ensures few { IfOk result (λ n. n ≤ length buffer.old) }
+    ensures bytes { IfOk result (λ n. Consumes (R.remaining input.old) (R.remaining input.new) (take n buffer.new)) }
+    ensures end { IfOk result (λ n. step < 2 → n < length buffer.old → IsAtEnd (R.remaining input.new)) }
+    ensures last { IfOk result (λ n. step ≡ 2 → n ≡ 0) }
 {
     if step == LAST {
-        return 0;
+        return Ok(0);
     }
     let mut n: usize = 0;
     while n < buffer.len() {
-        let got = libc::read(STDIN_FILENO, &mut buffer[n..]);
-        if got < 0 {
-            os::fail(b"read");
-            return buffer.len() + 1;
-        }
-        let more = io::count(got, &buffer[n..]);
+        let more = input.read(&mut buffer[n..])?;
         if more == 0 {
-            return n;
+            return Ok(n);
         }
         n += more;
     }
-    n
+    Ok(n)
 }
 
-// Writes so many bytes of text to standard output; was all of it written?
-fn print(out: &[u8], bytes: usize) -> bool
+// Writes so many bytes of text.
+fn print<W: Write>(output: &mut W, out: &[u8], bytes: usize) -> io::Result<()>
     requires { bytes ≤ length out.now }
+    ensures { OnOk result (Appends (W.contents output.old) (W.contents output.new) (take bytes out.now)) }
 {
-    let whole = io::write_all(STDOUT_FILENO, &out[0..bytes]);
-    if !whole {
-        os::fail(b"write");
-    }
-    whole
+    output.write_all(&out[0..bytes])
 }
 
 // What stands before the first step.
@@ -223,35 +221,45 @@ fn idle() -> Shown
 }
 
 // The steps over the whole input, through a buffer, a room for its scalars and a room for their lines: the step that is over, or
-// that a read or a write failed. The turns are more than any input takes.
-fn run(buffer: &mut [u8], room: &mut [u32], out: &mut [u8]) -> u8
+// the error of a read or a write. The turns are more than any input takes.
+fn run<R: Read, W: Write>(
+    input: &mut R,
+    output: &mut W,
+    buffer: &mut [u8],
+    room: &mut [u32],
+    out: &mut [u8],
+) -> io::Result<u8>
     requires { (length buffer.old < 2 ^ 32) × (length room.old ≤ 4099) × (32 * length room.old + 32 ≤ length out.old) }
-    ensures { 3 ≤ result }
+    ensures step { IfOk result (λ step. 3 ≤ step) }
+    ensures bytes { OnOk result (IfSome (R.remaining input.old) (λ all.
+        Whole (length buffer.old) (length room.old) all → Appends (W.contents output.old) (W.contents output.new) (printed all))) }
 {
     let mut s = idle();
     let mut step = FIRST;
     let mut turns: u64 = 0x4_0000_0000_0000;
     while step < OVER {
         if turns == 0 {
-            return FAILED;
+            return Ok(FAILED);
         }
         turns -= 1;
-        let n = fill(step, buffer);
-        if n > buffer.len() {
-            return FAILED;
-        }
+        let n = fill(step, input, buffer)?;
         s = turn(step, s, &buffer[0..n], room, out);
-        if !print(out, s.length) {
-            return FAILED;
-        }
+        print(output, out, s.length)?;
         step = next_step(step, s.refusal, n, buffer.len());
     }
-    step
+    Ok(step)
 }
 
-fn main() {
+fn main(rt: HostRuntime) -> io::Result<()> {
     let mut buffer = [0u8; 4096];
     let mut room = [0u32; 4099];
     let mut out = [0u8; 131200];
-    run(&mut buffer, &mut room, &mut out);
+    run(
+        &mut rt.stdin(),
+        &mut rt.stdout(),
+        &mut buffer,
+        &mut room,
+        &mut out,
+    )?;
+    Ok(())
 }
