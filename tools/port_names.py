@@ -2,8 +2,8 @@
 """Brings the repository's own names to the spelling of today's Rattle, after /opt/rattle/port/port.py has run, once, at the top.
 
 Words (functions, lemmas, fields, labels) become snake case. A dash stays where it joins the name of a definition to more words, as in
-`line_feeds-append`, where that name has two words or more or is a type; other dashes become `_`. Types and modules keep their camel case, and the constructors of `Family` the names that the
-standard gives the encodings. Plain structs and enums derive `Clone` and `Copy`, as they were copied before. Must-fail edits of definitions
+`line_feeds-append`, where that name has two words or more or is a type; other dashes become `_`. Types and modules keep their camel case, and the constructors of `Family` and `Writer` the
+spelling of the names of encodings. Plain structs and enums derive `Clone` and `Copy`, as they were copied before. Must-fail edits of definitions
 are spelled as the definitions are. Names in backticks in docs/ and README.md follow.
 
 usage: python3 tools/port_names.py          writes files in place, and prints names that fall together
@@ -16,8 +16,9 @@ import sys
 
 ROOT = os.path.dirname(os.path.dirname(os.path.abspath(__file__)))
 TOKEN = re.compile(r"[^\s(){};,.«»λ:\"`]+")
-KEEP = {"UTF-8", "single-byte", "windows-1252", "GB18030", "Big5", "EUC-JP", "ISO-2022-JP", "Shift-JIS", "EUC-KR", "Replacement", "UTF-16BE", "UTF-16LE", "x-user-defined"}
-# A lemma that would have the name of a definition gets `_lem`. A state of the decoder of ISO-2022-JP and a field of the variables of UTF-16
+# Names of encodings: the families of decoders, and the writers.
+KEEP = {"utf-8", "euc-jp", "iso-2022-jp", "shift-jis", "euc-kr", "UTF-8", "single-byte", "windows-1252", "GB18030", "Big5", "EUC-JP", "ISO-2022-JP", "Shift-JIS", "EUC-KR", "Replacement", "UTF-16BE", "UTF-16LE", "x-user-defined"}
+# A lemma that would have the name of a definition gets `_lem`; a field of a statement does not. A state of the decoder of ISO-2022-JP and a field of the variables of UTF-16
 # have one name. The others had lost their dashes already.
 CHOSEN = {"lead-byte": "lead_byte"}
 # Names under which a file brings others in, and parameters.
@@ -35,6 +36,24 @@ OTHERS = {
     "indexFits": "index_fits",
 }
 CHOSEN_IN = {
+    "crates/demands/specs/Samples.antt": {"gb18030-fourth": "gb18030_fourth"},
+    "crates/demands/proofs/Samples.antt": {"gb18030-fourth": "gb18030_fourth"},
+    "crates/demands/proofs/Shifts.antt": {"so-far": "so_far"},
+    "crates/encoder_spec/specs/Samples.antt": {"utf8-four": "utf8_four"},
+    "crates/encoder_spec/proofs/Samples.antt": {"utf8-four": "utf8_four"},
+    "crates/list_spec/specs/Samples.antt": {"first-line": "first_line"},
+    "crates/list_spec/proofs/Samples.antt": {"first-line": "first_line"},
+    "crates/replacements/proofs/Told.antt": {"so-far": "so_far"},
+    "crates/replacements_spec/specs/Statements.antt": {"first-place": "first_place"},
+    "crates/replacements_spec/proofs/Theorems.antt": {"first-place": "first_place"},
+    "crates/reverse_index_spec/specs/Statements.antt": {"no-entry": "no_entry"},
+    "crates/reverse_index_spec/proofs/Theorems.antt": {"no-entry": "no_entry"},
+    "crates/runs/proofs/Running.antt": {"so-far": "so_far"},
+    "crates/standard/specs/Encoders/Samples.antt": {"last-pair": "last_pair", "not-above": "not_above"},
+    "crates/standard/proofs/EncoderSamples.antt": {"last-pair": "last_pair", "not-above": "not_above"},
+    "crates/standard/specs/LineFeeds.antt": {"none-held": "none_held"},
+    "crates/standard/specs/Widths.antt": {"so-far": "so_far"},
+    "crates/standard/proofs/Widths.antt": {"so-far": "so_far"},
     "crates/demands/proofs/Theorems.antt": {"held_in": "held_in_lem"},
     "crates/encoder/proofs/Ones.antt": {"by_count": "by_count_lem"},
     "crates/reverse_index_spec/proofs/Lines.antt": {"no-entry": "no_entry_by"},

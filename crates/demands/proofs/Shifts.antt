@@ -299,7 +299,7 @@ label_end t e n k xs h q =
     let come = decode_comes t f 0 0 0 plain xs (lit≤ tt) (plain_comes 0 (shape_of f)) (λ z. absurd (omega arith)) in
     let quiet = none_at_end t f r.shift r.rest (reading (keeps f) (next t f) (next_laws t f) plain xs).waits in
     let feeds = ap line_feeds (shown_append r.items es) ∙ line_feeds-append (shown r.items) (shown es) in
-    totals_as_lem f n k ∙ comes_totals n k 0 (shape_of f) come (omega (arith, all_widths.so_far_lem t f plain xs)) (omega (arith, feeds, quiet))
+    totals_as_lem f n k ∙ comes_totals n k 0 (shape_of f) come (omega (arith, all_widths.so_far t f plain xs)) (omega (arith, feeds, quiet))
 
 pub end_totals : (t : Tables) (e m n k : ℕ) (xs : List ℕ) {p : Spot} {c l : ℕ} → ComesAt e m p c l → Rests e p xs → c + length xs ≤ n →
     k ≤ l + line_feeds (shown (end_from t e p xs)) → ended_totals (family e) n k ≡ true

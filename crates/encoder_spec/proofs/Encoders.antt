@@ -19,8 +19,8 @@ use Rattle.standard.specs.Encoders.Big5.{big5_over, big5_side, big5_encode}
 use Rattle.standard.specs.Encoders.EucJp.{jis0208_over, euc_jp_encode}
 use Rattle.standard.specs.Encoders.ShiftJis.{shift_jis_over, shift_jis_encode}
 use Rattle.standard.specs.Encoders.EucKr.{euc_kr_encode}
-use Rattle.standard.specs.Writers.{Writer, utf_8, single-byte, windows-1252, gbk, gb18030, big5, euc_jp_lem, iso_2022_jp}
-use Rattle.standard.specs.Writers.{shift_jis_lem, euc_kr_lem, x-user-defined, Coding, stateless, switching, coding}
+use Rattle.standard.specs.Writers.{Writer, utf-8, single-byte, windows-1252, gbk, gb18030, big5, euc-jp, iso-2022-jp}
+use Rattle.standard.specs.Writers.{shift-jis, euc-kr, x-user-defined, Coding, stateless, switching, coding}
 use Rattle.standard.proofs.Tests.{choose}
 
 -- It answers with bytes, or with an error that names a code point.
@@ -96,14 +96,14 @@ pub data Answers : Coding → Type 0 where
   switches : (look : Lookup) (katakana : List ℕ) → Answers (switching look katakana)
 
 pub answers : (w : Writer) (look : Lookup) (second : List ℕ) → Answers (coding w look second)
-answers utf_8 look second = answering utf8_answer
+answers utf-8 look second = answering utf8_answer
 answers single-byte look second = answering (single_byte-answer look)
 answers windows-1252 look second = answering (single_byte-answer (searching windows1252))
 answers gbk look second = answering (λ c. gb18030_answer look c true second)
 answers gb18030 look second = answering (λ c. gb18030_answer look c false second)
 answers big5 look second = answering (big5_answer look)
-answers euc_jp_lem look second = answering (euc_jp-answer look)
-answers iso_2022_jp look second = switches look second
-answers shift_jis_lem look second = answering (shift_jis-answer look)
-answers euc_kr_lem look second = answering (euc_kr-answer look)
+answers euc-jp look second = answering (euc_jp-answer look)
+answers iso-2022-jp look second = switches look second
+answers shift-jis look second = answering (shift_jis-answer look)
+answers euc-kr look second = answering (euc_kr-answer look)
 answers x-user-defined look second = answering user_defined-answer

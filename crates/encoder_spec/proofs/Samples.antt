@@ -48,7 +48,7 @@ unfolding every traits fits irregular count_from windows1252 digits reference se
 samples = record {
   sample_15_html = refl;
   sample_15_refusing = refl;
-  utf8_four_lem = refl;
+  utf8_four = refl;
   second_unwritable = refl;
   room_exact = refl;
   room_small = refl;

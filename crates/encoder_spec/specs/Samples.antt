@@ -34,7 +34,7 @@ euc_jp m p cells cs = writer_call 32 m 0 (lent (jis0208 p cells) (replicate 8836
 pub record Samples : Type 0 where
   pub sample_15_html : writer_call 21 0 0 no_tables (0x4E00 ∷ []) eight ≡ fills (0x26 ∷ 0x23 ∷ 0x31 ∷ 0x39 ∷ 0x39 ∷ 0x36 ∷ 0x38 ∷ 0x3B ∷ [])
   pub sample_15_refusing : writer_call 21 1 0 no_tables (0x4E00 ∷ []) eight ≡ stops [] 0
-  pub utf8_four_lem : writer_call 0 1 0 no_tables (0x1F4A9 ∷ []) eight ≡ fills (0xF0 ∷ 0x9F ∷ 0x92 ∷ 0xA9 ∷ [])
+  pub utf8_four : writer_call 0 1 0 no_tables (0x1F4A9 ∷ []) eight ≡ fills (0xF0 ∷ 0x9F ∷ 0x92 ∷ 0xA9 ∷ [])
   -- the bytes before the error are written, and its index is given
   pub second_unwritable : writer_call 21 1 0 no_tables (0x20AC ∷ 0x4E00 ∷ 0x41 ∷ []) eight ≡ stops (0x80 ∷ []) 1
   -- exactly the bytes need room, in refusing mode those before the error

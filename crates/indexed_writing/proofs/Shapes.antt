@@ -21,7 +21,7 @@ use Rattle.standard.specs.Encoders.EucJp.{jis0208_over, euc_jp_encode}
 use Rattle.standard.specs.Encoders.Iso2022Jp.{control, changed, changed_name}
 use Rattle.standard.specs.Encoders.ShiftJis.{shift_jis_over, shift_jis_encode}
 use Rattle.standard.specs.Encoders.EucKr.{euc_kr_encode}
-use Rattle.standard.specs.Writers.{Writer, utf_8, single-byte, windows-1252, gbk, gb18030, big5, euc_jp_lem, iso_2022_jp, shift_jis_lem, euc_kr_lem}
+use Rattle.standard.specs.Writers.{Writer, utf-8, single-byte, windows-1252, gbk, gb18030, big5, euc-jp, iso-2022-jp, shift-jis, euc-kr}
 use Rattle.standard.specs.Writers.{x-user-defined, coding}
 use Rattle.standard.specs.Ones.{One, shift_to, answered, plainly, changed_pair, iso2022_jp_encode, state_for, encode_one}
 use Rattle.reverse_index_spec.specs.Statements.{MissAlike}
@@ -121,14 +121,14 @@ module _ (look look' : Lookup) (A : MissAlike look look') where
 
 pub same_one : (w : Writer) (look look' : Lookup) (second : List ℕ) → MissAlike look look' → (s c : ℕ) →
     SameOne look look' (looked_up w second c) (encode_one (coding w look second) s c) (encode_one (coding w look' second) s c)
-same_one utf_8 look look' second A s c = one_self _
+same_one utf-8 look look' second A s c = one_self _
 same_one single-byte look look' second A s c = like_one look look' A s (like_single_byte look look' A c)
 same_one windows-1252 look look' second A s c = one_self _
 same_one gbk look look' second A s c = like_one look look' A s (like_gb18030 look look' A c true second)
 same_one gb18030 look look' second A s c = like_one look look' A s (like_gb18030 look look' A c false second)
 same_one big5 look look' second A s c = like_one look look' A s (like_big5 look look' A c)
-same_one euc_jp_lem look look' second A s c = like_one look look' A s (like_euc_jp look look' A c)
-same_one iso_2022_jp look look' second A s c = like_switched look look' A s c (like_iso_2022_jp look look' A c second)
-same_one shift_jis_lem look look' second A s c = like_one look look' A s (like_shift_jis look look' A c)
-same_one euc_kr_lem look look' second A s c = like_one look look' A s (like_euc_kr look look' A c)
+same_one euc-jp look look' second A s c = like_one look look' A s (like_euc_jp look look' A c)
+same_one iso-2022-jp look look' second A s c = like_switched look look' A s c (like_iso_2022_jp look look' A c second)
+same_one shift-jis look look' second A s c = like_one look look' A s (like_shift_jis look look' A c)
+same_one euc-kr look look' second A s c = like_one look look' A s (like_euc_kr look look' A c)
 same_one x-user-defined look look' second A s c = one_self _

@@ -6,7 +6,7 @@ use Rattle.standard.specs.Encodings.{Tables}
 use Rattle.standard.specs.Search.{PassedOver, Side, Lookup}
 use Rattle.standard.specs.Encoders.Pairs.{minus}
 use Rattle.standard.specs.Encoders.Iso2022Jp.{changed, changed_name}
-use Rattle.standard.specs.Writers.{Writer, utf_8, single-byte, windows-1252, gbk, gb18030, big5, euc_jp_lem, iso_2022_jp, shift_jis_lem, euc_kr_lem}
+use Rattle.standard.specs.Writers.{Writer, utf-8, single-byte, windows-1252, gbk, gb18030, big5, euc-jp, iso-2022-jp, shift-jis, euc-kr}
 use Rattle.standard.specs.Writers.{x-user-defined, coding}
 use Rattle.standard.specs.Ones.{One, encode_one}
 use Rattle.encoder_spec.specs.Writing.{Writing, writing}
@@ -19,16 +19,16 @@ use Rattle.indexed_writing.specs.Call.{indexed_call, indexed_calls}
 
 -- The code point that a writer looks up for a scalar.
 abbrev pub looked_up : Writer → List ℕ → ℕ → ℕ
-looked_up utf_8 second c = c
+looked_up utf-8 second c = c
 looked_up single-byte second c = c
 looked_up windows-1252 second c = c
 looked_up gbk second c = c
 looked_up gb18030 second c = c
 looked_up big5 second c = c
-looked_up euc_jp_lem second c = minus c
-looked_up iso_2022_jp second c = changed_name (changed second c) c
-looked_up shift_jis_lem second c = minus c
-looked_up euc_kr_lem second c = c
+looked_up euc-jp second c = minus c
+looked_up iso-2022-jp second c = changed_name (changed second c) c
+looked_up shift-jis second c = minus c
+looked_up euc-kr second c = c
 looked_up x-user-defined second c = c
 
 -- Bytes by two look-ups: the same, or both look-ups gave a pointer for the code point d.

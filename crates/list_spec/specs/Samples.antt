@@ -41,7 +41,7 @@ pub record Samples : Type 0 where
   -- 18 has the line of the second use
   pub used : Refuses "a\tv\nb\tw\n\r\nab\tx\na\ty\n" names 20 5 18
   -- the first line at fault, and within it 16, 17, 18
-  pub first_line_lem : Refuses "a\tv\na\tw\nc\n" names 15 2 18
+  pub first_line : Refuses "a\tv\na\tw\nc\n" names 15 2 18
   pub 16-before-17 : Refuses "c\tv\tw\n" names 5 1 16
   pub 16-before-18 : Refuses "a\tv\na\n" names 10 2 16
   -- 7: a cell short, and after the others

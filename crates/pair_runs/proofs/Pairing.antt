@@ -70,12 +70,12 @@ low_column y c p h = no_column y c (ranges_under y.trail y.divisor c p h)
 module _ (t1 t2 : List ℕ) (e : ℕ) (E : Paired e) where
   -- what holds of each of them
   each : (P : Type 0) → (e ≤ 30 → P) → (e ≡ 31 → P) → (e ≡ 32 → P) → (e ≡ 34 → P) → (e ≡ 35 → P) → P
-  each P gb18030 big5 euc_jp_lem shift_jis_lem euc_kr_lem =
+  each P gb18030 big5 euc-jp shift-jis euc-kr =
       split (leb e 30) (λ t. gb18030 (leb-true e 30 t)) (λ f30.
       split (eqb e 31) (λ t. big5 (eqb-true e 31 t)) (λ f31.
-      split (eqb e 32) (λ t. euc_jp_lem (eqb-true e 32 t)) (λ f32.
-      split (eqb e 34) (λ t. shift_jis_lem (eqb-true e 34 t)) (λ f34.
-      euc_kr_lem (is_last e E (leb-false e 30 f30) (eqb-false e 31 f31) (eqb-false e 32 f32) (eqb-false e 34 f34))))))
+      split (eqb e 32) (λ t. euc-jp (eqb-true e 32 t)) (λ f32.
+      split (eqb e 34) (λ t. shift-jis (eqb-true e 34 t)) (λ f34.
+      euc-kr (is_last e E (leb-false e 30 f30) (eqb-false e 31 f31) (eqb-false e 32 f32) (eqb-false e 34 f34))))))
 
   -- a lead with a row
   lead_row : (b : ℕ) → row e b < no_cell → (left_out e b ≡ false) × (leads (layout_of e) b ≡ true)

@@ -17,20 +17,20 @@ use Rattle.pair_writers.specs.Pairs.{low_of, high_of, cells_of, floor_of, pair_n
 module _ (P : Layout → ℕ → ℕ → ℕ → ℕ → Type 0)
     (gb18030 : P gb18030_layout 1 0 23940 0x8000)
     (big5 : P big5_layout 0 5023 19782 0x8000)
-    (euc_jp_lem : P euc_jp_layout 8836 11279 11280 0x8000)
-    (iso_2022_jp : P iso2022_jp_layout 8836 11279 11280 256)
-    (shift_jis_lem : P shift_jis_layout 8272 10715 11280 0x8000)
-    (euc_kr_lem : P euc_kr_layout 1 0 23940 0x8000) where
+    (euc-jp : P euc_jp_layout 8836 11279 11280 0x8000)
+    (iso-2022-jp : P iso2022_jp_layout 8836 11279 11280 256)
+    (shift-jis : P shift_jis_layout 8272 10715 11280 0x8000)
+    (euc-kr : P euc_kr_layout 1 0 23940 0x8000) where
   pub by_shape : (e : ℕ) → P (layout_of e) (low_of e) (high_of e) (cells_of e) (floor_of e)
   unfolding layout_of
   by_shape e =
       split (leb e 30) (λ t. let l = leb-true e 30 t in rw (t, ne_eqb e 33 (λ z. omega arith)) gb18030) (λ t.
       split (eqb e 31) (λ u. rw (eqb-true e 31 u) big5) (λ u.
-      split (eqb e 32) (λ v. rw (eqb-true e 32 v) euc_jp_lem) (λ v.
-      split (eqb e 33) (λ w. rw (eqb-true e 33 w) iso_2022_jp) (λ w.
-      split (eqb e 34) (λ x. rw (eqb-true e 34 x) shift_jis_lem) (λ x.
+      split (eqb e 32) (λ v. rw (eqb-true e 32 v) euc-jp) (λ v.
+      split (eqb e 33) (λ w. rw (eqb-true e 33 w) iso-2022-jp) (λ w.
+      split (eqb e 34) (λ x. rw (eqb-true e 34 x) shift-jis) (λ x.
       let l : 34 < e = omega (arith, leb-false e 30 t, eqb-false e 31 u, eqb-false e 32 v, eqb-false e 33 w, eqb-false e 34 x) in
-      rw (t, u, v, w, x, lt-leb e 33 (omega arith), lt-leb e 34 l) euc_kr_lem)))))
+      rw (t, u, v, w, x, lt-leb e 33 (omega arith), lt-leb e 34 l) euc-kr)))))
 
 -- A byte has at least the lower offset.
 two_low : (gap low high k : ℕ) → low ≤ high → low ≤ placed (two gap low high) k

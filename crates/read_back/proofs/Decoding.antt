@@ -17,7 +17,7 @@ use Rattle.standard.specs.Sequence.{Shift, text, Next, item, shift, plain}
 use Rattle.standard.specs.Next.{next}
 use Rattle.standard.specs.Decode.{Item, span, Read, decode, shown, broken}
 use Rattle.standard.specs.Encoders.Iso2022Jp.{ASCII, escape}
-use Rattle.standard.specs.Writers.{Writer, utf_8, single-byte, windows-1252, gbk, gb18030, big5, euc_jp_lem, iso_2022_jp, shift_jis_lem, euc_kr_lem}
+use Rattle.standard.specs.Writers.{Writer, utf-8, single-byte, windows-1252, gbk, gb18030, big5, euc-jp, iso-2022-jp, shift-jis, euc-kr}
 use Rattle.standard.specs.Writers.{x-user-defined, stateless, switching, coding, reader, reader_tables, writer_fits}
 use Rattle.standard.specs.Ones.{One, shift_to, finish_bytes, answered, plainly, iso2022_jp_encode, written_in, state_for, encode_one}
 use Rattle.standard.specs.Images.{iso_image, image, reader_shift, shifts, front}
@@ -180,8 +180,8 @@ plain_reads w t look encode e h S cs i u =
     let r = reads_all (plain_law w t look encode h S e) 0 cs refl i (rw e at u) in
     rw (e, r.1, append-nil) r.0
 
-iso_reads : (t : Tables) (look : Lookup) → writer_fits iso_2022_jp t ≡ true → Sound look t.first →
-    WrittenReads iso_2022_jp t (lent t.first []) look
+iso_reads : (t : Tables) (look : Lookup) → writer_fits iso-2022-jp t ≡ true → Sound look t.first →
+    WrittenReads iso-2022-jp t (lent t.first []) look
 iso_reads t look h S cs i u =
     let k = lent t.first [] in
     let f = and_left (fits ISO-2022-JP k) (eqb (length t.second) 63) h in
@@ -190,16 +190,16 @@ iso_reads t look h S cs i u =
 
 pub written_reads : (w : Writer) (t : Tables) (look : Lookup) → writer_fits w t ≡ true → Sound look t.first →
     WrittenReads w t (reader_tables w t) look
-written_reads utf_8 t look h S = plain_reads utf_8 t look _ refl h S
+written_reads utf-8 t look h S = plain_reads utf-8 t look _ refl h S
 written_reads single-byte t look h S = plain_reads single-byte t look _ refl h S
 written_reads windows-1252 t look h S = plain_reads windows-1252 t look _ refl h S
 written_reads gbk t look h S = plain_reads gbk t look _ refl h S
 written_reads gb18030 t look h S = plain_reads gb18030 t look _ refl h S
 written_reads big5 t look h S = plain_reads big5 t look _ refl h S
-written_reads euc_jp_lem t look h S = plain_reads euc_jp_lem t look _ refl h S
-written_reads iso_2022_jp t look h S = iso_reads t look h S
-written_reads shift_jis_lem t look h S = plain_reads shift_jis_lem t look _ refl h S
-written_reads euc_kr_lem t look h S = plain_reads euc_kr_lem t look _ refl h S
+written_reads euc-jp t look h S = plain_reads euc-jp t look _ refl h S
+written_reads iso-2022-jp t look h S = iso_reads t look h S
+written_reads shift-jis t look h S = plain_reads shift-jis t look _ refl h S
+written_reads euc-kr t look h S = plain_reads euc-kr t look _ refl h S
 written_reads x-user-defined t look h S = plain_reads x-user-defined t look _ refl h S
 
 -- Nothing written, nothing read, with any tables.

@@ -245,7 +245,7 @@ module _ (t : Tables) (e from : ℕ) (xs : List ℕ) where
 
   -- where the walk stands is behind the sequences read
   pub waiting_at : {at : ℕ} → at ≤ length xs → drop at xs ≡ early.rest → widths early.items ≡ at
-  waiting_at {at} h k = omega (arith, all_widths.so_far_lem t (family e) plain xs, ap length k, length-drop at xs)
+  waiting_at {at} h k = omega (arith, all_widths.so_far t (family e) plain xs, ap length k, length-drop at xs)
 
   pub waiting_few : length (replaced from early.items) ≤ widths early.items
   waiting_few = replaced_few from early.items (decode_wide t (family e) plain xs)

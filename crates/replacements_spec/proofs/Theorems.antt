@@ -101,5 +101,5 @@ module _ (t : Tables) (e rule : ℕ) (o : open_refusal e 0 rule ≡ 0) where
     each_byte = λ xs i h. owned i (items_of t e rule xs) (omega (arith, whole_wide t e (new_spot e rule) xs));
     rising = λ xs. rising 0 (length xs) (items_of t e rule xs) (all_wide t e (new_spot e rule) xs) (omega (arith, whole_wide t e (new_spot e rule) xs));
     none_right = λ ps last a. none ps last a (broken (is ps last a)) refl;
-    first_place_lem = λ ps last a. first ps last a (broken (is ps last a)) refl;
+    first_place = λ ps last a. first ps last a (broken (is ps last a)) refl;
   }

@@ -86,7 +86,7 @@ pub record Tells (t : Tables) (e rule : ℕ) : Type 0 where
   pub none_right : (ps : List Feed) (last : List ℕ) → AcceptsFeeds t (start e 1 rule) ps last →
       (replaced_in t e rule (joined_feeds ps) ≡ []) ↔ (reports (start e 1 rule) (cutting t ps last) ≡ [])
   -- and the first one's place is the place that is reported there
-  pub first_place_lem : (ps : List Feed) (last : List ℕ) → AcceptsFeeds t (start e 1 rule) ps last →
+  pub first_place : (ps : List Feed) (last : List ℕ) → AcceptsFeeds t (start e 1 rule) ps last →
       (r : Replaced) (rs : List Replaced) → replaced_in t e rule (joined_feeds ps) ≡ r ∷ rs →
       (handed : ℕ) × (line : ℕ) ×
       (reports (start e 1 rule) (cutting t ps last) ≡ record { handed = handed; place = r.place; line = line } ∷ [])

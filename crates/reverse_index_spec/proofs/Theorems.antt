@@ -80,7 +80,7 @@ unfolding indexed_line
 indexed_lines line table index = record {
   wrong_index = λ f. (rw f refl, rw f refl, rw f refl);
   as_without = λ f. (rw f refl, rw f refl);
-  no_entry_lem = split (fits (length table) (length index))
+  no_entry = split (fits (length table) (length index))
       (λ f. rw f (λ e. ((answers line table).unchanged e, line_index_kept line table index e)))
       (λ f. rw f (λ e. (refl, refl)));
 }

@@ -44,7 +44,7 @@ pub record IndexedLines (line table index : List ℕ) : Type 0 where
       ((indexed_line line table index).table ≡ table) × ((indexed_line line table index).index ≡ index)
   pub as_without : fits (length table) (length index) ≡ true → ((indexed_line line table index).answer ≡ (index_line line table).answer) ×
       ((indexed_line line table index).table ≡ (index_line line table).table)
-  pub no_entry_lem : (indexed_line line table index).answer.entry ≡ 0 →
+  pub no_entry : (indexed_line line table index).answer.entry ≡ 0 →
       ((indexed_line line table index).table ≡ table) × ((indexed_line line table index).index ≡ index)
 
 -- Whatever is asked and lent, lent cells keep their number.

@@ -150,8 +150,8 @@ ran_widths t f m {s} {s'} {xs} {ys} a =
     let r = decode (next t f) s' ys in
     omega (
       arith,
-      all_widths.so_far_lem t f s xs,
-      all_widths.so_far_lem t f s' ys,
+      all_widths.so_far t f s xs,
+      all_widths.so_far t f s' ys,
       ap (λ (r : Read). widths r.items) a.read,
       puts_widths a.items r,
       ap (λ (r : Read). length r.rest) a.read,

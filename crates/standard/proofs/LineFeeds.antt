@@ -95,7 +95,7 @@ line_feeds_lem t t' f k s held chunk w =
     let none = none_held_lem t' f k s held w in
     let is = (decode (next t f) s (held ++ chunk)).items in
     record {
-      none_held_lem = no_separators held none;
+      none_held = no_separators held none;
       whole = same_separators (shown is) chunk (chunk_separators t f k s held chunk none);
       up_to_error = same_separators (before is) (take (reach is) (held ++ chunk)) (before_separators t f k s (held ++ chunk)) ∙
           behind_none (reach is) held chunk (no_separators held none);

@@ -26,4 +26,4 @@ everything_widths t f s xs =
     rw (widths_append r.items (ending t f r.shift r.rest), (ending_is t f r.shift r.rest).wide) (decode_widths t f s xs)
 
 pub all_widths : Widths
-all_widths = record { so_far_lem = decode_widths; whole = everything_widths }
+all_widths = record { so_far = decode_widths; whole = everything_widths }

@@ -16,7 +16,7 @@ use Rattle.standard.specs.Search.{Lookup, Sound}
 use Rattle.standard.specs.Sequence.{Next, plain}
 use Rattle.standard.specs.Sequences.Utf8.{utf8}
 use Rattle.standard.specs.Next.{unmarked, next}
-use Rattle.standard.specs.Writers.{Writer, utf_8, single-byte, windows-1252, gbk, gb18030, big5, euc_jp_lem, iso_2022_jp, shift_jis_lem, euc_kr_lem}
+use Rattle.standard.specs.Writers.{Writer, utf-8, single-byte, windows-1252, gbk, gb18030, big5, euc-jp, iso-2022-jp, shift-jis, euc-kr}
 use Rattle.standard.specs.Writers.{x-user-defined, writer_of, stateless, coding, reader}
 use Rattle.standard.specs.Images.{jp_image, iso_image, image, jp_leaves_out, iso_leaves_out, leaves_out, OneScalar}
 use Rattle.standard.proofs.Tests.{choose, or_none_lem}
@@ -41,17 +41,17 @@ no_writer e w q = let z : ◌≡◌ {A = ℕ} 0 1 = cc in absurd (omega arith)
 pub reader_of : (e : ℕ) (w : Writer) → writer_of e ≡ some w → family e ≡ reader w
 unfolding writer_of
 reader_of e =
-    choose (Read e) (eqb e 0) (λ h. known e utf_8 (family_utf8 e (eqb-true e 0 h))) (λ h0.
+    choose (Read e) (eqb e 0) (λ h. known e utf-8 (family_utf8 e (eqb-true e 0 h))) (λ h0.
     choose (Read e) (eqb e 21) (λ h. known e windows-1252 (family_windows_1252 e (eqb-true e 21 h))) (λ h21.
     choose (Read e) (leb e 28)
     (λ h. known e single-byte (family_single_byte e (eqb-false e 0 h0) (eqb-false e 21 h21) (leb-true e 28 h))) (λ _.
     choose (Read e) (eqb e 29) (λ h. let q = eqb-true e 29 h in known e gbk (family_gb18030 e (omega arith) (omega arith))) (λ _.
     choose (Read e) (eqb e 30) (λ h. let q = eqb-true e 30 h in known e gb18030 (family_gb18030 e (omega arith) (omega arith))) (λ _.
     choose (Read e) (eqb e 31) (λ h. known e big5 (family_big5 e (eqb-true e 31 h))) (λ _.
-    choose (Read e) (eqb e 32) (λ h. known e euc_jp_lem (family_euc_jp e (eqb-true e 32 h))) (λ _.
-    choose (Read e) (eqb e 33) (λ h. known e iso_2022_jp (family_iso_2022_jp e (eqb-true e 33 h))) (λ _.
-    choose (Read e) (eqb e 34) (λ h. known e shift_jis_lem (family_shift_jis e (eqb-true e 34 h))) (λ _.
-    choose (Read e) (eqb e 35) (λ h. known e euc_kr_lem (family_euc_kr e (eqb-true e 35 h))) (λ _.
+    choose (Read e) (eqb e 32) (λ h. known e euc-jp (family_euc_jp e (eqb-true e 32 h))) (λ _.
+    choose (Read e) (eqb e 33) (λ h. known e iso-2022-jp (family_iso_2022_jp e (eqb-true e 33 h))) (λ _.
+    choose (Read e) (eqb e 34) (λ h. known e shift-jis (family_shift_jis e (eqb-true e 34 h))) (λ _.
+    choose (Read e) (eqb e 35) (λ h. known e euc-kr (family_euc_kr e (eqb-true e 35 h))) (λ _.
     choose (Read e) (eqb e 39) (λ h. known e x-user-defined (family_user_defined e (omega (arith, eqb-true e 39 h)))) (λ _.
     no_writer e)))))))))))
 
@@ -68,16 +68,16 @@ backs : (w : Writer) (t : Tables) (look : Lookup) (encode : ℕ → Result) → 
     coding w look t.second ≡ stateless encode → (c : ℕ) → is_scalar c ≡ true →
     ReadsBack (next t (reader w) plain) (image w t.second c) (encode c)
 unfolding next traits
-backs utf_8 t look encode h S e c v = same_encoder e (kept c (utf8_back c v))
+backs utf-8 t look encode h S e c v = same_encoder e (kept c (utf8_back c v))
 backs single-byte t look encode h S e c v = same_encoder e (single_byte-back t.first S c)
 backs windows-1252 t look encode h S e c v = same_encoder e (single_byte-back windows1252 (plain_sound windows1252) c)
 backs gbk t look encode h S e c v = same_encoder e (gb18030_back t (first_fits Family.GB18030 t h) S true c)
 backs gb18030 t look encode h S e c v = same_encoder e (gb18030_back t (first_fits Family.GB18030 t h) S false c)
 backs big5 t look encode h S e c v = same_encoder e (big5_back t (first_fits Family.Big5 t h) S c)
-backs euc_jp_lem t look encode h S e c v = same_encoder e (euc_jp-back t (first_fits Family.EUC-JP t h) S c)
-backs iso_2022_jp t look encode h S e c v = let z : ◌≡◌ {A = ℕ} 0 1 = cc in absurd (omega arith)
-backs shift_jis_lem t look encode h S e c v = same_encoder e (shift_jis-back t (first_fits Family.Shift-JIS t h) S c)
-backs euc_kr_lem t look encode h S e c v = same_encoder e (euc_kr-back t (first_fits Family.EUC-KR t h) S c)
+backs euc-jp t look encode h S e c v = same_encoder e (euc_jp-back t (first_fits Family.EUC-JP t h) S c)
+backs iso-2022-jp t look encode h S e c v = let z : ◌≡◌ {A = ℕ} 0 1 = cc in absurd (omega arith)
+backs shift-jis t look encode h S e c v = same_encoder e (shift_jis-back t (first_fits Family.Shift-JIS t h) S c)
+backs euc-kr t look encode h S e c v = same_encoder e (euc_kr-back t (first_fits Family.EUC-KR t h) S c)
 backs x-user-defined t look encode h S e c v = same_encoder e (user_defined-back c)
 
 pub one_scalar : OneScalar
@@ -96,14 +96,14 @@ iso_own katakana c h =
     rw (p.0, p.1)
 
 pub own_image : (w : Writer) (second : List ℕ) (c : ℕ) → leaves_out w c ≡ false → image w second c ≡ c
-own_image utf_8 second c h = refl
+own_image utf-8 second c h = refl
 own_image single-byte second c h = refl
 own_image windows-1252 second c h = refl
 own_image gbk second c h = refl
 own_image gb18030 second c h = refl
 own_image big5 second c h = refl
-own_image euc_jp_lem second c h = jp_own c h
-own_image iso_2022_jp second c h = iso_own second c h
-own_image shift_jis_lem second c h = jp_own c h
-own_image euc_kr_lem second c h = refl
+own_image euc-jp second c h = jp_own c h
+own_image iso-2022-jp second c h = iso_own second c h
+own_image shift-jis second c h = jp_own c h
+own_image euc-kr second c h = refl
 own_image x-user-defined second c h = refl

@@ -9,7 +9,7 @@ use Rattle.standard.specs.Encoders.Iso2022Jp.{changed, changed_name}
 use Rattle.standard.specs.Sequence.{Shift, text, shift, plain, scalar}
 use Rattle.standard.specs.Next.{next}
 use Rattle.standard.specs.Decode.{Item, span, Read, decode}
-use Rattle.standard.specs.Writers.{Writer, utf_8, single-byte, windows-1252, gbk, gb18030, big5, euc_jp_lem, iso_2022_jp, shift_jis_lem, euc_kr_lem}
+use Rattle.standard.specs.Writers.{Writer, utf-8, single-byte, windows-1252, gbk, gb18030, big5, euc-jp, iso-2022-jp, shift-jis, euc-kr}
 use Rattle.standard.specs.Writers.{x-user-defined, stateless, coding, reader}
 use Rattle.standard.specs.Ones.{shift_to, iso2022_jp_encode, written_in}
 
@@ -23,16 +23,16 @@ iso_image katakana c = changed_name (changed katakana c) c
 
 -- with the second table that the writer is lent
 abbrev pub image : Writer → List ℕ → ℕ → ℕ
-image utf_8 second c = c
+image utf-8 second c = c
 image single-byte second c = c
 image windows-1252 second c = c
 image gbk second c = c
 image gb18030 second c = c
 image big5 second c = c
-image euc_jp_lem second c = jp_image c
-image iso_2022_jp second c = iso_image second c
-image shift_jis_lem second c = jp_image c
-image euc_kr_lem second c = c
+image euc-jp second c = jp_image c
+image iso-2022-jp second c = iso_image second c
+image shift-jis second c = jp_image c
+image euc-kr second c = c
 image x-user-defined second c = c
 
 -- 02: the scalars that the read-back clause leaves out
@@ -43,16 +43,16 @@ abbrev pub iso_leaves_out : ℕ → Bool
 iso_leaves_out c = eqb c 0x2212 || within 0xFF61 c 0xFF9F
 
 abbrev pub leaves_out : Writer → ℕ → Bool
-leaves_out utf_8 c = false
+leaves_out utf-8 c = false
 leaves_out single-byte c = false
 leaves_out windows-1252 c = false
 leaves_out gbk c = false
 leaves_out gb18030 c = false
 leaves_out big5 c = false
-leaves_out euc_jp_lem c = jp_leaves_out c
-leaves_out iso_2022_jp c = iso_leaves_out c
-leaves_out shift_jis_lem c = jp_leaves_out c
-leaves_out euc_kr_lem c = false
+leaves_out euc-jp c = jp_leaves_out c
+leaves_out iso-2022-jp c = iso_leaves_out c
+leaves_out shift-jis c = jp_leaves_out c
+leaves_out euc-kr c = false
 leaves_out x-user-defined c = false
 
 -- The law of one scalar without a state; `proofs/Writers.antt` proves it. With tables that fit and any sound look-up, the bytes of a scalar, whatever

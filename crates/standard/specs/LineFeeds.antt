@@ -9,7 +9,7 @@ use Rattle.standard.specs.Decode.{decode, ending, shown, before, reach}
 
 -- Where separators are kept, of a chunk read behind the bytes held:
 pub record LineFeeds (t : Tables) (f : Family) (s : Shift) (held chunk : List ℕ) : Type 0 where
-  pub none_held_lem : line_feeds held ≡ 0
+  pub none_held : line_feeds held ≡ 0
   -- all that is read gives the line feeds of the chunk
   pub whole : line_feeds (shown (decode (next t f) s (held ++ chunk)).items) ≡ line_feeds chunk
   -- what stands before the first error gives those of the chunk up to there

@@ -7,7 +7,7 @@ use Rattle.standard.specs.Decode.{decode, widths, everything}
 
 pub record Widths : Type 0 where
   -- the widths of the sequences read, and the bytes held, are the bytes
-  pub so_far_lem : (t : Tables) (f : Family) (s : Shift) (xs : List ℕ) →
+  pub so_far : (t : Tables) (f : Family) (s : Shift) (xs : List ℕ) →
       let r = decode (next t f) s xs in widths r.items + length r.rest ≡ length xs
   -- with what the end of input gives for the bytes held, the widths are the bytes
   pub whole : (t : Tables) (f : Family) (s : Shift) (xs : List ℕ) → widths (everything t f s xs) ≡ length xs

@@ -18,21 +18,21 @@ use Rattle.standard.specs.Encoders.ShiftJis.{shift_jis_encode}
 use Rattle.standard.specs.Encoders.EucKr.{euc_kr_encode}
 
 pub data Writer : Type 0 where
-  utf_8 single-byte windows-1252 gbk gb18030 big5 euc_jp_lem iso_2022_jp shift_jis_lem euc_kr_lem x-user-defined : Writer
+  utf-8 single-byte windows-1252 gbk gb18030 big5 euc-jp iso-2022-jp shift-jis euc-kr x-user-defined : Writer
 
 -- The numbers that have a writer; the others have none (refusal 9).
 unfoldable pub writer_of : ℕ → Option Writer
 writer_of e =
-    eqb e 0 then some utf_8 else
+    eqb e 0 then some utf-8 else
     eqb e 21 then some windows-1252 else
     leb e 28 then some single-byte else
     eqb e 29 then some gbk else
     eqb e 30 then some gb18030 else
     eqb e 31 then some big5 else
-    eqb e 32 then some euc_jp_lem else
-    eqb e 33 then some iso_2022_jp else
-    eqb e 34 then some shift_jis_lem else
-    eqb e 35 then some euc_kr_lem else
+    eqb e 32 then some euc-jp else
+    eqb e 33 then some iso-2022-jp else
+    eqb e 34 then some shift-jis else
+    eqb e 35 then some euc-kr else
     eqb e 39 then some x-user-defined else
     none
 
@@ -44,16 +44,16 @@ pub data Coding : Type 0 where
 
 -- with a look-up in the first table that is lent, and with the second table
 abbrev pub coding : Writer → Lookup → List ℕ → Coding
-coding utf_8 look second = stateless utf8_encode
+coding utf-8 look second = stateless utf8_encode
 coding single-byte look second = stateless (single_byte_encode look)
 coding windows-1252 look second = stateless (single_byte_encode (searching windows1252))
 coding gbk look second = stateless (gb18030_encode true look second)
 coding gb18030 look second = stateless (gb18030_encode false look second)
 coding big5 look second = stateless (big5_encode look)
-coding euc_jp_lem look second = stateless (euc_jp_encode look)
-coding iso_2022_jp look second = switching look second
-coding shift_jis_lem look second = stateless (shift_jis_encode look)
-coding euc_kr_lem look second = stateless (euc_kr_encode look)
+coding euc-jp look second = stateless (euc_jp_encode look)
+coding iso-2022-jp look second = switching look second
+coding shift-jis look second = stateless (shift_jis_encode look)
+coding euc-kr look second = stateless (euc_kr_encode look)
 coding x-user-defined look second = stateless user_defined_encode
 
 -- step 1 of each encoder without variables, and the others
@@ -82,30 +82,30 @@ standard_encode e m s cs = run e.handler m (2 * length cs + 2) (e.at s) (stream 
 
 -- the decoder that reads a writer's bytes
 abbrev pub reader : Writer → Family
-reader utf_8 = Family.UTF-8
+reader utf-8 = Family.UTF-8
 reader single-byte = Family.single-byte
 reader windows-1252 = Family.windows-1252
 reader gbk = Family.GB18030
 reader gb18030 = Family.GB18030
 reader big5 = Family.Big5
-reader euc_jp_lem = Family.EUC-JP
-reader iso_2022_jp = Family.ISO-2022-JP
-reader shift_jis_lem = Family.Shift-JIS
-reader euc_kr_lem = Family.EUC-KR
+reader euc-jp = Family.EUC-JP
+reader iso-2022-jp = Family.ISO-2022-JP
+reader shift-jis = Family.Shift-JIS
+reader euc-kr = Family.EUC-KR
 reader x-user-defined = Family.x-user-defined
 
 -- (02) Is a writer lent the 63 cells of index ISO-2022-JP katakana as its second table, which its reader is not lent?
 abbrev pub lent_katakana : Writer → Bool
-lent_katakana utf_8 = false
+lent_katakana utf-8 = false
 lent_katakana single-byte = false
 lent_katakana windows-1252 = false
 lent_katakana gbk = false
 lent_katakana gb18030 = false
 lent_katakana big5 = false
-lent_katakana euc_jp_lem = false
-lent_katakana iso_2022_jp = true
-lent_katakana shift_jis_lem = false
-lent_katakana euc_kr_lem = false
+lent_katakana euc-jp = false
+lent_katakana iso-2022-jp = true
+lent_katakana shift-jis = false
+lent_katakana euc-kr = false
 lent_katakana x-user-defined = false
 
 -- the tables for reading what is written with these

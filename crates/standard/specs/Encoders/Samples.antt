@@ -105,9 +105,9 @@ pub record ChineseSamples : Type 0 where
   pub pointer_1237576 : gb18030 [] (189001 ∷ 0x10000 ∷ []) 0x10FFFF ≡ error_with 0x10FFFF
   -- the last pair whose code point is not above the scalar, though the first would do, or another has a nearer code point
   pub first_pair : gb18030 [] (5 ∷ 0x80 ∷ []) 0x80 ≡ tokens (0x81 ∷ 0x30 ∷ 0x81 ∷ 0x35 ∷ [])
-  pub last_pair_lem : gb18030 [] (5 ∷ 0x80 ∷ 10 ∷ 0x70 ∷ []) 0x80 ≡ tokens (0x81 ∷ 0x30 ∷ 0x83 ∷ 0x36 ∷ [])
+  pub last_pair : gb18030 [] (5 ∷ 0x80 ∷ 10 ∷ 0x70 ∷ []) 0x80 ≡ tokens (0x81 ∷ 0x30 ∷ 0x83 ∷ 0x36 ∷ [])
   pub list_order : gb18030 [] (100 ∷ 0x90 ∷ 0 ∷ 0x80 ∷ []) 0x95 ≡ tokens (0x81 ∷ 0x30 ∷ 0x83 ∷ 0x31 ∷ [])
-  pub not_above_lem : gb18030 [] (5 ∷ 0x80 ∷ 10 ∷ 0x82 ∷ []) 0x81 ≡ tokens (0x81 ∷ 0x30 ∷ 0x81 ∷ 0x36 ∷ [])
+  pub not_above : gb18030 [] (5 ∷ 0x80 ∷ 10 ∷ 0x82 ∷ []) 0x81 ≡ tokens (0x81 ∷ 0x30 ∷ 0x81 ∷ 0x36 ∷ [])
   -- its code point is any number
   pub surrogate_pair : gb18030 [] (0 ∷ 0xD800 ∷ []) 0xE000 ≡ tokens (0x81 ∷ 0x31 ∷ 0xCF ∷ 0x38 ∷ [])
   -- an error where there is none, or its pointer has no code point or another; no other pair is tried
