@@ -1,5 +1,7 @@
 -- What a step of the program leaves. Assumes nothing.
-use Rattle.std.specs.Prelude.{◌≡◌, Bool, List, ℕ}
+use Rattle.std.specs.Prelude.{◌≡◌, Bool, List, ℕ, ◌≤◌, eqb, length, take}
+use Rattle.std.specs.Io.KnownBytes.{Appends}
+use Rattle.std.specs.declared.option.Option.{Option}
 use Rattle.replacements_spec.specs.Calls.{Handed}
 use Rattle.program_text.specs.Places.{Put}
 use Rattle.mend_spec.specs.Program.{step_number, gives}
@@ -11,3 +13,14 @@ pub record Wrote (h : Handed) (more : Bool) (out report : List ℕ) (r : Mended)
   pub refusal : r.refusal ≡ step_number h more
   pub output : Put out 0 (gives h more).output r.written out'
   pub lines : Put report 0 (gives h more).report r.told report'
+
+-- What a step wrote stands in its rooms.
+pub record Few (r : Mended) (out report : List ℕ) : Type 0 where
+  pub text : r.written ≤ length out
+  pub lines : r.told ≤ length report
+
+-- What a step gave is written to both streams, and the program goes on where nothing was refused.
+pub record Flushed (output output' errors errors' : Option (List ℕ)) (s : Mended) (out report : List ℕ) (more : Bool) : Type 0 where
+  pub on : more ≡ eqb s.refusal 0
+  pub text : Appends output output' (take s.written out)
+  pub lines : Appends errors errors' (take s.told report)
