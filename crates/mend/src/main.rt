@@ -4,15 +4,15 @@
 
 mod lines;
 
-ghost use Rattle.std.specs.Prelude.{◌≡◌, ◌⊎◌, true, false, [], ◌+◌, ◌-◌, ◌*◌, ◌≤◌, ◌<◌, ◌^◌, length, take, IfOk, OnOk};
+ghost use Rattle.std.specs.Prelude.{◌≡◌, ◌⊎◌, true, false, [], ◌+◌, ◌-◌, ◌*◌, ◌≤◌, ◌<◌, ◌^◌, length, take, ◌++◌, IfOk, IfSome, OnOk};
 ghost use Rattle.std.specs.Io.KnownBytes.{Appends, Consumes, IsAtEnd};
 ghost use Rattle.standard.specs.Encodings.{lent};
 ghost use Rattle.labels_spec.specs.Labels.{label};
 ghost use Rattle.replacements_spec.specs.Calls.{feed_telling, finish_telling};
-ghost use Rattle.program_text.specs.Lines.{first_line, refused};
-ghost use Rattle.mend_spec.specs.Mended.{encoding_refusal, cells_of, begin_refusal};
+ghost use Rattle.program_text.specs.Lines.{first_line, after_line, refused};
+ghost use Rattle.mend_spec.specs.Mended.{encoding_refusal, cells_of, begin_refusal, mended_text};
 ghost use Rattle.mend_spec.specs.Program.{fitting, over, step_of};
-ghost use Rattle.mend.specs.Steps.{Wrote, Few, Flushed};
+ghost use Rattle.mend.specs.Steps.{Wrote, Few, Flushed, Written, Suits, Taken};
 ghost use Rattle.mend.specs.Files.{LoadsFile, Fills};
 ghost use Rattle.mend.specs.Code.{handed, Rooms, Told};
 
@@ -352,6 +352,10 @@ fn mend_text<R: Read, W: Write, E: Write>(
     report: &mut [u8],
 ) -> io::Result<()>
     requires { (read ≤ length buffer.old) × (length buffer.old < 2 ^ 32) × Rooms room.old spans.old out.old report.old }
+    ensures { OnOk result (IfSome (R.remaining console.old.input) (λ rest.
+        Taken encoding table.now × Suits (length buffer.old) room.old spans.old × (read < length buffer.old → rest ≡ []) →
+        Written (W.contents console.old.output) (W.contents console.new.output) (E.contents console.old.errors) (E.contents console.new.errors)
+        (mended_text (lent table.now []) encoding (after_line (take read buffer.old) ++ rest)))) }
 {
     let opened = Decoder::open(encoding, 0, 0);
     let first = after_line(&buffer[0..read]);
