@@ -5,22 +5,15 @@ use Rattle.standard.proofs.Tests.{within_low}
 use Rattle.utf8_runs.proofs.GoodUtf8.{good_two}
 use native.Mathlib.Omega.{arith}
 use Rattle.utf8_runs.proofs.two.Goals as goal
-use Rattle.utf8_runs.proofs.two.Goals.{Else-lead_length-gt2}
-
-leads : (c : Else-lead_length-gt2) → lead_length c.args.b0 ≡ 2
-leads c = omega (arith, c.lead_length.ensures, c.lead_length-2.ensures)
 
 pub returns-then-lead_length-lt2 : goal.returns-then-lead_length-lt2
 returns-then-lead_length-lt2 c = λ n. absurd (n refl)
 
-pub returns-then-lead_length-gt2 : goal.returns-then-lead_length-gt2
-returns-then-lead_length-gt2 c = λ n. absurd (n refl)
-
 pub overflow_sub-result : goal.overflow_sub-result
 overflow_sub-result c =
-    let at = c.before.before in
-    let args = at.args in
-    omega (arith, within_low 0xC2 args.b0 0xDF (in_two args.b0 (omega arith) (leads (goal.at.overflow_sub-result c).Else-lead_length-gt2)))
+    let args = c.args in
+    let leads : lead_length args.b0 ≡ 2 = omega (arith, c.lead_length.ensures, c.lead_length-2.ensures) in
+    omega (arith, within_low 0xC2 args.b0 0xDF (in_two args.b0 (omega arith) leads))
 
 pub overflow_sub-result-then-within : goal.overflow_sub-result-then-within
 overflow_sub-result-then-within c =
@@ -30,10 +23,10 @@ overflow_sub-result-then-within c =
 
 pub returns-then-within : goal.returns-then-within
 returns-then-within c =
-    let at = c.before.before in
-    let args = at.args in
+    let args = c.args in
+    let leads : lead_length args.b0 ≡ 2 = omega (arith, c.lead_length.ensures, c.lead_length-2.ensures) in
     let follows = sym c.within.ensures ∙ c.if-within.true in
-    λ n xs. good_two args.b0 (omega arith) args.b1 xs (leads (goal.at.returns-then-within c).Else-lead_length-gt2) follows
+    λ n xs. good_two args.b0 (omega arith) args.b1 xs leads follows
 
 pub returns : goal.returns
 returns c = λ n. absurd (n refl)
