@@ -3,7 +3,7 @@ use Rattle.std.proofs.Common.{◌≡◌, refl, sym, ap, ◌∙◌, subst, ℕ, �
 use Rattle.std.proofs.Math.Seq.{take-append_seam}
 use lib.Seq.{sets-eq}
 use borrow.Author.Tests.{le-ltb}
-use Rattle.index_loading.specs.Loading.{Loaded, loading}
+use Rattle.index_loading.specs.Loading.{loading}
 use Rattle.index_loading.specs.Steps.{Place, on_byte, on_bytes, on_end, loaded_at, placed, most, Stands, GoesOn}
 use Rattle.index_loading.specs.Statements.{fresh, joined, after_parts}
 use Rattle.index_loading.specs.declared.Loading.{Loading}

@@ -2,3 +2,4 @@ pub mod Begins
 pub mod Wrote
 pub mod Files
 pub mod Runs
+pub mod Whole

@@ -1,23 +1,22 @@
 -- The text, buffer after buffer, of an input that is known: what is read, written, and still to be written. Assumes nothing.
-use Rattle.std.proofs.Common.{◌≡◌, refl, sym, ap, ◌∙◌, subst, ℕ, zero, suc, ◌+◌, ◌*◌, ◌-◌, ◌≤◌, ◌<◌, Bool, true, false, List, [], ◌∷◌, ◌++◌, length, take, drop, length-drop, length-take, length-append, take_all, append_assoc, append-nil, zero-add, le_refl, arith, Option, None, Some, IfSome}
-use Rattle.std.proofs.Math.Dec.{ltb, eqb}
+use Rattle.std.proofs.Common.{◌≡◌, refl, sym, ap, ◌∙◌, subst, ℕ, zero, suc, ◌+◌, ◌*◌, ◌-◌, ◌≤◌, ◌<◌, Bool, true, false, List, [], ◌∷◌, ◌++◌, length, take, drop, length-drop, length-take, take_all, append_assoc, append-nil, le_refl, arith, Option, None, Some, IfSome}
+use Rattle.std.proofs.Math.Dec.{eqb}
 use Rattle.std.proofs.KnownBytes.{Appends-nil, Appends-trans}
 use Rattle.std.specs.Io.KnownBytes.{Appends, Consumes, IsAtEnd}
-use borrow.Author.Tests.{le-ltb, eq-eqb, ne_eqb, ltb-true, ltb-false, eqb-true, eqb-false}
+use borrow.Author.Tests.{le-ltb, eq-eqb, ne_eqb, ltb-false, eqb-true, eqb-false}
 use Rattle.std.proofs.lemmas.List.{take-append-drop}
 use Rattle.standard.specs.Base.{◌then◌else◌}
 use Rattle.standard.specs.Encodings.{Tables, family, fits}
-use Rattle.standard.specs.Items.{Item}
 use Rattle.standard.proofs.Tests.{split}
-use Rattle.decoder.specs.Calls.{Outcome, refuse, feed_refusal, read_on, feeding, open_refusal, opening}
+use Rattle.decoder.specs.Calls.{Outcome, feed_refusal, read_on, feeding, open_refusal, opening}
 use Rattle.decoder.specs.Record.{holding}
 use Rattle.decoder.specs.declared.Decoder.{Decoder}
 use Rattle.demands.specs.Histories.{History, start}
 use Rattle.demands.proofs.Steps.{handed_is, feed_is, opened_is}
-use Rattle.replacements_spec.specs.Calls.{Handed, telling, feed_tell_refusal, feed_telling, finish_telling}
+use Rattle.replacements_spec.specs.Calls.{Handed, feed_tell_refusal, feed_telling, finish_telling}
 use Rattle.replacements_spec.specs.Statements.{Piece, joined}
 use Rattle.mend_spec.specs.Mended.{Streams, mended_text}
-use Rattle.mend_spec.specs.Program.{fitting, over, step_of, step_number, gives, joins, nothing, text_by}
+use Rattle.mend_spec.specs.Program.{fitting, over, step_of, gives, joins, nothing, text_by}
 use Rattle.mend_spec.specs.Statements.{Roomy}
 use Rattle.mend_spec.proofs.Theorems.{mends}
 use Rattle.mend.specs.Steps.{Wrote, Few, Written, Suits}
@@ -109,9 +108,11 @@ module _ (d : Decoder) (t : Tables) (b room spans : List ℕ) {out report : List
   took : s.refusal ≡ 0 → (s.decoder.taken ≡ d.taken + length b) × (length b ≤ 4294967295 - d.taken)
   took z =
       let k = of_step told.answer.answer.refusal (over d b) (sym w.refusal ∙ z) in
-      let few = ltb-false (4294967295 - d.taken) (length b) k.1 in
-      (ap (λ (d : Decoder). d.taken) w.decoder ∙ tell_took d t (fitting d b) room spans k.0 ∙
-      ap (λ l. d.taken + length l) (take_all (4294967295 - d.taken) b few), few)
+      let few = ltb-false (4294967295 - d.taken) (length b) k.1 in (
+        ap (λ (d : Decoder). d.taken) w.decoder ∙ tell_took d t (fitting d b) room spans k.0 ∙
+            ap (λ l. d.taken + length l) (take_all (4294967295 - d.taken) b few),
+        few,
+      )
 
   abbrev piece : Piece
   piece = record { chunk = b; room = room; spans = spans }
@@ -140,12 +141,12 @@ pub record Head (t : Tables) (full : ℕ) (s : Mended) (out report : List ℕ) (
 pub suits_still : {full : ℕ} {room spans : List ℕ} (room' spans' : List ℕ) → length room' ≡ length room → length spans' ≡ length spans → Suits full room spans → Suits full room' spans'
 suits_still room' spans' p q s = record { low = s.low; high = s.high; scalars = omega (arith, s.scalars, p); told = omega (arith, s.told, q) }
 
-with_piece : {full : ℕ} (b : List ℕ) {room spans : List ℕ} → Suits full room spans → length b ≤ full → (ps : List Piece) (room' spans' : List ℕ) →
+pub with_piece : {full : ℕ} (b : List ℕ) {room spans : List ℕ} → Suits full room spans → length b ≤ full → (ps : List Piece) (room' spans' : List ℕ) →
     Roomy ps room' spans' → Roomy (record { chunk = b; room = room; spans = spans } ∷ ps) room' spans'
 unfolding Roomy
 with_piece b r h ps room' spans' g = (omega (arith, r.high, h), omega (arith, r.scalars, h), omega (arith, r.told, h), g)
 
-joined_piece : (b room spans : List ℕ) (ps : List Piece) → joined (record { chunk = b; room = room; spans = spans } ∷ ps) ≡ b ++ joined ps
+pub joined_piece : (b room spans : List ℕ) (ps : List Piece) → joined (record { chunk = b; room = room; spans = spans } ∷ ps) ≡ b ++ joined ps
 unfolding joined
 joined_piece b room spans ps = refl
 
@@ -165,9 +166,9 @@ module _ (t : Tables) (full : ℕ) {room spans : List ℕ} (r : Suits full room 
       record {
         mend = record {
           still = λ ps room' spans' y j.
-            ap (λ l. mended_text t e (b ++ l)) (sym j) ∙ ap (mended_text t e) (sym (joined_piece b room spans ps)) ∙
-            sym (mends.text t e (piece d t b room spans w ∷ ps) room' spans' a g (with_piece b r h ps room' spans' y)) ∙
-            unrolled d t b room spans w f o p ps room' spans';
+              ap (λ l. mended_text t e (b ++ l)) (sym j) ∙ ap (mended_text t e) (sym (joined_piece b room spans ps)) ∙
+              sym (mends.text t e (piece d t b room spans w ∷ ps) room' spans' a g (with_piece b r h ps room' spans' y)) ∙
+              unrolled d t b room spans w f o p ps room' spans';
         };
         short = short;
         left = λ z. let k = took d t b room spans w z in record { more = omega arith; filled = λ _. omega arith; taken = omega (arith, k.0, k.1, zero) };
@@ -186,12 +187,12 @@ module _ (t : Tables) (full : ℕ) {room spans : List ℕ} (r : Suits full room 
       record {
         mend = record {
           still = λ ps room' spans' y j.
-            let us = pending s₀ out₀ report₀ in
-            let all : joined (piece d t b room spans w ∷ ps) ≡ xs = joined_piece b room spans ps ∙ ap (λ l. b ++ l) j ∙ sym x in
-            let on : behind t s₀ (piece d t b room spans w ∷ ps) room' spans' ≡ text_by t d (piece d t b room spans w ∷ ps) room' spans' = rw (eq-eqb s₀.refusal 0 z) refl in
-            head.mend.still (piece d t b room spans w ∷ ps) room' spans' (with_piece b r (omega (arith, size, few)) ps room' spans' y) all ∙
-            ap (λ v. joins written (joins us v)) (on ∙ unrolled d t b room spans w f o p ps room' spans') ∙
-            sym (joins_assoc written us (joins (pending s out' report') (behind t s ps room' spans')));
+              let us = pending s₀ out₀ report₀ in
+              let all : joined (piece d t b room spans w ∷ ps) ≡ xs = joined_piece b room spans ps ∙ ap (λ l. b ++ l) j ∙ sym x in
+              let on : behind t s₀ (piece d t b room spans w ∷ ps) room' spans' ≡ text_by t d (piece d t b room spans w ∷ ps) room' spans' = rw (eq-eqb s₀.refusal 0 z) refl in
+              head.mend.still (piece d t b room spans w ∷ ps) room' spans' (with_piece b r (omega (arith, size, few)) ps room' spans' y) all ∙
+              ap (λ v. joins written (joins us v)) (on ∙ unrolled d t b room spans w f o p ps room' spans') ∙
+              sym (joins_assoc written us (joins (pending s out' report') (behind t s ps room' spans')));
         };
         short = short;
         left = λ z'. let q = took d t b room spans w z' in let m = l.filled k in record {

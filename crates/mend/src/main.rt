@@ -14,6 +14,7 @@ ghost use Rattle.mend_spec.specs.Mended.{encoding_refusal, cells_of, begin_refus
 ghost use Rattle.mend_spec.specs.Program.{fitting, over, step_of};
 ghost use Rattle.mend.specs.Steps.{Wrote, Few, Flushed, Written, Suits, Taken};
 ghost use Rattle.mend.specs.Files.{LoadsFile, Fills};
+ghost use Rattle.mend.specs.Whole.{Provided, WritesMended};
 ghost use Rattle.mend.specs.Code.{handed, Rooms, Told};
 
 use decoder::Decoder;
@@ -392,6 +393,9 @@ fn run<F: Files, R: Read, W: Write, E: Write>(
 ) -> io::Result<()>
     requires { (length buffer.old < 2 ^ 32) × (length out.old < 2 ^ 32) × (11280 ≤ length table.old) ×
         Rooms room.old spans.old out.old report.old }
+    ensures { OnOk result (IfSome (R.remaining console.old.input) (λ input.
+        Provided (length buffer.old) line.old table.old room.old spans.old →
+        WritesMended (W.contents console.old.output) (W.contents console.new.output) (E.contents console.old.errors) (E.contents console.new.errors) input)) }
 {
     let n = fill(&mut console.input, buffer)?;
     let begun = begin(&buffer[0..n]);

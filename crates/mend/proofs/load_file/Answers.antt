@@ -1,4 +1,4 @@
-use Rattle.std.proofs.Common.{◌≡◌, refl, ap, sym, ◌∙◌, ◌-◌, ◌++◌, [], take, length, lit≤, arith, rules, inr}
+use Rattle.std.proofs.Common.{◌≡◌, refl, ◌-◌, ◌++◌, [], take, lit≤, arith, rules, inr}
 use Rattle.std.proofs.KnownBytes.{Consumes-nil, Consumes-trans}
 use Rattle.index_loading.specs.Steps.{on_bytes}
 use Rattle.mend.proofs.Files.{loads_on, loads_end}

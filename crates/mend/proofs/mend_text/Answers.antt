@@ -1,12 +1,10 @@
-use Rattle.std.proofs.Common.{◌≡◌, refl, sym, ap, ◌∙◌, subst, ◌-◌, ◌≤◌, ◌<◌, ◌++◌, [], take, length, length-take-le, arith, rules}
+use Rattle.std.proofs.Common.{◌≡◌, refl, sym, ap, ◌∙◌, ◌-◌, ◌≤◌, ◌<◌, [], take, length, length-take-le, arith}
 use Rattle.std.proofs.KnownBytes.{Appends-trans}
 use borrow.Author.Tests.{eqb-true, eqb-false}
 use Rattle.standard.specs.Encodings.{lent}
 use Rattle.program_text.specs.Lines.{after_line}
 use Rattle.program_text.proofs.FirstLine.{after_few}
-use Rattle.mend_spec.specs.Mended.{Streams}
 use Rattle.mend_spec.specs.Program.{joins}
-use Rattle.mend.specs.Steps.{Flushed, Suits}
 use Rattle.mend.proofs.Runs.{joins_assoc, pending, suits_still, first_head, next_head, enough, at_end, at_refusal, known_first, known_next, known_end}
 use Rattle.mend.proofs.mend_text.Goals as goal
 

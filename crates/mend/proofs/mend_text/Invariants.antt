@@ -21,8 +21,8 @@ invariant-loop-turns g l = record {
       (g.W.Write.contents l.fn.console.output) (g.W.Write.contents l.console.output)
       (g.E.Write.contents l.fn.console.errors) (g.E.Write.contents l.console.errors)
       (λ all xs written. Taken l.encoding l.table × Suits (length l.fn.buffer) l.fn.room l.fn.spans × (l.read < length l.fn.buffer → all ≡ []) →
-          Head (lent l.table []) (length l.fn.buffer) l.s l.out l.report l.n l.turns xs
-          (mended_text (lent l.table []) l.encoding (after_line (take l.read l.fn.buffer) ++ all)) written);
+      Head (lent l.table []) (length l.fn.buffer) l.s l.out l.report l.n l.turns xs
+      (mended_text (lent l.table []) l.encoding (after_line (take l.read l.fn.buffer) ++ all)) written);
 }
 
 abbrev pub decreases-loop-turns : goal.decreases-loop-turns

@@ -40,13 +40,13 @@ put_spans-told-requires c = let t = c.requires.0 in
 
 text_few : (c : After-put_text-written) → c.put_text-written.result ≤ length c.put_text-written.new.out
 text_few c = let a = c.args in omega (
-      arith,
-      (c.put_text-written.ensures.put (text_room c)).behind,
-      utf8_few (take (a.a.answer.written - 0) a.room.now),
-      length-take (a.a.answer.written - 0) a.room.now,
-      c.requires.1.text,
-      c.put_text-written.auto.out,
-    )
+  arith,
+  (c.put_text-written.ensures.put (text_room c)).behind,
+  utf8_few (take (a.a.answer.written - 0) a.room.now),
+  length-take (a.a.answer.written - 0) a.room.now,
+  c.requires.1.text,
+  c.put_text-written.auto.out,
+)
 
 pub returns-then-refusal-eq0 : goal.returns-then-refusal-eq0
 returns-then-refusal-eq0 c =
