@@ -1,2 +1,5 @@
 pub mod Begins
 pub mod Wrote
+pub mod Files
+pub mod Runs
+pub mod Whole

@@ -1,2 +1,4 @@
 pub mod Steps
 pub mod Code
+pub mod Files
+pub mod Whole

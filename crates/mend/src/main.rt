@@ -4,15 +4,17 @@
 
 mod lines;
 
-ghost use Rattle.std.specs.Prelude.{◌≡◌, false, [], ◌+◌, ◌-◌, ◌*◌, ◌≤◌, ◌<◌, ◌^◌, length, take, IfOk, OnOk};
+ghost use Rattle.std.specs.Prelude.{◌≡◌, ◌⊎◌, true, false, [], ◌+◌, ◌-◌, ◌*◌, ◌≤◌, ◌<◌, ◌^◌, length, take, ◌++◌, IfOk, IfSome, OnOk};
 ghost use Rattle.std.specs.Io.KnownBytes.{Appends, Consumes, IsAtEnd};
 ghost use Rattle.standard.specs.Encodings.{lent};
 ghost use Rattle.labels_spec.specs.Labels.{label};
 ghost use Rattle.replacements_spec.specs.Calls.{feed_telling, finish_telling};
-ghost use Rattle.program_text.specs.Lines.{first_line};
-ghost use Rattle.mend_spec.specs.Mended.{encoding_refusal, cells_of, begin_refusal};
+ghost use Rattle.program_text.specs.Lines.{first_line, after_line, refused};
+ghost use Rattle.mend_spec.specs.Mended.{encoding_refusal, cells_of, begin_refusal, mended_text};
 ghost use Rattle.mend_spec.specs.Program.{fitting, over, step_of};
-ghost use Rattle.mend.specs.Steps.{Wrote};
+ghost use Rattle.mend.specs.Steps.{Wrote, Few, Flushed, Written, Suits, Taken};
+ghost use Rattle.mend.specs.Files.{LoadsFile, Fills};
+ghost use Rattle.mend.specs.Whole.{Provided, WritesMended};
 ghost use Rattle.mend.specs.Code.{handed, Rooms, Told};
 
 use decoder::Decoder;
@@ -128,8 +130,9 @@ fn write_step(
     report: &mut [u8],
 ) -> Mended
     requires { Told a room.now spans.now × Rooms room.now spans.now out.old report.old }
-    ensures { Wrote (handed a room.now spans.now) more out.old report.old
+    ensures wrote { Wrote (handed a room.now spans.now) more out.old report.old
         result out.new report.new }
+    ensures few { Few result out.new report.new }
 {
     let answer = a.answer;
     let decoder = answer.decoder;
@@ -177,8 +180,9 @@ fn mend_chunk(
     report: &mut [u8],
 ) -> Mended
     requires { Rooms room.old spans.old out.old report.old }
-    ensures { Wrote (feed_telling d (lent table.now []) (fitting d chunk.now) room.old spans.old)
+    ensures wrote { Wrote (feed_telling d (lent table.now []) (fitting d chunk.now) room.old spans.old)
         (over d chunk.now) out.old report.old result out.new report.new }
+    ensures few { Few result out.new report.new }
 {
     let n = fit(d.taken, chunk.len());
     let none = [0u32; 1];
@@ -196,8 +200,9 @@ fn mend_end(
     report: &mut [u8],
 ) -> Mended
     requires { Rooms room.old spans.old out.old report.old }
-    ensures { Wrote (finish_telling d (lent table.now []) room.old spans.old)
+    ensures wrote { Wrote (finish_telling d (lent table.now []) room.old spans.old)
         false out.old report.old result out.new report.new }
+    ensures few { Few result out.new report.new }
 {
     let none = [0u32; 1];
     let a = replacements::finish(d, table, &none[0..0], room, spans);
@@ -231,7 +236,10 @@ fn fill<R: Read>(from: &mut R, buffer: &mut [u8]) -> io::Result<usize>
 }
 
 // Writes the first bytes of a text; has it as many?
-fn print<W: Write>(to: &mut W, text: &[u8], bytes: usize) -> io::Result<bool> {
+fn print<W: Write>(to: &mut W, text: &[u8], bytes: usize) -> io::Result<bool>
+    ensures { IfOk result (λ whole. bytes ≤ length text.now →
+        (whole ≡ true) × Appends (W.contents to.old) (W.contents to.new) (take bytes text.now)) }
+{
     if text.len() < bytes {
         return Ok(false);
     }
@@ -245,7 +253,12 @@ fn flush<R, W: Write, E: Write>(
     s: Mended,
     out: &[u8],
     report: &[u8],
-) -> io::Result<bool> {
+) -> io::Result<bool>
+    ensures input { console.new.input ≡ console.old.input }
+    ensures streams { IfOk result (λ on. s.written ≤ length out.now → s.told ≤ length report.now →
+        Flushed (W.contents console.old.output) (W.contents console.new.output) (E.contents console.old.errors) (E.contents console.new.errors)
+        s out.now report.now on) }
+{
     if s.told != 0 {
         if !print(&mut console.errors, report, s.told)? {
             return Ok(false);
@@ -260,7 +273,9 @@ fn flush<R, W: Write, E: Write>(
 }
 
 // The report of a program that is refused before the text.
-fn refuse<W: Write>(to: &mut W, number: u8, report: &mut [u8]) -> io::Result<()> {
+fn refuse<W: Write>(to: &mut W, number: u8, report: &mut [u8]) -> io::Result<()>
+    ensures { OnOk result (32 ≤ length report.old → Appends (W.contents to.old) (W.contents to.new) (refused number)) }
+{
     let n = put_number(report, 0, b"refused", number as u64);
     print(to, report, n)?;
     Ok(())
@@ -282,6 +297,7 @@ fn open_index<F: Files>(files: &F, encoding: u8) -> Option<F::File> {
 // file takes.
 fn load_file<R: Read>(file: &mut R, buffer: &mut [u8], line: &mut [u8], table: &mut [u32]) -> u8
     requires { length buffer.old < 2 ^ 32 }
+    ensures { (result ≡ 4) ⊎ LoadsFile (R.remaining file.old) (R.remaining file.new) line.old table.old result table.new }
 {
     let mut s = Loading {
         length: 0,
@@ -312,6 +328,8 @@ fn load_table<F: Files>(
     table: &mut [u32],
 ) -> u8
     requires { length buffer.old < 2 ^ 32 }
+    ensures none { length table.old ≡ 0 → (result ≡ 0) × (table.new ≡ table.old) }
+    ensures file { 0 < length table.old → (result ≡ 4) ⊎ Fills line.old table.old result table.new }
 {
     if table.len() == 0 {
         return 0;
@@ -335,6 +353,10 @@ fn mend_text<R: Read, W: Write, E: Write>(
     report: &mut [u8],
 ) -> io::Result<()>
     requires { (read ≤ length buffer.old) × (length buffer.old < 2 ^ 32) × Rooms room.old spans.old out.old report.old }
+    ensures { OnOk result (IfSome (R.remaining console.old.input) (λ rest.
+        Taken encoding table.now × Suits (length buffer.old) room.old spans.old × (read < length buffer.old → rest ≡ []) →
+        Written (W.contents console.old.output) (W.contents console.new.output) (E.contents console.old.errors) (E.contents console.new.errors)
+        (mended_text (lent table.now []) encoding (after_line (take read buffer.old) ++ rest)))) }
 {
     let opened = Decoder::open(encoding, 0, 0);
     let first = after_line(&buffer[0..read]);
@@ -371,6 +393,9 @@ fn run<F: Files, R: Read, W: Write, E: Write>(
 ) -> io::Result<()>
     requires { (length buffer.old < 2 ^ 32) × (length out.old < 2 ^ 32) × (11280 ≤ length table.old) ×
         Rooms room.old spans.old out.old report.old }
+    ensures { OnOk result (IfSome (R.remaining console.old.input) (λ input.
+        Provided (length buffer.old) line.old table.old room.old spans.old →
+        WritesMended (W.contents console.old.output) (W.contents console.new.output) (E.contents console.old.errors) (E.contents console.new.errors) input)) }
 {
     let n = fill(&mut console.input, buffer)?;
     let begun = begin(&buffer[0..n]);

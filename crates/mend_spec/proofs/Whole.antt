@@ -60,12 +60,12 @@ second_none e h = by_family (λ f. second_fits (traits f).second 0 ≡ true) e (
   c39 = λ q. refl;
 })
 
-first_fits : (e : ℕ) (xs : List ℕ) → encoding_refusal e ≡ 0 → length xs ≡ cells_of e → fits (family e) (lent xs []) ≡ true
+pub first_fits : (e : ℕ) (xs : List ℕ) → encoding_refusal e ≡ 0 → length xs ≡ cells_of e → fits (family e) (lent xs []) ≡ true
 unfolding fits
 first_fits e xs h l = rw (eq-eqb (length xs) (traits (family e)).first l, second_none e h)
 
 -- no refusal: a known label, of an encoding that is taken
-begun : (r a : ℕ) → (eqb r 0 then a else 1) ≡ 0 → (r ≡ 0) × (a ≡ 0)
+pub begun : (r a : ℕ) → (eqb r 0 then a else 1) ≡ 0 → (r ≡ 0) × (a ≡ 0)
 begun r a h = go (eqb r 0) refl h
   where
     go : (b : Bool) → eqb r 0 ≡ b → (b then a else 1) ≡ 0 → (r ≡ 0) × (a ≡ 0)

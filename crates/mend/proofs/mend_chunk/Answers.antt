@@ -30,6 +30,9 @@ returns c =
     let a = c.args in
     let f = c.feed-a in
     let n = c.fit-n in
-    wrote_by (handed_left f.ensures ∙ ap (λ (c : List ℕ). feed_telling a.d (lent a.table.now []) c a.room.now a.spans.now)
-    (part_is a.d a.chunk.now n.ensures.0 n.ensures.1 n.ensures.2))
-    (more_is a.d a.chunk.now n.ensures.0 n.ensures.1 n.ensures.2) c.write_step.ensures
+    record {
+      wrote = wrote_by (handed_left f.ensures ∙ ap (λ (c : List ℕ). feed_telling a.d (lent a.table.now []) c a.room.now a.spans.now)
+          (part_is a.d a.chunk.now n.ensures.0 n.ensures.1 n.ensures.2))
+          (more_is a.d a.chunk.now n.ensures.0 n.ensures.1 n.ensures.2) c.write_step.ensures.wrote;
+      few = c.write_step.ensures.few;
+    }

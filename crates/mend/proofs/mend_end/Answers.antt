@@ -16,6 +16,4 @@ write_step-requires c =
     )
 
 pub returns : goal.returns
-returns c = wrote_by (handed_left
-    c.finish-a.ensures) refl
-    c.write_step.ensures
+returns c = record { wrote = wrote_by (handed_left c.finish-a.ensures) refl c.write_step.ensures.wrote; few = c.write_step.ensures.few }
