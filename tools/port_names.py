@@ -2,11 +2,13 @@
 """Brings the repository's own names to the spelling of today's Rattle, after /opt/rattle/port/port.py has run, once, at the top.
 
 Words (functions, lemmas, fields, labels) become snake case. A dash stays where it joins the name of a definition to more words, as in
-`line_feeds-append`, where that name has two words or more or is a type; other dashes become `_`. Types and modules keep their camel case, and the constructors of `Family` and `Writer` the
-spelling of the names of encodings. Plain structs and enums derive `Clone` and `Copy`, as they were copied before. Must-fail edits of definitions
-are spelled as the definitions are. Names in backticks in docs/ and README.md follow.
+`line_feeds-append`, where that name has two words or more or is a type; other dashes become `_`. Types and modules keep their camel
+case, and the constructors of `Family` and `Writer` the spelling of the names of encodings. Plain structs and enums derive `Clone` and
+`Copy`, as they were copied before. Must-fail edits of definitions are spelled as the definitions are. Names in backticks in docs/ and
+README.md follow.
 
-usage: python3 tools/port_names.py          writes files in place, and prints names that fall together
+usage: python3 tools/port_names.py [--dry] [--table]
+writes files in place (--dry: none) and prints names that fall together (--table: all that change)
 """
 
 import collections
@@ -114,6 +116,12 @@ def snake(word):
 
 
 def main():
+    if any(w not in ("--dry", "--table") for w in sys.argv[1:]):
+        print(__doc__)
+        return 2
+    if not any(is_walk(p) for p in walk(".antt")):
+        print("port_names: no walk is left, so the names were turned before: nothing to do")
+        return 2
     own, heads, foreign = set(), set(), set()
     for path in walk(".antt"):
         text = re.sub(r"(?m)(^|\s)--.*$", "", read(path))
