@@ -1,5 +1,5 @@
 #!/usr/bin/env python3
-"""Brings the repository's own names to the spelling of today's Rattle, after /opt/rattle/port/port.py has run, once, at the top.
+"""Brings the repository's own names to the spelling of today's Rattle, after the kit's port.py has run, once, at the top.
 
 Words (functions, lemmas, fields, labels) become snake case. A dash stays where it joins the name of a definition to more words, as in
 `line_feeds-append`, where that name has two words or more or is a type; other dashes become `_`. Types and modules keep their camel
