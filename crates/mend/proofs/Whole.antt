@@ -2,7 +2,7 @@
 use Rattle.std.proofs.Common.{◌≡◌, refl, sym, ap, ◌∙◌, subst, ℕ, ◌≤◌, ◌<◌, ◌⊎◌, true, List, [], ◌∷◌, ◌++◌, length, take, replicate, length-take-le, arith, Option, None, Some, IfSome}
 use Rattle.std.proofs.Math.Dec.{ltb, eqb}
 use Rattle.std.proofs.Math.Option.{some, none}
-use Rattle.std.proofs.Math.Option.{Option as File}
+use Rattle.std.proofs.Math.Option.{Option as Optional}
 use Rattle.std.specs.Io.KnownBytes.{Appends, Consumes, IsAtEnd}
 use Rattle.std.proofs.KnownBytes.{Appends-nil}
 use mathlib.Core.Logic.{⊎_elim}
@@ -50,10 +50,10 @@ module _ {full : ℕ} {room spans : List ℕ} (r : Suits full room spans) (b res
   abbrev ps : List Piece
   ps = parts.0
 
-  as_program : (file : File (List ℕ)) → mended file (b ++ rest) ≡ program file first ps room spans
+  as_program : (file : Optional (List ℕ)) → mended file (b ++ rest) ≡ program file first ps room spans
   as_program file = ap (λ l. mended file (b ++ l)) (sym parts.2) ∙ sym (mends.whole file first ps room spans parts.3 (with_piece b r few ps room spans parts.1))
 
-  pub by_refusal : (file : File (List ℕ)) → (begin_refusal b ≡ 0 → ⊥) → mended file (b ++ rest) ≡ refuses (begin_refusal b)
+  pub by_refusal : (file : Optional (List ℕ)) → (begin_refusal b ≡ 0 → ⊥) → mended file (b ++ rest) ≡ refuses (begin_refusal b)
   unfolding program
   by_refusal file z = as_program file ∙ rw (ne_eqb (begin_refusal b) 0 z) refl
 
@@ -77,7 +77,7 @@ module _ {full : ℕ} {room spans : List ℕ} (r : Suits full room spans) (b res
         mends.text t e (behind_line first ∷ ps) room spans known f (with_piece (after_line b) r (omega (arith, after_few b, few)) ps room spans parts.1) ∙
         ap (mended_text t e) (joined_piece (after_line b) room spans ps ∙ ap (λ l. after_line b ++ l) parts.2)
 
-    pub by_none : (file : File (List ℕ)) → cells_of e ≡ 0 → mended file (b ++ rest) ≡ mended_text (lent [] []) e (after_line b ++ rest)
+    pub by_none : (file : Optional (List ℕ)) → cells_of e ≡ 0 → mended file (b ++ rest) ≡ mended_text (lent [] []) e (after_line b ++ rest)
     unfolding program
     by_none file q = as_program file ∙ rw (eq-eqb (begin_refusal b) 0 z, eq-eqb (cells_of e) 0 q) (text no_tables (suits [] (sym q)))
 

@@ -1,7 +1,7 @@
 -- What the program comes to. Assumes nothing.
 use Rattle.std.specs.Prelude.{◌≡◌, List, ℕ, ◌≤◌, length, replicate}
 use Rattle.std.specs.declared.option.Option.{Option}
-use Rattle.std.proofs.Math.Option.{Option as File}
+use Rattle.std.proofs.Math.Option.{Option as Optional}
 use Rattle.mend_spec.specs.Mended.{mended}
 use Rattle.mend.specs.Steps.{Written, Suits}
 
@@ -14,5 +14,5 @@ pub record Provided (full : ℕ) (line table room spans : List ℕ) : Type 0 whe
 
 -- To both streams is written what is mended of an input, with some index file or with none.
 pub record WritesMended (output output' errors errors' : Option (List ℕ)) (input : List ℕ) : Type 0 where
-  pub file : File (List ℕ)
+  pub file : Optional (List ℕ)
   pub written : Written output output' errors errors' (mended file input)

@@ -2,3 +2,4 @@ pub mod FirstLine
 pub mod Numbers
 pub mod Texts
 pub mod Utf8Texts
+pub mod Refills

@@ -3,7 +3,7 @@
 
 mod lines;
 
-ghost use Rattle.std.specs.Prelude.{◌≡◌, ◌+◌, ◌*◌, ◌≤◌, ◌<◌, ◌^◌, length, take, IfOk, IfSome, OnOk};
+ghost use Rattle.std.specs.Prelude.{◌≡◌, ℕ, ◌+◌, ◌*◌, ◌≤◌, ◌<◌, ◌^◌, length, take, IfOk, IfSome, OnOk, OnErr};
 ghost use Rattle.std.specs.Io.KnownBytes.{Appends, Consumes, IsAtEnd};
 ghost use Rattle.standard.specs.Encodings.{no_tables};
 ghost use Rattle.decoder.specs.Calls.{feeding, finishing};
@@ -183,6 +183,7 @@ fn fill<R: Read>(step: u8, input: &mut R, buffer: &mut [u8]) -> io::Result<usize
     ensures bytes { IfOk result (λ n. Consumes (R.remaining input.old) (R.remaining input.new) (take n buffer.new)) }
     ensures end { IfOk result (λ n. step < 2 → n < length buffer.old → IsAtEnd (R.remaining input.new)) }
     ensures last { IfOk result (λ n. step ≡ 2 → n ≡ 0) }
+    ensures err { OnErr result ((n : ℕ) × (n ≤ length buffer.old) × Consumes (R.remaining input.old) (R.remaining input.new) (take n buffer.new)) }
 {
     if step == LAST {
         return Ok(0);
