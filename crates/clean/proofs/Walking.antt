@@ -3,11 +3,10 @@
 use mathlib.Core.Path.{◌≡◌, refl, sym, ap, ◌∙◌}
 use mathlib.Core.Bool.{true, false}
 use mathlib.Core.List.{List, [], ◌∷◌, ◌++◌, append-nil}
-use Prim.Native.Nat.{ℕ, ◌+◌, ◌-◌, ◌≤◌}
+use Prim.Native.Nat.{ℕ, ◌+◌, ◌≤◌}
 use native.Mathlib.Omega.{arith}
 use lib.Dec.{eqb, lit≤}
-use lib.ListN.{length, take, drop, length-append, take-append-drop}
-use lib.Seq.{drop-drop}
+use lib.ListN.{length, length-append}
 use borrow.Author.Tests.{ne_eqb}
 use Rattle.standard.specs.Encodings.{Tables}
 use Rattle.decoder.specs.Calls.{opening, feeding, finishing}
@@ -38,13 +37,6 @@ walked_none e t xs h = record {
       (checks e t xs h).by_calls ps last j
       ((demand_2 t e 1 0 a.opens).rooms_suffice ps last a.fit (rw j (omega (arith, a.few))) r);
 }
-
--- the bytes from a place on, cut at a further one
-pub cut_at : (at end : ℕ) (xs : List ℕ) → at ≤ end → drop at xs ≡ take (end - at) (drop at xs) ++ drop end xs
-cut_at at end xs h =
-    let n : at + (end - at) ≡ end = omega arith in
-    sym (ap (λ (ys : List ℕ). take (end - at) (drop at xs) ++ ys) (sym (drop-drop (end - at) at xs ∙ ap (λ (n : ℕ). drop n xs) n)) ∙
-    take-append-drop (end - at) (drop at xs))
 
 module _ (t : Tables) (answer : Checked) (d : Decoder) (chunk room rest : List ℕ) (w : Walked t answer (chunk ++ rest) d)
     (few : length chunk ≤ 65536) (fits : length chunk + 3 ≤ length room) (a : Answer) (k : a ≡ (feeding d t chunk room).answer) where

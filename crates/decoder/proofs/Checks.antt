@@ -1,12 +1,12 @@
 -- What the code's tests of a record and of a call come to. Assumes nothing.
-use mathlib.Core.Path.{◌≡◌, refl, sym, ap, ◌∙◌}
+use mathlib.Core.Path.{◌≡◌, refl, sym, ap, subst, ◌∙◌}
 use mathlib.Core.Bool.{Bool, true, false, ◌&&◌, ◌||◌, not}
 use mathlib.Core.List.{List, [], ◌∷◌}
 use Prim.Native.Nat.{ℕ, zero, suc, ◌+◌, ◌-◌, ◌≤◌, ◌<◌}
 use native.Mathlib.Omega.{arith}
 use lib.Dec.{ltb, leb, eqb}
 use lib.ListN.{length, take}
-use borrow.Author.Tests.{ltb-true, ltb-false, eqb-false, le-leb, lt-leb, le-ltb, lt-ltb, ne_eqb, eq-eqb}
+use borrow.Author.Tests.{ltb-true, ltb-false, le-ltb, lt-ltb, ne_eqb, eq-eqb}
 use Rattle.standard.specs.Base.{◌then◌else◌, line_feeds}
 use Rattle.standard.specs.Encodings.{Family, family, Tables, no_tables, fits}
 use Rattle.standard.specs.Sequence.{Shift, Next, more, item, shift, plain}
@@ -15,20 +15,26 @@ use Rattle.standard.specs.Items.{shown, broken, before, reach}
 use Rattle.standard.specs.Choice.{Choice, waiting, label, marked, choose, reader, Spot, spot, Parsed, is_more, is_waiting, rests}
 use Rattle.standard.proofs.Tests.{split}
 use Rattle.standard.proofs.AnyTables.{more_any}
-use Rattle.standard.proofs.Stages.{at_mark, not_one, none_rest}
-use Rattle.sequences.specs.Code.{next_of, out_of, front}
+use Rattle.standard.proofs.Stages.{none_rest}
+use Rattle.std.specs.Prelude.{Option, Some, None, is_some, Result}
+use Rattle.sequences.specs.Code.{next_of, front}
 use Rattle.sequences.specs.declared.Sequence.{Sequence}
-use Rattle.reading.specs.Reading.{chosen_of, Result, refused, wrote, read_chunk}
+use Rattle.reading.specs.Reading.{chosen_of, ReadOutcome, refused, reported, wrote, read_chunk}
 use Rattle.reading.specs.Reading.{read_end as reading_end}
 use Rattle.reading.specs.declared.choice.Chosen.{Chosen}
+use Rattle.reading.specs.declared.choice.Chosen.TheVariants.{Waits, Label, Marked}
 use Rattle.reading.specs.declared.Left.{Left}
+use Rattle.reading.specs.declared.Refusal.TheVariants.{RoomTooSmall, ChunkTooLong, TotalTooLarge}
+use Rattle.reading.specs.declared.Stop.{Stop}
 use Rattle.decoder.specs.Record.{shift_of, spot_of, held_of, new, closed}
-use Rattle.decoder.specs.Valid.{possible_at, ended_totals, unused, valid_rest, valid}
+use Rattle.decoder.specs.Valid.{possible_at, valid_rest, valid}
 use Rattle.decoder.specs.Calls.{open_refusal, opening, Outcome, refuse, write, report}
 use Rattle.decoder.specs.Calls.{read_on, feed_refusal, feeding, read_end, finish_refusal, finishing}
-use Rattle.decoder.specs.Code.{accepting, refusing, held_in, still_to_take, record_refusal, misfit, Answers, fed, finished}
+use Rattle.decoder.specs.Code.{number, accepting, refusing, held_in, still_to_take, record_refusal, misfit, Answers, fed, finished}
 use Rattle.decoder.specs.declared.Decoder.{Decoder}
 use Rattle.decoder.specs.declared.Answer.{Answer}
+use Rattle.decoder.specs.declared.refusals.Refusal.{Refusal}
+use Rattle.decoder.specs.declared.refusals.Refusal.TheVariants.{UnknownEncoding, UnknownMode, TablesMisfit, InvalidRecord, Ended}
 use Rattle.decoder.proofs.Parts.{parts}
 
 -- whether more bytes are wanted does not depend on the tables
@@ -41,12 +47,9 @@ more_same t t' f s xs = go (next t f s xs) (next t' f s xs) refl refl
     go (item w s' o) more p q = let z : item w s' o ≡ more = sym p ∙ more_any t' t f s xs q in ap is_more z
     go (item w s' o) (item w' s'' o') p q = refl
 
-more_of : (q : Sequence) → is_more (next_of q) ≡ eqb q.width 0
-more_of q = go (eqb q.width 0)
-  where
-    go : (b : Bool) → is_more (b then more else item q.width (shift q.state (eqb q.flag 1)) (out_of q)) ≡ b
-    go true = refl
-    go false = refl
+more_of : (r : Option Sequence) → is_more (next_of r) ≡ not (is_some r)
+more_of None = refl
+more_of (Some q) = refl
 
 front_held : (n a b c : ℕ) → n ≤ 3 → front n a b c 0 ≡ take n (a ∷ b ∷ c ∷ [])
 front_held zero a b c h = refl
@@ -63,24 +66,34 @@ none_started d h =
     sym (ap (λ (n : ℕ). rests e p (take n (d.first ∷ d.second ∷ d.third ∷ []))) h ∙ none_rest e p)
 
 -- bytes that wait for the choice
-waits : (xs : List ℕ) → eqb (chosen_of (choose xs)).stage 1 ≡ is_waiting (choose xs)
-waits xs = go (choose xs) refl
+abbrev pub is_waits : Chosen → Bool
+is_waits Waits = true
+is_waits Label = false
+is_waits (Marked w g) = false
+
+pub not_waits : (c : Chosen) → (c ≡ Waits → ⊥) → is_waits c ≡ false
+not_waits Waits h = absurd (h refl)
+not_waits Label h = refl
+not_waits (Marked w g) h = refl
+
+waits : (xs : List ℕ) → is_waits (chosen_of (choose xs)) ≡ is_waiting (choose xs)
+waits xs = go (choose xs)
   where
-    go : (c : Choice) → choose xs ≡ c → eqb (chosen_of c).stage 1 ≡ is_waiting c
-    go waiting e = refl
-    go label e = refl
-    go (marked w g) e = not_one g (at_mark xs e).low
+    go : (c : Choice) → is_waits (chosen_of c) ≡ is_waiting c
+    go waiting = refl
+    go label = refl
+    go (marked w g) = refl
 
 pub waits_is : (d : Decoder) (c : Chosen) → d.stage ≡ 1 → c ≡ chosen_of (choose (held_of d)) →
-    eqb c.stage 1 ≡ rests d.encoding (spot_of d) (held_of d)
+    is_waits c ≡ rests d.encoding (spot_of d) (held_of d)
 unfolding rests
-waits_is d c g e = ap (λ (c : Chosen). eqb c.stage 1) e ∙ waits (held_of d) ∙ sym (rw (eq-eqb d.stage 1 g))
+waits_is d c g e = ap is_waits e ∙ waits (held_of d) ∙ sym (rw (eq-eqb d.stage 1 g))
 
 -- bytes of a sequence, by the encoding r that reads
-pub started_is : (d : Decoder) (t : Tables) (r : ℕ) (q : Sequence) →
+pub started_is : (d : Decoder) (t : Tables) (r : ℕ) (q : Option Sequence) →
     (d.stage ≡ 1 → ⊥) → r ≡ reader d.encoding d.stage → d.held ≤ 3 →
     next_of q ≡ next t (family r) (shift d.state (eqb d.flag 1)) (front d.held d.first d.second d.third 0) →
-    eqb q.width 0 ≡ rests d.encoding (spot_of d) (held_of d)
+    not (is_some q) ≡ rests d.encoding (spot_of d) (held_of d)
 unfolding rests
 started_is d t r q n e h k =
     let s = shift_of d in
@@ -88,62 +101,12 @@ started_is d t r q n e h k =
     more_same t no_tables (family r) s (held_of d) ∙
     sym (rw (ne_eqb d.stage 1 n) (ap (λ (r : ℕ). is_more (next no_tables (family r) s (held_of d))) (sym e)))
 
--- the bytes that are not in use
+-- the test of a record that has not ended
 module _ (d : Decoder) where
-  pub unused_yes : (ltb 2 d.held || eqb d.third 0) ≡ true → (ltb 1 d.held || eqb d.second 0) ≡ true →
-      unused d ≡ (ltb 0 d.held || eqb d.first 0)
-  unfolding unused
-  unused_yes p q = rw (p, q)
-
-  pub unused_second : (ltb 2 d.held || eqb d.third 0) ≡ true → (ltb 1 d.held || eqb d.second 0) ≡ false → unused d ≡ false
-  unfolding unused
-  unused_second p q = rw (p, q)
-
-  pub unused_third : (ltb 2 d.held || eqb d.third 0) ≡ false → unused d ≡ false
-  unfolding unused
-  unused_third p = rw p
-
-  -- the test of a record that has ended, and of one that has not
   pub rest_open : (d.ended ≡ 1 → ⊥) → valid_rest d ≡ leb d.held d.taken &&
       possible_at d.encoding d.mode (spot_of d) (d.taken - d.held) d.lines && rests d.encoding (spot_of d) (held_of d)
   unfolding valid_rest
   rest_open n = rw (ne_eqb d.ended 1 n)
-
-  pub rest_ended : d.ended ≡ 1 → valid_rest d ≡ eqb d.held 0 && eqb d.stage 0 && eqb d.state 0 && eqb d.flag 0 &&
-      ended_totals (family d.encoding) d.taken d.lines
-  unfolding valid_rest
-  rest_ended n = rw (eq-eqb d.ended 1 n)
-
-  pub no_encoding : 39 < d.encoding → valid d ≡ false
-  unfolding valid
-  no_encoding a = rw (lt-leb d.encoding 39 a)
-
-  pub no_mode : d.encoding ≤ 39 → 1 < d.mode → valid d ≡ false
-  unfolding valid
-  no_mode a b = rw (le-leb d.encoding 39 a, lt-leb d.mode 1 b)
-
-  pub no_flag : d.encoding ≤ 39 → d.mode ≤ 1 → 1 < d.flag → valid d ≡ false
-  unfolding valid
-  no_flag a b c = rw (le-leb d.encoding 39 a, le-leb d.mode 1 b, lt-leb d.flag 1 c)
-
-  pub no_held : d.encoding ≤ 39 → d.mode ≤ 1 → d.flag ≤ 1 → 3 < d.held → valid d ≡ false
-  unfolding valid
-  no_held a b c h = rw (le-leb d.encoding 39 a, le-leb d.mode 1 b, le-leb d.flag 1 c, lt-leb d.held 3 h)
-
-  pub no_ended : d.encoding ≤ 39 → d.mode ≤ 1 → d.flag ≤ 1 → d.held ≤ 3 → 1 < d.ended → valid d ≡ false
-  unfolding valid
-  no_ended a b c h n =
-      rw (le-leb d.encoding 39 a, le-leb d.mode 1 b, le-leb d.flag 1 c, le-leb d.held 3 h, lt-leb d.ended 1 n)
-
-  pub no_unused : d.encoding ≤ 39 → d.mode ≤ 1 → d.flag ≤ 1 → d.held ≤ 3 → d.ended ≤ 1 → unused d ≡ false → valid d ≡ false
-  unfolding valid
-  no_unused a b c h n u =
-      rw (le-leb d.encoding 39 a, le-leb d.mode 1 b, le-leb d.flag 1 c, le-leb d.held 3 h, le-leb d.ended 1 n, u)
-
-  pub valid_rest_lem : d.encoding ≤ 39 → d.mode ≤ 1 → d.flag ≤ 1 → d.held ≤ 3 → d.ended ≤ 1 → unused d ≡ true → valid d ≡ valid_rest d
-  unfolding valid
-  valid_rest_lem a b c h n u =
-      rw (le-leb d.encoding 39 a, le-leb d.mode 1 b, le-leb d.flag 1 c, le-leb d.held 3 h, le-leb d.ended 1 n, u)
 
 -- the refusal that a record alone gives
 module _ (d : Decoder) where
@@ -183,11 +146,19 @@ record_refused d room o n = go (valid d) (eqb d.ended 1)
     go true true z = refl
     go true false z = absurd (z refl)
 
+-- every refusal has a number
+pub some_number : (r : Refusal) → number r ≡ 0 → ⊥
+some_number UnknownEncoding h = absurd (omega arith)
+some_number UnknownMode h = absurd (omega arith)
+some_number TablesMisfit h = absurd (omega arith)
+some_number InvalidRecord h = absurd (omega arith)
+some_number Ended h = absurd (omega arith)
+
 -- what reading leaves, by the test for a report
-unfoldable pub handed_by_lem : Parsed → List ℕ → Bool → Result
+unfoldable pub handed_by_lem : Parsed → List ℕ → Bool → ReadOutcome
 handed_by_lem x room b =
-    b then wrote 11 (reach x.items) (before x.items) (spot 0 plain) [] room else
-    wrote 0 0 (shown x.items) x.spot x.rest room
+    b then reported (reach x.items) (before x.items) room else
+    wrote (shown x.items) x.spot x.rest room
 
 -- The answer of a call after which n bytes are taken: what it hands out, and its refusals.
 module _ (d : Decoder) (n : ℕ) (after : ℕ → Spot → List ℕ → Decoder) where
@@ -197,15 +168,11 @@ module _ (d : Decoder) (n : ℕ) (after : ℕ → Spot → List ℕ → Decoder)
       b then report (d.taken - d.held + reach x.items) (1 + k) (before x.items) (closed d.encoding d.mode n k) room else
       write (shown x.items) (after (d.lines + line_feeds (shown x.items)) x.spot x.rest) room
 
-  handed_agree : (x : Parsed) (room : List ℕ) {l : Left} {a : Answer} {room' : List ℕ} → Answers d n after l a → (b : Bool) →
-      l ≡ (handed_by_lem x room b).left → room' ≡ (handed_by_lem x room b).room → (a ≡ (out_by x room b).answer) × (room' ≡ (out_by x room b).room)
+  handed_agree : (x : Parsed) (room : List ℕ) {a : Answer} {room' : List ℕ} (b : Bool) → Answers d n after (handed_by_lem x room b).left a →
+      room' ≡ (handed_by_lem x room b).room → (a ≡ (out_by x room b).answer) × (room' ≡ (out_by x room b).room)
   unfolding handed_by_lem out_by
-  handed_agree x room A true p q = (A.reported (length (before x.items)) (reach x.items) (line_feeds (before x.items)) p, q)
-  handed_agree x room A false p q = (A.read (length (shown x.items)) (line_feeds (shown x.items)) x.spot x.rest p, q)
-
-  refuses : (k : ℕ) {l : Left} {a : Answer} → Answers d n after l a → eqb k 0 ≡ false → eqb k 11 ≡ false → l.refusal ≡ k → a ≡ refusing k d
-  refuses k A y z e =
-      A.refused (λ q. eqb-false k 0 y (sym e ∙ q)) (λ q. eqb-false k 11 z (sym e ∙ q)) ∙ ap (λ (i : ℕ). refusing i d) e
+  handed_agree x room true A q = (A, q)
+  handed_agree x room false A q = (A (length (shown x.items)) (line_feeds (shown x.items)) x.spot x.rest refl, q)
 
 -- the bytes that may still be taken
 still : (n k : ℕ) → n ≤ 4294967295 → ltb (4294967295 - n) k ≡ ltb 4294967295 (n + k)
@@ -215,9 +182,12 @@ still n k h = split (ltb 4294967295 (n + k))
 
 -- A feed: refused for the record, refused for the tables, and read.
 module _ (d : Decoder) (t : Tables) (chunk room : List ℕ) where
-  pub feed_record : (record_refusal d ≡ 0 → ⊥) → feeding d t chunk room ≡ refuse (record_refusal d) d room
+  feed_record : (record_refusal d ≡ 0 → ⊥) → feeding d t chunk room ≡ refuse (record_refusal d) d room
   unfolding feeding feed_refusal
   feed_record z = record_refused d room _ _ z
+
+  pub feed_refused : (r : Refusal) → record_refusal d ≡ number r → feeding d t chunk room ≡ refuse (number r) d room
+  feed_refused r e = feed_record (λ z. some_number r (sym e ∙ z)) ∙ ap (λ (n : ℕ). refuse n d room) e
 
   -- the bytes taken after it, and what follows
   abbrev pub fed_bytes : ℕ
@@ -227,31 +197,31 @@ module _ (d : Decoder) (t : Tables) (chunk room : List ℕ) where
   fed_after = fed d fed_bytes
 
   -- what reading leaves, and the call, by the tests behind those of the record and the tables
-  unfoldable pub left_by : (c f r b : Bool) → Result
+  unfoldable pub left_by : (c f r b : Bool) → ReadOutcome
   left_by c f r b =
-      c then refused 8 d.stage d.state d.flag (held_in d) room else
-      f then refused 14 d.stage d.state d.flag (held_in d) room else
-      r then refused 7 d.stage d.state d.flag (held_in d) room else handed_by_lem (read_on d t chunk) room b
+      c then refused ChunkTooLong room else
+      f then refused TotalTooLarge room else
+      r then refused RoomTooSmall room else handed_by_lem (read_on d t chunk) room b
 
   call_by : (c f r b : Bool) → Outcome
   call_by c f r b =
       let k : ℕ = c then 8 else f then 14 else r then 7 else 0 in
       eqb k 0 then out_by d fed_bytes fed_after (read_on d t chunk) room b else refuse k d room
 
-  agree : {l : Left} {a : Answer} {room' : List ℕ} → Answers d fed_bytes fed_after l a → (c f r b : Bool) →
-      l ≡ (left_by c f r b).left → room' ≡ (left_by c f r b).room → (a ≡ (call_by c f r b).answer) × (room' ≡ (call_by c f r b).room)
+  agree : {a : Answer} {room' : List ℕ} (c f r b : Bool) → Answers d fed_bytes fed_after (left_by c f r b).left a →
+      room' ≡ (left_by c f r b).room → (a ≡ (call_by c f r b).answer) × (room' ≡ (call_by c f r b).room)
   unfolding left_by call_by
-  agree A true f r b p q = (refuses d fed_bytes fed_after 8 A refl refl (ap (λ (l : Left). l.refusal) p), q)
-  agree A false true r b p q = (refuses d fed_bytes fed_after 14 A refl refl (ap (λ (l : Left). l.refusal) p), q)
-  agree A false false true b p q = (refuses d fed_bytes fed_after 7 A refl refl (ap (λ (l : Left). l.refusal) p), q)
-  agree A false false false b p q = handed_agree d fed_bytes fed_after (read_on d t chunk) room A b p q
+  agree true f r b A q = (A, q)
+  agree false true r b A q = (A, q)
+  agree false false true b A q = (A, q)
+  agree false false false b A q = handed_agree d fed_bytes fed_after (read_on d t chunk) room b A q
 
   module _ (good : record_refusal d ≡ 0) where
     pub feed_tables : fits (family d.encoding) t ≡ false → feeding d t chunk room ≡ refuse 4 d room
     unfolding feeding feed_refusal
     feed_tables f = let g = record_good d good in rw (g.0, g.1, f)
 
-    abbrev pub chunk_read : Result
+    abbrev pub chunk_read : ReadOutcome
     chunk_read = read_chunk d.encoding d.mode d.stage d.state d.flag (held_in d) (still_to_take d) t chunk room
 
     -- what reading leaves, by those tests
@@ -262,58 +232,64 @@ module _ (d : Decoder) (t : Tables) (chunk room : List ℕ) where
 
     -- the answer that reading leads to is the call's
     pub feed_read : d.taken ≤ 4294967295 → fits (family d.encoding) t ≡ true →
-        {l : Left} {a : Answer} {room' : List ℕ} → Answers d fed_bytes fed_after l a → l ≡ chunk_read.left → room' ≡ chunk_read.room →
+        {l : Result Left Stop} {a : Answer} {room' : List ℕ} → Answers d fed_bytes fed_after l a → l ≡ chunk_read.left → room' ≡ chunk_read.room →
         (a ≡ (feeding d t chunk room).answer) × (room' ≡ (feeding d t chunk room).room)
     unfolding feeding feed_refusal call_by out_by
-    feed_read h f A p q =
+    feed_read h f {a = a} A p q =
         let g = record_good d good in
         let e = chunk_by h in
-        rw (g.0, g.1, f) (agree A (ltb 65536 (length chunk)) (ltb 4294967295 fed_bytes) (ltb (length room) (length chunk + d.held))
-        (eqb d.mode 1 && broken (read_on d t chunk).items) (p ∙ ap (λ (y : Result). y.left) e) (q ∙ ap (λ (y : Result). y.room) e))
+        rw (g.0, g.1, f) (agree (ltb 65536 (length chunk)) (ltb 4294967295 fed_bytes) (ltb (length room) (length chunk + d.held))
+        (eqb d.mode 1 && broken (read_on d t chunk).items)
+        (subst (λ (l : Result Left Stop). Answers d fed_bytes fed_after l a) (p ∙ ap (λ (y : ReadOutcome). y.left) e) A)
+        (q ∙ ap (λ (y : ReadOutcome). y.room) e))
 
 -- A finish: refused for the record, refused for the tables while the choice is to come, refused for the room, and ended.
 module _ (d : Decoder) (t : Tables) (room : List ℕ) where
-  pub finish_record : (record_refusal d ≡ 0 → ⊥) → finishing d t room ≡ refuse (record_refusal d) d room
+  finish_record : (record_refusal d ≡ 0 → ⊥) → finishing d t room ≡ refuse (record_refusal d) d room
   unfolding finishing finish_refusal
   finish_record z = record_refused d room _ _ z
+
+  pub finish_refused : (r : Refusal) → record_refusal d ≡ number r → finishing d t room ≡ refuse (number r) d room
+  finish_refused r e = finish_record (λ z. some_number r (sym e ∙ z)) ∙ ap (λ (n : ℕ). refuse n d room) e
 
   abbrev pub end : Parsed
   end = record { items = read_end d t; spot = spot 0 plain; rest = [] }
 
-  unfoldable pub end_by : (r b : Bool) → Result
+  unfoldable pub end_by : (r b : Bool) → ReadOutcome
   end_by r b =
-      r then refused 7 d.stage d.state d.flag (held_in d) room else handed_by_lem end room b
+      r then refused RoomTooSmall room else handed_by_lem end room b
 
   finish_by : (r b : Bool) → Outcome
   finish_by r b =
       let k : ℕ = r then 7 else 0 in
       eqb k 0 then out_by d d.taken (finished d) end room b else refuse k d room
 
-  ends_agree : {l : Left} {a : Answer} {room' : List ℕ} → Answers d d.taken (finished d) l a → (r b : Bool) →
-      l ≡ (end_by r b).left → room' ≡ (end_by r b).room → (a ≡ (finish_by r b).answer) × (room' ≡ (finish_by r b).room)
+  ends_agree : {a : Answer} {room' : List ℕ} (r b : Bool) → Answers d d.taken (finished d) (end_by r b).left a →
+      room' ≡ (end_by r b).room → (a ≡ (finish_by r b).answer) × (room' ≡ (finish_by r b).room)
   unfolding end_by finish_by
-  ends_agree A true b p q = (refuses d d.taken (finished d) 7 A refl refl (ap (λ (l : Left). l.refusal) p), q)
-  ends_agree A false b p q = handed_agree d d.taken (finished d) end room A b p q
+  ends_agree true b A q = (A, q)
+  ends_agree false b A q = handed_agree d d.taken (finished d) end room b A q
 
   module _ (good : record_refusal d ≡ 0) where
     pub finish_tables : misfit d t ≡ true → finishing d t room ≡ refuse 4 d room
     unfolding finishing finish_refusal
     finish_tables f = let g = record_good d good in rw (g.0, g.1, f)
 
-    abbrev pub end_read : Result
+    abbrev pub end_read : ReadOutcome
     end_read = reading_end d.encoding d.mode d.stage d.state d.flag (held_in d) t room
 
     pub end_is : end_read ≡ end_by (ltb (length room) d.held) (eqb d.mode 1 && broken (read_end d t))
     unfolding reading_end end_by handed_by_lem
     end_is = rw (le-ltb 3 d.held (parts d (record_good d good).0).held)
 
-    pub finish_read : misfit d t ≡ false → {l : Left} {a : Answer} {room' : List ℕ} → Answers d d.taken (finished d) l a →
+    pub finish_read : misfit d t ≡ false → {l : Result Left Stop} {a : Answer} {room' : List ℕ} → Answers d d.taken (finished d) l a →
         l ≡ end_read.left → room' ≡ end_read.room → (a ≡ (finishing d t room).answer) × (room' ≡ (finishing d t room).room)
     unfolding finishing finish_refusal finish_by out_by
-    finish_read f A p q =
+    finish_read f {a = a} A p q =
         let g = record_good d good in
-        rw (g.0, g.1, f) (ends_agree A (ltb (length room) d.held) (eqb d.mode 1 && broken (read_end d t))
-        (p ∙ ap (λ (y : Result). y.left) end_is) (q ∙ ap (λ (y : Result). y.room) end_is))
+        rw (g.0, g.1, f) (ends_agree (ltb (length room) d.held) (eqb d.mode 1 && broken (read_end d t))
+        (subst (λ (l : Result Left Stop). Answers d d.taken (finished d) l a) (p ∙ ap (λ (y : ReadOutcome). y.left) end_is) A)
+        (q ∙ ap (λ (y : ReadOutcome). y.room) end_is))
 
 -- opening
 module _ (e m rule : ℕ) where

@@ -1,11 +1,11 @@
 -- What the code tells from an encoding number, by its tests. Assumes nothing.
-use mathlib.Core.Path.{◌≡◌, refl, sym, ◌∙◌}
-use mathlib.Core.Bool.{Bool, true, false, ◌&&◌, ◌||◌, or-false}
-use Prim.Native.Nat.{ℕ, ◌+◌, ◌-◌, ◌*◌, ◌/◌, ◌%◌, ◌≤◌, ◌<◌}
+use mathlib.Core.Path.{◌≡◌, sym, ◌∙◌}
+use mathlib.Core.Bool.{Bool, true, false, ◌||◌, or-false}
+use Prim.Native.Nat.{ℕ, ◌+◌, ◌-◌, ◌*◌, ◌/◌, ◌≤◌, ◌<◌}
 use native.Mathlib.Nat.{div-add-mod', mod-lt}
 use native.Mathlib.Omega.{arith}
 use lib.Dec.{leb, eqb, lit≤}
-use borrow.Author.Tests.{leb-true, leb-false, eqb-true, eqb-false, le-leb, lt-leb, eq-eqb, ne_eqb}
+use borrow.Author.Tests.{leb-true, leb-false, eqb-true, eqb-false, le-leb, lt-leb, ne_eqb}
 use Rattle.standard.specs.Base.{◌then◌else◌}
 use Rattle.standard.specs.Encodings.{family, traits}
 use Rattle.standard.specs.Sequence.{Shift}
@@ -100,19 +100,6 @@ half n l = split (leb l (n / 2))
     (λ h. h ∙ sym (le-leb (2 * l) n (omega (arith, leb-true l (n / 2) h, div-add-mod' n 2))))
     (λ h. h ∙ sym (lt-leb (2 * l) n (omega (arith, leb-false l (n / 2) h, div-add-mod' n 2, mod-lt n two))))
 
-half_none : (n : ℕ) → n % 2 ≡ 0 → eqb (n / 2) 0 ≡ eqb n 0
-half_none n e = split (eqb n 0)
-    (λ h. eq-eqb (n / 2) 0 (omega (arith, eqb-true n 0 h, div-add-mod' n 2)) ∙ sym h)
-    (λ h. ne_eqb (n / 2) 0 (λ z. eqb-false n 0 h (omega (arith, div-add-mod' n 2))) ∙ sym h)
-
--- UTF-16 is tested as UTF-8, by pairs of bytes.
-pub by_pairs : (s : Shift) (c l : ℕ) → c % 2 ≡ 0 → marking s (c / 2) l ≡ paired s c l
-by_pairs s c l e = rw (eq-eqb (c % 2) 0 e, half c l, half_none c e) (go (eqb s.state 0) _)
-  where
-    go : (t x : Bool) → t && x ≡ (t && true) && x
-    go true x = refl
-    go false x = refl
-
 -- The totals of a decoder that has ended: no more line feeds than the label's encoding gives, or three bytes more than line feeds.
 abbrev totals : ℕ → ℕ → ℕ → Bool
 totals e n l = leb l (most_lines e n) || leb (l + 3) n
@@ -123,7 +110,7 @@ no_more n l = split (leb (l + 3) n)
     (λ h. rw (le-leb l n (omega (arith, leb-true (l + 3) n h))))
     (λ h. rw (h, or-false (leb l n)))
 
-pub none_at_most : (l : ℕ) → leb l 0 ≡ eqb l 0
+none_at_most : (l : ℕ) → leb l 0 ≡ eqb l 0
 none_at_most l = split (eqb l 0)
     (λ h. le-leb l 0 (omega (arith, eqb-true l 0 h)) ∙ sym h)
     (λ h. lt-leb l 0 (omega (arith, eqb-false l 0 h)) ∙ sym h)

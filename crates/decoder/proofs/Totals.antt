@@ -8,6 +8,7 @@ use lib.Dec.{T, ltb, leb, eqb, lit≤}
 use lib.ListN.{length, drop, length-append}
 use lib.Seq.{length-take-le}
 use borrow.Author.Tests.{ltb-false, leb-true, eqb-true, eqb-false}
+use Rattle.std.specs.Prelude.{Result}
 use Rattle.standard.specs.Base.{◌then◌else◌, line_feeds}
 use Rattle.standard.specs.Encodings.{Family, UTF-8, single-byte, windows-1252, GB18030, Big5, EUC-JP, ISO-2022-JP}
 use Rattle.standard.specs.Encodings.{Shift-JIS, EUC-KR, Replacement, UTF-16BE, UTF-16LE, x-user-defined, family, Tables, no_tables}
@@ -21,8 +22,9 @@ use Rattle.standard.proofs.Tests.{and_left, and_right}
 use Rattle.standard.proofs.LineFeeds.{line_feeds-length}
 use Rattle.standard.proofs.Bounds.{Bounded, decode_bounded, ending_bounded, everything_bounded, error_small}
 use Rattle.standard.proofs.Stages.{Rests, parsing, ended_from}
-use Rattle.reading.specs.Reading.{Result}
+use Rattle.reading.specs.Reading.{ReadOutcome}
 use Rattle.reading.specs.declared.Left.{Left}
+use Rattle.reading.specs.declared.Stop.{Stop}
 use Rattle.decoder.specs.Record.{spot_of, held_of}
 use Rattle.decoder.specs.Valid.{unshifted, marking, paired, replaced, iso_cost, iso_least, escaping, possible, possible_at}
 use Rattle.decoder.specs.Calls.{read_on, read_end}
@@ -164,20 +166,8 @@ small_handed : (d : Decoder) → Counted d → (n : ℕ) (x : Parsed) (room : Li
 unfolding handed_by_lem
 small_handed d C n x room W true e =
     let S = error_small x.items W.bounded (d.taken - d.held) d.lines n C.lines W.wide (and_right (eqb d.mode 1) _ e) in
-    record {
-      read = λ z. absurd (omega arith);
-      reported = λ z. record { held = C.held; place = omega (arith, S.place_below); line = omega (arith, S.line_within) };
-    }
-small_handed d C n x room W false e = record {
-  read = λ z. omega (arith, W.wide, W.few, C.lines);
-  reported = λ z. absurd (omega arith);
-}
-
-small_refused : (d : Decoder) (n k : ℕ) {l : Left} → eqb k 0 ≡ false → eqb k 11 ≡ false → l.refusal ≡ k → Small d n l
-small_refused d n k y z e = record {
-  read = λ q. absurd (eqb-false k 0 y (sym e ∙ q));
-  reported = λ q. absurd (eqb-false k 11 z (sym e ∙ q));
-}
+    record { held = C.held; place = omega (arith, S.place_below); line = omega (arith, S.line_within) }
+small_handed d C n x room W false e = omega (arith, W.wide, W.few, C.lines)
 
 -- a feed
 module _ (d : Decoder) (t : Tables) (chunk room : List ℕ) (good : record_refusal d ≡ 0) where
@@ -198,16 +188,16 @@ module _ (d : Decoder) (t : Tables) (chunk room : List ℕ) (good : record_refus
         few = omega (arith, line_feeds-length (shown x.items), R.count, R.wide);
       }
 
-  takes_refused : (k : ℕ) {l : Left} → eqb k 0 ≡ false → eqb k 11 ≡ false → l.refusal ≡ k → Takes total l × Small d total l
-  takes_refused k y z e = (
-    record { read = λ q. absurd (eqb-false k 0 y (sym e ∙ q)); reported = λ q. absurd (eqb-false k 11 z (sym e ∙ q)) },
-    small_refused d total k y z e,
-  )
+  -- what is read of an accepted feed, or up to an error, fits 32 bits
+  takes_handed : total ≤ 4294967295 → (b : Bool) → Takes total (handed_by_lem (read_on d t chunk) room b).left
+  unfolding handed_by_lem
+  takes_handed n true = n
+  takes_handed n false = n
 
-  pub feed_small : d.taken ≤ 4294967295 → {l : Left} → l ≡ (chunk_read d t chunk room good).left → Takes total l × Small d total l
+  pub feed_small : d.taken ≤ 4294967295 → {l : Result Left Stop} → l ≡ (chunk_read d t chunk room good).left → Takes total l × Small d total l
   unfolding left_by handed_by_lem
   feed_small h p =
-      subst (λ l. Takes total l × Small d total l) (sym (p ∙ ap (λ (y : Result). y.left) (chunk_by d t chunk room good h)))
+      subst (λ l. Takes total l × Small d total l) (sym (p ∙ ap (λ (y : ReadOutcome). y.left) (chunk_by d t chunk room good h)))
       (go (ltb 65536 (length chunk)) (ltb 4294967295 total) refl (ltb (length room) (length chunk + d.held)))
     where
       report : Bool
@@ -215,14 +205,13 @@ module _ (d : Decoder) (t : Tables) (chunk room : List ℕ) (good : record_refus
 
       go : (c f : Bool) → ltb 4294967295 total ≡ f → (r : Bool) →
           let l = (left_by d t chunk room c f r report).left in Takes total l × Small d total l
-      go true f e r = takes_refused 8 refl refl refl
-      go false true e r = takes_refused 14 refl refl refl
-      go false false e true = takes_refused 7 refl refl refl
-      go false false e false =
-          let n = ltb-false 4294967295 total e in (
-            record { read = λ z. n; reported = λ z. n },
-            small_handed d (counted d good) total (read_on d t chunk) room feed_within report refl,
-          )
+      go true f e r = (tt, tt)
+      go false true e r = (tt, tt)
+      go false false e true = (tt, tt)
+      go false false e false = (
+        takes_handed (ltb-false 4294967295 total e) report,
+        small_handed d (counted d good) total (read_on d t chunk) room feed_within report refl,
+      )
 
 -- a finish
 module _ (d : Decoder) (t : Tables) (room : List ℕ) (good : record_refusal d ≡ 0) where
@@ -236,14 +225,14 @@ module _ (d : Decoder) (t : Tables) (room : List ℕ) (good : record_refusal d �
         few = omega (arith, line_feeds-length (shown (read_end d t)), E.count, E.wide);
       }
 
-  pub finish_small : {l : Left} → l ≡ (end_read d t room good).left → Small d d.taken l
+  pub finish_small : {l : Result Left Stop} → l ≡ (end_read d t room good).left → Small d d.taken l
   unfolding end_by
   finish_small p =
-      subst (Small d d.taken) (sym (p ∙ ap (λ (y : Result). y.left) (end_is d t room good))) (go (ltb (length room) d.held))
+      subst (Small d d.taken) (sym (p ∙ ap (λ (y : ReadOutcome). y.left) (end_is d t room good))) (go (ltb (length room) d.held))
     where
       report : Bool
       report = eqb d.mode 1 && broken (read_end d t)
 
       go : (r : Bool) → Small d d.taken (end_by d t room r report).left
-      go true = small_refused d d.taken 7 refl refl refl
+      go true = tt
       go false = small_handed d (counted d good) d.taken (end d t room) room end_within report refl

@@ -1,20 +1,31 @@
 -- What the functions between the calls and reading answer. A wrong line here would break a proof. Assumes nothing.
-use Rattle.std.specs.Prelude.{◌≡◌, Bool, ◌&&◌, ◌||◌, not, List, [], ℕ, ◌+◌, ◌-◌, ◌/◌, ◌≤◌, eqb}
+use Rattle.std.specs.Prelude.{◌≡◌, Bool, ◌&&◌, ◌||◌, not, List, ℕ, ◌+◌, ◌-◌, ◌/◌, ◌≤◌, eqb, Result, Ok, Err}
 use Rattle.standard.specs.Base.{◌then◌else◌}
 use Rattle.standard.specs.Encodings.{family, Tables, fits}
-use Rattle.standard.specs.Sequence.{plain}
-use Rattle.standard.specs.Choice.{Spot, spot}
-use Rattle.reading.specs.Reading.{leaves}
+use Rattle.standard.specs.Choice.{Spot}
+use Rattle.reading.specs.Reading.{leaves, read_refusal}
 use Rattle.reading.specs.declared.Held.{Held}
 use Rattle.reading.specs.declared.Left.{Left}
+use Rattle.reading.specs.declared.Stop.{Stop}
+use Rattle.reading.specs.declared.Stop.TheVariants.{Refused, Report}
 use Rattle.decoder.specs.Valid.{valid}
 use Rattle.decoder.specs.Record.{closed, holding}
 use Rattle.decoder.specs.declared.Decoder.{Decoder}
 use Rattle.decoder.specs.declared.Answer.{Answer}
+use Rattle.decoder.specs.declared.refusals.Refusal.{Refusal}
+use Rattle.decoder.specs.declared.refusals.Refusal.TheVariants.{UnknownEncoding, UnknownMode, TablesMisfit, InvalidRecord, Ended}
+
+-- the number of a refusal
+abbrev pub number : Refusal → ℕ
+number UnknownEncoding = 2
+number UnknownMode = 3
+number TablesMisfit = 4
+number InvalidRecord = 5
+number Ended = 6
 
 -- The record d of encoding e and mode m, after n bytes and k line feeds, stands at the spot that reading leaves, with its bytes.
 abbrev pub Holds : ℕ → ℕ → ℕ → ℕ → Left → Decoder → Type 0
-Holds e m n k l d = (r w a b : ℕ) (p : Spot) (xs : List ℕ) → l ≡ leaves r w a b p xs → d ≡ holding e m n k p xs
+Holds e m n k l d = (w b : ℕ) (p : Spot) (xs : List ℕ) → l ≡ leaves w b p xs → d ≡ holding e m n k p xs
 
 -- the answers: of a call that wrote w scalars, of a report, and of a refused call
 abbrev pub accepting : ℕ → Decoder → Answer
@@ -55,11 +66,10 @@ misfit d t = eqb d.stage 1 && not (fits (family d.encoding) t)
 
 -- The answer a of a call by what reading leaves: what was read, a report, or a refusal.
 -- n: the bytes taken after the call. after: the decoder after so many line feeds, at a spot, with some bytes left.
-pub record Answers (d : Decoder) (n : ℕ) (after : ℕ → Spot → List ℕ → Decoder) (l : Left) (a : Answer) : Type 0 where
-  pub read : (w k : ℕ) (p : Spot) (xs : List ℕ) → l ≡ leaves 0 w 0 k p xs → a ≡ accepting w (after (d.lines + k) p xs)
-  pub reported : (w at k : ℕ) → l ≡ leaves 11 w at k (spot 0 plain) [] →
-      a ≡ reporting d.encoding d.mode n (d.lines + k) w (d.taken - d.held + at)
-  pub refused : (l.refusal ≡ 0 → ⊥) → (l.refusal ≡ 11 → ⊥) → a ≡ refusing l.refusal d
+abbrev pub Answers : Decoder → ℕ → (ℕ → Spot → List ℕ → Decoder) → Result Left Stop → Answer → Type 0
+Answers d n after (Ok l) a = (w k : ℕ) (p : Spot) (xs : List ℕ) → l ≡ leaves w k p xs → a ≡ accepting w (after (d.lines + k) p xs)
+Answers d n after (Err (Report w k at)) a = a ≡ reporting d.encoding d.mode n (d.lines + k) w (d.taken - d.held + at)
+Answers d n after (Err (Refused r)) a = a ≡ refusing (read_refusal r) d
 
 -- what follows a feed and a finish
 abbrev pub fed : Decoder → ℕ → ℕ → Spot → List ℕ → Decoder
@@ -69,16 +79,18 @@ abbrev pub finished : Decoder → ℕ → Spot → List ℕ → Decoder
 finished d k p xs = closed d.encoding d.mode d.taken k
 
 -- With n bytes taken after the call: place and line of a report are no more, nor are the line feeds handed out.
-pub record Fits (d : Decoder) (n : ℕ) (l : Left) : Type 0 where
+pub record Fits (d : Decoder) (n at k : ℕ) : Type 0 where
   pub held : d.held ≤ d.taken
-  pub place : d.taken - d.held + l.place ≤ n
-  pub line : 1 + d.lines + l.lines ≤ n
+  pub place : d.taken - d.held + at ≤ n
+  pub line : 1 + d.lines + k ≤ n
 
-pub record Small (d : Decoder) (n : ℕ) (l : Left) : Type 0 where
-  pub read : l.refusal ≡ 0 → d.lines + l.lines ≤ n
-  pub reported : l.refusal ≡ 11 → Fits d n l
+abbrev pub Small : Decoder → ℕ → Result Left Stop → Type 0
+Small d n (Ok l) = d.lines + l.lines ≤ n
+Small d n (Err (Report w k at)) = Fits d n at k
+Small d n (Err (Refused r)) = Unit {0}
 
--- n, the bytes taken after a feed, fits 32 bits.
-pub record Takes (n : ℕ) (l : Left) : Type 0 where
-  pub read : l.refusal ≡ 0 → n ≤ 4294967295
-  pub reported : l.refusal ≡ 11 → n ≤ 4294967295
+-- n, the bytes taken after a feed, fits 32 bits, unless the feed is refused.
+abbrev pub Takes : ℕ → Result Left Stop → Type 0
+Takes n (Ok l) = n ≤ 4294967295
+Takes n (Err (Report w k at)) = n ≤ 4294967295
+Takes n (Err (Refused r)) = Unit {0}

@@ -8,12 +8,13 @@ mod refusals;
 ghost use Rattle.std.specs.Prelude.{◌≡◌};
 ghost use Rattle.standard.specs.Encodings.{lent};
 ghost use Rattle.decoder.specs.Calls.{opening, feeding, finishing};
+ghost use Rattle.decoder.specs.Code.{held_in};
 
-use index::tables_fit;
+use reading::Held;
 use reading::feed::read;
 use reading::finish::end;
-use record::{accepted, answer, end_answer, held, new, refused, unopened};
-use refusals::{misfits, record_refusal};
+use record::{accepted, answer, end_answer, new, refused, unopened};
+use refusals::{feedable, finishable, openable};
 
 // What a decoder keeps from call to call. Every field is a number in use; one that is not in use is 0.
 #[repr(C)]
@@ -61,17 +62,22 @@ impl Decoder {
     pub fn open(encoding: u8, mode: u8, rule: u8) -> Answer
         ensures { result ≡ opening encoding mode rule }
     {
-        if 39 < encoding {
-            return unopened(2);
+        match openable(encoding, mode, rule) {
+            Ok(()) => accepted(0, new(encoding, mode, rule)),
+            Err(refusal) => unopened(refusal),
         }
-        if 1 < mode {
-            return unopened(3);
+    }
+
+    // The bytes held, as reading takes them.
+    pub fn held(self) -> Held
+        ensures { result ≡ held_in self }
+    {
+        Held {
+            count: self.held,
+            first: self.first,
+            second: self.second,
+            third: self.third,
         }
-        if 2 < rule {
-            return unopened(3);
-        }
-        let decoder = new(encoding, mode, rule);
-        accepted(0, decoder)
     }
 
     // Decodes a chunk into the room: the bytes held and then the chunk, with the tables that the label's encoding wants.
@@ -79,28 +85,24 @@ impl Decoder {
         ensures { (result ≡ (feeding self (lent t1.now t2.now) chunk.now room.old).answer)
             × (room.new ≡ (feeding self (lent t1.now t2.now) chunk.now room.old).room) }
     {
-        let n = record_refusal(self);
-        if n != 0 {
-            return refused(self, n);
+        if let Err(refusal) = feedable(self, &*t1, &*t2) {
+            return refused(self, u8::from(refusal));
         }
-        if tables_fit(self.encoding, &*t1, &*t2) {
-            let before = held(self);
-            let left = read(
-                self.encoding,
-                self.mode,
-                self.stage,
-                before,
-                4294967295 - self.taken,
-                &*chunk,
-                &*t1,
-                &*t2,
-                room,
-                self.state,
-                self.flag,
-            );
-            return answer(self, chunk.len(), left);
-        }
-        refused(self, 4)
+        let before = self.held();
+        let left = read(
+            self.encoding,
+            self.mode,
+            self.stage,
+            before,
+            u32::MAX - self.taken,
+            &*chunk,
+            &*t1,
+            &*t2,
+            room,
+            self.state,
+            self.flag,
+        );
+        answer(self, chunk.len(), left)
     }
 
     // The end of input: what it gives for the bytes held. The tables are looked at only while the choice is still to come.
@@ -108,14 +110,10 @@ impl Decoder {
         ensures { (result ≡ (finishing self (lent t1.now t2.now) room.old).answer)
             × (room.new ≡ (finishing self (lent t1.now t2.now) room.old).room) }
     {
-        let n = record_refusal(self);
-        if n != 0 {
-            return refused(self, n);
+        if let Err(refusal) = finishable(self, &*t1, &*t2) {
+            return refused(self, u8::from(refusal));
         }
-        if misfits(self, &*t1, &*t2) {
-            return refused(self, 4);
-        }
-        let before = held(self);
+        let before = self.held();
         let left = end(
             self.encoding,
             self.mode,

@@ -2,12 +2,12 @@
 
 ghost use Rattle.std.specs.Prelude.{◌≡◌, ◌&&◌, ◌+◌, ◌-◌, ◌≤◌, eqb};
 ghost use Rattle.standard.specs.Encodings.{family, traits};
-ghost use Rattle.decoder.specs.Record.{bit, new, closed};
-ghost use Rattle.decoder.specs.Code.{Holds, accepting, reporting, refusing, held_in, Answers, fed, finished, Fits, Small, Takes};
+ghost use Rattle.decoder.specs.Record.{new, closed};
+ghost use Rattle.decoder.specs.Code.{number, Holds, accepting, reporting, refusing, Answers, fed, finished, Fits, Small, Takes};
 
-use crate::refusals::marked;
+use crate::refusals::{Refusal, marked};
 use crate::{Answer, Decoder};
-use reading::{Held, Left};
+use reading::{Held, Left, Stop};
 
 // A record after so many bytes and line feeds, at the spot that reading leaves, with the bytes that it leaves.
 fn holding(encoding: u8, mode: u8, taken: u32, lines: u32, left: Left) -> Decoder
@@ -29,48 +29,26 @@ fn holding(encoding: u8, mode: u8, taken: u32, lines: u32, left: Left) -> Decode
     }
 }
 
-// 1 if a mark at the front is to be dropped.
-fn drops(encoding: u8, rule: u8) -> u8
-    ensures { result ≡ bit ((traits (family encoding)).mark && eqb rule 0) }
+// Is a mark at the front to be dropped?
+fn drops(encoding: u8, rule: u8) -> bool
+    ensures { result ≡ ((traits (family encoding)).mark && eqb rule 0) }
 {
-    if rule == 0 {
-        if marked(encoding) {
-            return 1;
-        }
-    }
-    0
-}
-
-// 1 if a mark at the front is to choose.
-fn chooses(rule: u8) -> u8
-    ensures { result ≡ bit (eqb rule 2) }
-{
-    if rule == 2 {
-        return 1;
-    }
-    0
+    marked(encoding) && rule == 0
 }
 
 // A new record: nothing is read, and nothing held.
 pub(crate) fn new(encoding: u8, mode: u8, rule: u8) -> Decoder
     ensures { result ≡ new encoding mode rule }
 {
-    let flag = drops(encoding, rule);
-    let stage = chooses(rule);
+    let flag = u8::from(drops(encoding, rule));
+    let stage = u8::from(rule == 2);
     let left = Left {
         written: 0,
-        place: 0,
         lines: 0,
-        refusal: 0,
         stage,
         state: 0,
         flag,
-        held: Held {
-            count: 0,
-            first: 0,
-            second: 0,
-            third: 0,
-        },
+        held: Held::NONE,
     };
     holding(encoding, mode, 0, 0, left)
 }
@@ -92,18 +70,6 @@ fn closed(encoding: u8, mode: u8, taken: u32, lines: u32) -> Decoder
         second: 0,
         third: 0,
         ended: 1,
-    }
-}
-
-// The bytes held, as reading takes them.
-pub(crate) fn held(d: Decoder) -> Held
-    ensures { result ≡ held_in d }
-{
-    Held {
-        count: d.held,
-        first: d.first,
-        second: d.second,
-        third: d.third,
     }
 }
 
@@ -134,11 +100,10 @@ pub(crate) fn refused(decoder: Decoder, refusal: u8) -> Answer
 }
 
 // The answer of a refused opening.
-pub(crate) fn unopened(refusal: u8) -> Answer
-    ensures { result ≡ refusing refusal (closed 0 0 0 0) }
+pub(crate) fn unopened(refusal: Refusal) -> Answer
+    ensures { result ≡ refusing (number refusal) (closed 0 0 0 0) }
 {
-    let decoder = closed(0, 0, 0, 0);
-    refused(decoder, refusal)
+    refused(closed(0, 0, 0, 0), u8::from(refusal))
 }
 
 // Where the bytes held begin: the bytes taken before them.
@@ -146,22 +111,21 @@ fn start(d: Decoder) -> u32
     requires { d.held ≤ d.taken }
     ensures { result ≡ d.taken - d.held }
 {
-    d.taken - d.held as u32
+    d.taken - u32::from(d.held)
 }
 
 // Report 11, after so many bytes: the error's place and line, and a decoder that has ended.
-fn reported(d: Decoder, taken: u32, left: Left) -> Answer
-    requires { Fits d taken left }
-    ensures { result ≡ reporting d.encoding d.mode taken (d.lines + left.lines) left.written
-        (d.taken - d.held + left.place) }
+fn reported(d: Decoder, taken: u32, written: usize, place: usize, lines: usize) -> Answer
+    requires { Fits d taken place lines }
+    ensures { result ≡ reporting d.encoding d.mode taken (d.lines + lines) written (d.taken - d.held + place) }
 {
     let from = start(d);
-    let place = from + left.place as u32;
-    let lines = d.lines + left.lines as u32;
+    let place = from + place as u32;
+    let lines = d.lines + lines as u32;
     let line = 1 + lines;
     let decoder = closed(d.encoding, d.mode, taken, lines);
     Answer {
-        written: left.written,
+        written,
         place,
         line,
         refusal: 11,
@@ -170,35 +134,46 @@ fn reported(d: Decoder, taken: u32, left: Left) -> Answer
 }
 
 // The answer of a feed of n bytes, by what reading leaves.
-pub(crate) fn answer(d: Decoder, n: usize, left: Left) -> Answer
+pub(crate) fn answer(d: Decoder, n: usize, left: Result<Left, Stop>) -> Answer
     requires { Takes (d.taken + n) left × Small d (d.taken + n) left }
     ensures { Answers d (d.taken + n) (fed d (d.taken + n)) left result }
 {
-    if left.refusal == 0 {
-        let taken = d.taken + n as u32;
-        let lines = d.lines + left.lines as u32;
-        let decoder = holding(d.encoding, d.mode, taken, lines, left);
-        return accepted(left.written, decoder);
+    match left {
+        Ok(left) => {
+            let taken = d.taken + n as u32;
+            let lines = d.lines + left.lines as u32;
+            let decoder = holding(d.encoding, d.mode, taken, lines, left);
+            accepted(left.written, decoder)
+        }
+        Err(
+            Stop::Report {
+                written,
+                lines,
+                place,
+            },
+        ) => reported(d, d.taken + n as u32, written, place, lines),
+        Err(Stop::Refused(refusal)) => refused(d, u8::from(refusal)),
     }
-    if left.refusal == 11 {
-        let taken = d.taken + n as u32;
-        return reported(d, taken, left);
-    }
-    refused(d, left.refusal)
 }
 
 // The answer of a finish, by what the end of input leaves.
-pub(crate) fn end_answer(d: Decoder, left: Left) -> Answer
+pub(crate) fn end_answer(d: Decoder, left: Result<Left, Stop>) -> Answer
     requires { Small d d.taken left }
     ensures { Answers d d.taken (finished d) left result }
 {
-    if left.refusal == 0 {
-        let lines = d.lines + left.lines as u32;
-        let decoder = closed(d.encoding, d.mode, d.taken, lines);
-        return accepted(left.written, decoder);
+    match left {
+        Ok(left) => {
+            let lines = d.lines + left.lines as u32;
+            let decoder = closed(d.encoding, d.mode, d.taken, lines);
+            accepted(left.written, decoder)
+        }
+        Err(
+            Stop::Report {
+                written,
+                lines,
+                place,
+            },
+        ) => reported(d, d.taken, written, place, lines),
+        Err(Stop::Refused(refusal)) => refused(d, u8::from(refusal)),
     }
-    if left.refusal == 11 {
-        return reported(d, d.taken, left);
-    }
-    refused(d, left.refusal)
 }

@@ -1,6 +1,6 @@
 -- The refusal of a call, and what the call leaves. Assumes nothing.
 use mathlib.Core.Path.{◌≡◌, refl, sym, ap, ◌∙◌}
-use mathlib.Core.Bool.{Bool, true, false, not, ◌||◌, and-true, and-false}
+use mathlib.Core.Bool.{Bool, true, false, not, ◌||◌}
 use mathlib.Core.List.{List, []}
 use mathlib.Core.Option.{none}
 use Prim.Native.Nat.{ℕ, ◌+◌, ◌≤◌, ◌<◌}
@@ -21,7 +21,9 @@ use Rattle.encoder_spec.specs.Writing.{Writing}
 use Rattle.encoder_spec.specs.Writer.{Outcome, refuse, write, write_accepted, write_by, call_by, writer_finish}
 use Rattle.encoder_spec.specs.declared.Written.{Written}
 use Rattle.encoder.specs.WriterCode.{pairs, writes, encoder_of, lent_of, Tabled, tables_fit, lent_writing, Space, Wrote}
-use Rattle.encoder.specs.WriterCode.{text_refusal, refusal_of}
+use Rattle.encoder.specs.WriterCode.{text_refusal, refusal_of, number_of}
+use Rattle.encoder.specs.declared.refusals.Refusal.{Refusal}
+use Rattle.encoder.specs.declared.refusals.Refusal.TheVariants.{NoEncoding, NoMode, NoState, NoWriter, WrongTables, WrongIndex, TooLong, NoScalars, NoRoom}
 use Rattle.encoder.proofs.Scalars.{by_pairs, no_pairs}
 use Rattle.encoder.proofs.Most.{pair_plain}
 
@@ -111,12 +113,6 @@ module _ (t1 t2 : List ℕ) (e : ℕ) where
   pub fit_others : (e ≡ 33 → ⊥) → fits (family e) (lent t1 t2) ≡ tables_fit e (lent t1 t2)
   fit_others h = rw (ne_eqb e 33 h)
 
-  pub fit_katakana : e ≡ 33 → length t2 ≡ 63 → fits (family 33) (lent t1 []) ≡ tables_fit e (lent t1 t2)
-  fit_katakana h l = rw (h, eq-eqb (length t2) 63 l) (sym (and-true (fits (family 33) (lent t1 []))))
-
-  pub no_katakana : e ≡ 33 → (length t2 ≡ 63 → ⊥) → false ≡ tables_fit e (lent t1 t2)
-  no_katakana h l = rw (h, ne_eqb (length t2) 63 l) (sym (and-false (fits (family 33) (lent t1 []))))
-
 -- The call, by its refusal.
 module _ (look : Lookup) (right : Bool) (e m s : ℕ) (t : Tables) (cs room : List ℕ) where
   -- the bytes, and the refusal
@@ -204,6 +200,18 @@ module _ (look : Lookup) (right : Bool) (e m s : ℕ) (t : Tables) (cs room : Li
     tells_written z wrote =
         let l = leaves {o = write w room} (call ∙ ap by_refusal (sym p) ∙ rw (eq-eqb r 0 z)) in
         (wrote.answers ∙ l.0, wrote.leaves ∙ l.1)
+
+-- a refusal has a number
+pub number_real : (r : Refusal) → number_of r ≡ 0 → ⊥
+number_real NoEncoding e = omega (arith, e)
+number_real NoMode e = omega (arith, e)
+number_real NoState e = omega (arith, e)
+number_real NoWriter e = omega (arith, e)
+number_real WrongTables e = omega (arith, e)
+number_real WrongIndex e = omega (arith, e)
+number_real TooLong e = omega (arith, e)
+number_real NoScalars e = omega (arith, e)
+number_real NoRoom e = omega (arith, e)
 
 -- The refusals, one after the other.
 module _ (look : Lookup) (right : Bool) (e m s : ℕ) (t : Tables) (cs : List ℕ) (n : ℕ) where

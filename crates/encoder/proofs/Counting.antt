@@ -3,20 +3,22 @@ use mathlib.Core.Path.{◌≡◌, refl, sym, ap, ◌∙◌}
 use mathlib.Core.Bool.{Bool, true, false, not, ◌&&◌, and-true, and-false}
 use mathlib.Core.List.{List, [], ◌∷◌, ◌++◌, append_assoc}
 use mathlib.Core.Option.{Option, some, none}
+use Rattle.std.specs.Prelude.{Some, None}
 use Prim.Native.Nat.{ℕ, zero, suc, ◌+◌, ◌*◌, ◌≤◌, ◌<◌}
 use native.Mathlib.Numerals.{add-one}
 use native.Mathlib.Omega.{arith}
+use mir.Val.{bool_byte}
 use lib.Dec.{leb, eqb}
 use lib.ListN.{length, take, drop, get_or, length-append, drop_of_length-le}
 use lib.Seq.{sets, sets-eq, length-sets, length-take-le, take_at, drop_at, drop-drop, drop-cons}
-use borrow.Author.Tests.{lt-ltb, le-ltb, leb-true, le-leb, eq-eqb, ne_eqb}
+use borrow.Author.Tests.{leb-true, eq-eqb, ne_eqb}
 use Rattle.standard.specs.Base.{◌then◌else◌, within, every, is_scalar, scalars}
 use Rattle.standard.specs.Machine.{Result, tokens, error_with, reference}
-use Rattle.standard.proofs.Tests.{split, and_left, and_right, under, above}
+use Rattle.standard.proofs.Tests.{split, and_left, and_right}
 use Rattle.standard.specs.Ones.{One, wrote, cannot, answered, plainly}
 use Rattle.encoder_spec.specs.Writing.{Fault, Writing, later, onward, ahead, writing}
 use Rattle.encoder_spec.specs.Writer.{Outcome, answer_of, write}
-use Rattle.encoder.specs.WriterCode.{no_scalar, given, plain, Space, Running, Wrote}
+use Rattle.encoder.specs.WriterCode.{given, plain, Space, Running, Wrote}
 use Rattle.encoder.proofs.Rooms.{sets_append}
 use Rattle.encoder_spec.specs.declared.Written.{Written}
 
@@ -258,13 +260,12 @@ module _ (encode : ℕ → Result) (c : ℕ) where
   pub told_error : {n : ℕ} → encode c ≡ error_with n → plain encode 0 c ≡ cannot [] n 0
   told_error e = ap (plainly 0) e
 
-  -- by the byte that the code finds, or 256
-  module _ (b : ℕ) (e : given c b ≡ encode c) where
-    pub told_byte : b < 256 → plain encode 0 c ≡ wrote (b ∷ []) 0
-    told_byte l = told_bytes (sym e ∙ rw (lt-ltb b 256 l))
+  -- by the byte that the code finds, or none
+  pub told_byte : (b : ℕ) → given c (Some b) ≡ encode c → plain encode 0 c ≡ wrote (b ∷ []) 0
+  told_byte b e = told_bytes (sym e)
 
-    pub told_none : 256 ≤ b → plain encode 0 c ≡ cannot [] c 0
-    told_none l = told_error (sym e ∙ rw (le-ltb b 256 l))
+  pub told_none : given c None ≡ encode c → plain encode 0 c ≡ cannot [] c 0
+  told_none e = told_error (sym e)
 
 -- Are all of them scalars? The others are counted: n before the number at i.
 module _ (cs : List ℕ) (n i : ℕ) where
@@ -272,19 +273,13 @@ module _ (cs : List ℕ) (n i : ℕ) where
   unfolding every
   all_end h e = sym (and-true (eqb n 0)) ∙ rw (drop_of_length-le cs h) at e
 
-  pub all_on : i < length cs → (r : ℕ) → r ≡ no_scalar (get_or cs i 0) → eqb (n + r) 0 && scalars (drop (i + 1) cs) ≡ eqb n 0 && scalars (drop i cs)
+  pub all_on : i < length cs → (r : ℕ) → r ≡ bool_byte (not (is_scalar (get_or cs i 0))) → eqb (n + r) 0 && scalars (drop (i + 1) cs) ≡ eqb n 0 && scalars (drop i cs)
   unfolding every
   all_on h r e = rw (e, add-one, drop-cons cs i 0 h) (split (is_scalar (get_or cs i 0))
       (λ t. let z : n + 0 ≡ n = omega arith in rw (t, z))
       (λ t. rw (t, ne_eqb (n + 1) 0 (λ z. omega arith), and-false (eqb n 0))))
 
--- A scalar, by ranges.
-module _ (c : ℕ) where
-  pub scalar_low : c < 0xD800 → true ≡ is_scalar c
-  scalar_low h = rw (le-leb c 0x10FFFF (omega arith), under 0xD800 c 0xDFFF h)
-
-  pub scalar_surrogate : 0xD800 ≤ c → c < 0xE000 → false ≡ is_scalar c
-  scalar_surrogate h g = rw (le-leb c 0x10FFFF (omega arith), le-leb 0xD800 c h, le-leb c 0xDFFF (omega arith))
-
-  pub scalar_high : 0xE000 ≤ c → leb c 0x10FFFF ≡ is_scalar c
-  scalar_high h = rw (above 0xD800 c 0xDFFF (omega arith)) (sym (and-true (leb c 0x10FFFF)))
+-- a test counts for one at most
+pub one_more : (b : Bool) (r : ℕ) → r ≡ bool_byte b → r ≤ 1
+one_more true r e = omega (arith, e)
+one_more false r e = omega (arith, e)

@@ -28,7 +28,7 @@ use Rattle.standard.proofs.Tests.{split, and_left, and_right}
 use Rattle.reverse_index_spec.specs.ReverseIndex.{look_up}
 use Rattle.reverse_index_spec.proofs.LookUp.{no_index}
 use Rattle.pair_writers.specs.Pairs.{pair_encode}
-use Rattle.encoder.specs.WriterCode.{given, encoder_of, Slots, entered}
+use Rattle.encoder.specs.WriterCode.{encoder_of, Slots, entered}
 use Rattle.encoder.proofs.Scalars.{windows_self, windows_more}
 
 -- a cell that counts as mapped is a scalar of at least 0x80
@@ -38,14 +38,6 @@ module _ (x : ℕ) (h : mapped x ≡ true) where
 
   pub mapped_most : x ≤ 0x10FFFF
   mapped_most = leb-true x 0x10FFFF (and_left (leb x 0x10FFFF) (not (within 0xD800 x 0xDFFF)) (and_right (leb 0x80 x) (is_scalar x) h))
-
--- a cell entered
-module _ (slots : List ℕ) (c b : ℕ) where
-  pub entered_not : mapped c ≡ false → slots ≡ entered slots c b
-  entered_not h = rw h
-
-  pub entered_there : mapped c ≡ true → set slots (c % 2048) (c * 256 + b) ≡ entered slots c b
-  entered_there h = rw h
 
 -- What stands in slot k once the cells from p on are in: nothing, or a scalar of this remainder and its first pointer from p on.
 data Slot (table : List ℕ) (p k : ℕ) : ℕ → Type 0 where
@@ -153,17 +145,6 @@ module _ (look : Lookup) where
   unfolding single_byte_encode
   looked_start slots e = rw e (record { size = length-replicate {A = ℕ} 2048 0; right = record { right = λ k. rw (empty_cell 2048 k) refl } })
 
-  pub looked_on : (slots after : List ℕ) (c b : ℕ) → b < 256 → Looked slots → given c b ≡ single_byte_encode look c → after ≡ entered slots c b → Looked after
-  looked_on slots after c b h f g e =
-      let d : (c * 256 + b) / 256 ≡ c = omega arith in let m : (c * 256 + b) % 256 ≡ b = omega arith in
-      rw e (split (mapped c)
-      (λ z. rw z (record {
-        size = length-set slots (c % 2048) (c * 256 + b) ∙ f.size;
-        right = slots_set (single_byte_encode look) slots (c % 2048) (c * 256 + b) (omega (arith, f.size)) f.right
-            (rw (d, m) (sym g ∙ rw (lt-ltb b 256 h) refl));
-      }))
-      (λ z. rw z f))
-
 -- ASCII is its own byte in the encodings that write pairs, but for the controls of ISO-2022-JP
 pub pair_80 : (e : ℕ) (look : Lookup) (second : List ℕ) (c : ℕ) → c < 0x80 →
     (eqb e 33 && control c then error_with 0xFFFD else tokens (c ∷ [])) ≡ pair_encode e look second c
@@ -192,9 +173,6 @@ module _ (e : ℕ) (look : Lookup) where
       go false false true = rw (lt-ltb c 0x80 h)
       go false false false = rw (lt-ltb c 0x80 h)
 
-  pub given_80 : (c : ℕ) → c < 0x80 → given c c ≡ encoder_of e look c
-  given_80 c h = rw (lt-ltb c 256 (omega arith)) (below_80 c h)
-
   -- empty slots, or none
   pub empty_slots : (slots : List ℕ) → ((k : ℕ) → get_or slots k 0 ≡ 0) → Slots (encoder_of e look) slots
   empty_slots slots z = record { right = λ k. rw (z k) (sym (below_80 0 (omega arith))) }
@@ -203,8 +181,8 @@ module _ (e : ℕ) (look : Lookup) where
   zero_slots slots q = empty_slots slots (λ k. ap (λ (l : List ℕ). get_or l k 0) q ∙ empty_cell 2048 k)
 
   pub by_slot : (slots : List ℕ) → Slots (encoder_of e look) slots → (k c : ℕ) → get_or slots k 0 / 256 ≡ c →
-      given c (get_or slots k 0 % 256) ≡ encoder_of e look c
-  by_slot slots s k c q = rw (lt-ltb (get_or slots k 0 % 256) 256 (omega arith)) (sym (s.right k) ∙ ap (encoder_of e look) q)
+      tokens (get_or slots k 0 % 256 ∷ []) ≡ encoder_of e look c
+  by_slot slots s k c q = sym (s.right k) ∙ ap (encoder_of e look) q
 
 -- Where there is no reverse index, a look-up is the search.
 pub slots_lent : (e : ℕ) (table links slots : List ℕ) → length links ≡ 0 → Slots (encoder_of e (searching table)) slots →

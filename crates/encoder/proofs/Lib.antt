@@ -1,6 +1,5 @@
 pub mod Scalars
 pub mod Rooms
-pub mod Shifts
 pub mod Filling
 pub mod Counting
 pub mod Most

@@ -2,12 +2,12 @@
 use mathlib.Core.Path.{◌≡◌, refl, sym, ap, ◌∙◌}
 use mathlib.Core.Bool.{Bool, true, false, ◌||◌}
 use mathlib.Core.List.{List, [], ◌∷◌}
-use Prim.Native.Nat.{ℕ, ◌+◌, ◌*◌, ◌/◌, ◌%◌, ◌≤◌, ◌<◌}
+use Prim.Native.Nat.{ℕ, suc, ◌+◌, ◌*◌, ◌/◌, ◌%◌, ◌≤◌, ◌<◌}
 use native.Mathlib.Omega.{arith}
 use lib.Dec.{leb, eqb}
 use lib.ListN.{length, get_or, set}
 use lib.Seq.{sets, set-get_or, get_or-set_same, get_or-set_other}
-use borrow.Author.Tests.{eqb-true, eqb-false, le-leb, lt-leb, eq-eqb}
+use borrow.Author.Tests.{eqb-true, eqb-false, le-leb, eq-eqb}
 use Rattle.standard.specs.Base.{◌then◌else◌}
 use Rattle.standard.specs.Machine.{Result, tokens, error_with}
 use Rattle.standard.specs.Handlers.{ascii}
@@ -18,17 +18,9 @@ use Rattle.standard.proofs.Tests.{split, choose}
 use Rattle.reverse_index_spec.specs.ReverseIndex.{look_up}
 use Rattle.pair_writers.specs.Pairs.{told, pair_encode, pair_state, floor_of, bytes_in, Right, Ready}
 use Rattle.pair_writers.specs.declared.One.{One as Answer}
+use Rattle.pair_writers.specs.declared.One.TheVariants.{Two}
 use Rattle.pair_writers.proofs.Shapes.{floor_real}
 use Rattle.encoder.specs.WriterCode.{Keeps, same, put, Stays, pair_of}
-use Rattle.encoder.proofs.Rooms.{put_two}
-
--- The bytes of a number: one below the floor, two from it on.
-module _ (e v f : ℕ) (z : f ≡ floor_of e) where
-  pub below_floor : v < f → bytes_in e v ≡ v / 256 ∷ []
-  below_floor h = rw (lt-leb (floor_of e) v (omega (arith, z)))
-
-  pub from_floor : f ≤ v → bytes_in e v ≡ v / 256 ∷ v % 256 ∷ []
-  from_floor h = rw (le-leb (floor_of e) v (omega (arith, z)))
 
 -- at most two
 pub bytes_most : (e v : ℕ) → length (bytes_in e v) ≤ 2
@@ -44,7 +36,7 @@ kept_put room at e v two z r b p q = rw (p, q, z) (go (leb (floor_of e) v))
         ((t then at + 2 else at + 1) ≡ at + length (t then v / 256 ∷ v % 256 ∷ [] else v / 256 ∷ [])) ×
         (set (set room at (v / 256)) (at + 1) (t then v % 256 else get_or (set room at (v / 256)) (at + 1) 0) ≡
         sets room at (t then v / 256 ∷ v % 256 ∷ [] else v / 256 ∷ []))
-    go true = put_two room at (v / 256) (v % 256)
+    go true = let next : at + 1 ≡ suc at = omega arith in (refl, rw next refl)
     go false = (refl, set-get_or (set room at (v / 256)) (at + 1) 0)
 
 -- The number in a scalar's slot is its bytes; and two bytes of a scalar put into its slot.
@@ -71,11 +63,11 @@ module _ (e : ℕ) (table links second slots : List ℕ) where
   pub keeps_ready : (c : ℕ) (o : Answer) {after : List ℕ} → told o ≡ pair_encode e (look_up table links) second c →
       Ready e table links second slots → Keeps e slots c o after → Ready e table links second after
   keeps_ready c o t r same = r
-  keeps_ready c o t r (put n l h b f) =
-      let v = o.first * 256 + o.second in
-      let lead : v / 256 ≡ o.first = omega (arith, b) in
-      let trail : v % 256 ≡ o.second = omega (arith, b) in
-      (r.0, λ _. right_put (r.1 l) c v (omega (arith, l, h)) f (rw (lead, trail) (sym t ∙ rw n)))
+  keeps_ready c o t r (put u v n l h b f) =
+      let w = u * 256 + v in
+      let lead : w / 256 ≡ u = omega (arith, b) in
+      let trail : w % 256 ≡ v = omega (arith, b) in
+      (r.0, λ _. right_put (r.1 l) c w (omega (arith, l, h)) f (rw (lead, trail) (sym t ∙ rw n)))
 
 -- In ISO-2022-JP a scalar of two bytes is written in the two-byte state.
 two_stays : (look : Lookup) (second : List ℕ) (c u v : ℕ) → iso2022_jp_encode look second c ≡ tokens (u ∷ v ∷ []) → written_in 2 c ≡ 2
@@ -116,3 +108,12 @@ module _ (e s : ℕ) (table links second slots : List ℕ) (r : Ready e table li
 pub stays_here : (e s : ℕ) (slots : List ℕ) (one : ℕ → ℕ → One) → Stays e s slots one → (e ≡ 33 → s ≡ 2) → (c v : ℕ) →
     (length slots ≡ 0x10000) × (v ≡ get_or slots c 0) → 256 ≤ v → one s c ≡ wrote (bytes_in e v) s
 stays_here e s slots one stays h c v k g = rw k.1 (stays k.0 h c (omega (arith, k.1)))
+
+-- two bytes are put into their slot
+pub keeps_two : (e : ℕ) (slots : List ℕ) (c : ℕ) (o : Answer) (bs : List ℕ) → o ≡ Two bs → length bs ≡ 2 →
+    (u v : ℕ) → u ≡ get_or bs 0 0 → v ≡ get_or bs 1 0 → v < 256 → length slots ≡ 0x10000 → c < 0x10000 → floor_of e ≤ u * 256 + v →
+    Keeps e slots c o (set slots c (u * 256 + v))
+keeps_two e slots c o [] z n u v p q b l h f = absurd (omega arith)
+keeps_two e slots c o (x ∷ []) z n u v p q b l h f = absurd (omega arith)
+keeps_two e slots c o (x ∷ y ∷ []) z n u v p q b l h f = put u v (rw (p, q) z) l h b f
+keeps_two e slots c o (x ∷ y ∷ w ∷ bs) z n u v p q b l h f = absurd (omega arith)

@@ -1,13 +1,14 @@
--- Bytes written into a room: those of a scalar, and the digits of a reference. Assumes nothing.
+-- Bytes written into a room: copied ones, and the digits of a reference. Assumes nothing.
 use mathlib.Core.Path.{◌≡◌, refl, sym, ap, ◌∙◌}
-use mathlib.Core.List.{List, [], ◌∷◌, ◌++◌}
+use mathlib.Core.List.{List, [], ◌∷◌, ◌++◌, append_assoc}
 use Prim.Native.Nat.{ℕ, zero, suc, ◌+◌, ◌*◌, ◌/◌, ◌%◌, ◌≤◌, ◌<◌}
 use native.Mathlib.Nat.{add-zero}
 use native.Mathlib.Numerals.{add-one}
 use native.Mathlib.Omega.{arith}
 use lib.Dec.{ltb}
-use lib.ListN.{length, set, length-append}
-use lib.Seq.{sets}
+use lib.ListN.{length, set, take, drop, length-append}
+use lib.Seq.{sets, sets-eq, drop-drop}
+use borrow.Rule.Slice.PartMut.{put_mid}
 use borrow.Author.Tests.{ltb-true, ltb-false, lt-ltb, le-ltb}
 use Rattle.standard.specs.Machine.{digits, reference}
 use Rattle.standard.proofs.Tests.{split}
@@ -64,6 +65,11 @@ pub reference_most : (c : ℕ) → c ≤ 0x10FFFF → length (reference c) ≤ 1
 unfolding tens
 reference_most c h = omega (arith, reference_length c, digits_below 6 c (omega arith))
 
+-- and ten in 32 bits
+pub reference_wide : (c : ℕ) → c < 0x100000000 → length (reference c) ≤ 13
+unfolding tens
+reference_wide c h = omega (arith, reference_length c, digits_below 9 c (omega arith))
+
 -- Stores one after the other.
 pub sets_append : (l : List ℕ) (i : ℕ) (us vs : List ℕ) → sets l i (us ++ vs) ≡ sets (sets l i us) (i + length us) vs
 sets_append l i [] vs = rw (add-zero i)
@@ -102,17 +108,10 @@ module _ (room : List ℕ) (at : ℕ) where
       places : sets front (at + 2) (digits c c ++ 0x3B ∷ []) ≡ sets room at (0x26 ∷ 0x23 ∷ (digits c c ++ 0x3B ∷ []))
       places = let two : at + 2 ≡ suc (suc at) = omega arith in rw (two, add-one)
 
-  -- the bytes of a scalar
-  pub put_one : (u : ℕ) → (at + 1 ≡ at + length (u ∷ [])) × (set room at u ≡ sets room at (u ∷ []))
-  put_one u = (refl, refl)
-
-  pub put_two : (u v : ℕ) → (at + 2 ≡ at + length (u ∷ v ∷ [])) × (set (set room at u) (at + 1) v ≡ sets room at (u ∷ v ∷ []))
-  put_two u v = (refl, rw add-one refl)
-
-  pub put_three : (u v w : ℕ) →
-      (at + 3 ≡ at + length (u ∷ v ∷ w ∷ [])) × (set (set (set room at u) (at + 1) v) (at + 2) w ≡ sets room at (u ∷ v ∷ w ∷ []))
-  put_three u v w = let two : at + 2 ≡ suc (suc at) = omega arith in (refl, rw (two, add-one) refl)
-
-  pub put_four : (u v w x : ℕ) →
-      (at + 4 ≡ at + length (u ∷ v ∷ w ∷ x ∷ [])) × (set (set (set (set room at u) (at + 1) v) (at + 2) w) (at + 3) x ≡ sets room at (u ∷ v ∷ w ∷ x ∷ []))
-  put_four u v w x = let two : at + 2 ≡ suc (suc at) = omega arith in let three : at + 3 ≡ suc (suc (suc at)) = omega arith in (refl, rw (three, two, add-one) refl)
+-- bytes copied into a part of a room
+pub copied : (room bytes part : List ℕ) (at k : ℕ) → at + k ≤ length room → part ≡ bytes → length bytes ≡ k →
+    put_mid at k room part ≡ sets room at bytes
+copied room bytes part at k h e l =
+    ap (put_mid at k room) e ∙ sym (append_assoc (take at room) bytes (drop k (drop at room))) ∙
+    ap (λ (r : List ℕ). (take at room ++ bytes) ++ r) (drop-drop k at room ∙ ap (λ (n : ℕ). drop (at + n) room) (sym l)) ∙
+    sym (sets-eq bytes room at (omega (arith, l)))

@@ -5,9 +5,10 @@ use mathlib.Core.List.{List, [], ◌∷◌, ◌++◌}
 use mathlib.Core.Option.{Option, some, none}
 use Prim.Native.Nat.{ℕ, zero, suc, ◌+◌, ◌-◌, ◌/◌, ◌%◌, ◌≤◌, ◌<◌}
 use native.Mathlib.Omega.{arith}
+use mir.Val.{bool_byte}
 use lib.Dec.{ltb, leb, eqb}
 use lib.ListN.{length}
-use borrow.Author.Tests.{ltb-true, ltb-false, lt-ltb, le-ltb, le-leb, lt-leb, eqb-true, eqb-false, eq-eqb, ne_eqb}
+use borrow.Author.Tests.{ltb-true, ltb-false, lt-ltb, le-ltb, leb-true, leb-false, le-leb, lt-leb, eqb-true, eqb-false, eq-eqb, ne_eqb}
 use Rattle.standard.specs.Base.{◌then◌else◌, within, every, mapped}
 use Rattle.standard.specs.Indexes.{irregular, count_from, windows1252}
 use Rattle.standard.specs.Machine.{Result, tokens, error_with}
@@ -17,19 +18,9 @@ use Rattle.standard.specs.Encoders.SingleByte.{or_error_with, single_byte_encode
 use Rattle.standard.specs.Encoders.UserDefined.{user_defined_encode}
 use Rattle.standard.proofs.Search.{search_rule}
 use Rattle.standard.proofs.Tests.{split, and_left, and_right, within_low, within_high, under, above}
-use Rattle.index.specs.IndexCode.{pointer_of}
-use Rattle.index.specs.declared.Found.{Found}
-use Rattle.index.specs.declared.Found.TheVariants.{At, Missing}
 use Rattle.reverse_index_spec.specs.ReverseIndex.{look_up}
 use Rattle.reverse_index_spec.proofs.LookUp.{look_up-sound}
-use Rattle.encoder.specs.WriterCode.{given, utf8_of, pairs, encoder_of}
-
--- the byte of an answer, or an error that names the scalar
-pub given_byte : {r : Result} (c b : ℕ) → b < 256 → tokens (b ∷ []) ≡ r → given c b ≡ r
-given_byte c b h e = rw (lt-ltb b 256 h) e
-
-pub given_none : {r : Result} (c : ℕ) → error_with c ≡ r → given c 256 ≡ r
-given_none c e = e
+use Rattle.encoder.specs.WriterCode.{utf8_of, pairs, encoder_of}
 
 -- UTF-8
 module _ (c : ℕ) where
@@ -75,13 +66,13 @@ module _ (c : ℕ) where
   utf8_four-length h = ap length (utf8_four_lem h (0x80 + c / 4096 % 64) (0x80 + c / 64 % 64) (0x80 + c % 64) refl refl refl)
 
   -- and by the three tests
-  test_below : (n x : ℕ) → c < n → x ≡ (ltb c n then 0 else 1) → x ≡ 0
-  test_below n x h e = e ∙ rw (lt-ltb c n h)
+  test_below : (n x : ℕ) → c < n → x ≡ bool_byte (leb n c) → x ≡ 0
+  test_below n x h e = e ∙ rw (lt-leb n c h)
 
-  test_from : (n x : ℕ) → n ≤ c → x ≡ (ltb c n then 0 else 1) → x ≡ 1
-  test_from n x h e = e ∙ rw (le-ltb c n h)
+  test_from : (n x : ℕ) → n ≤ c → x ≡ bool_byte (leb n c) → x ≡ 1
+  test_from n x h e = e ∙ rw (le-leb n c h)
 
-  pub utf8_size : (s t u : ℕ) → s ≡ (ltb c 0x80 then 0 else 1) → t ≡ (ltb c 0x800 then 0 else 1) → u ≡ (ltb c 0x10000 then 0 else 1) →
+  pub utf8_size : (s t u : ℕ) → s ≡ bool_byte (leb 0x80 c) → t ≡ bool_byte (leb 0x800 c) → u ≡ bool_byte (leb 0x10000 c) →
       1 + s + t + u ≡ length (utf8_of c)
   utf8_size s t u e d k =
       split (ltb c 0x80) (λ h. let l : c < 0x80 = ltb-true c 0x80 h in
@@ -104,14 +95,6 @@ module _ (look : Lookup) (c : ℕ) where
   pub single_by : 0x80 ≤ c → {o : Option ℕ} → o ≡ look first none_over c → {r : Result} → r ≡ or_error_with o c → r ≡ single_byte_encode look c
   unfolding single_byte_encode
   single_by h e q = q ∙ rw (le-ltb c 0x80 h, e)
-
--- by the pointer that is found
-module _ (found : Found) (c : ℕ) where
-  pub by_at : (p : ℕ) → found ≡ At p → p < 128 → given c (p + 0x80) ≡ or_error_with (pointer_of found) c
-  by_at p e h = rw e (given_byte c (p + 0x80) (omega arith) refl)
-
-  pub by_missing : found ≡ Missing → given c 256 ≡ or_error_with (pointer_of found) c
-  by_missing e = rw e
 
 -- a pointer is below the table's length, by a search and by an index
 pub pointer_below : (table : List ℕ) (c : ℕ) {o : Option ℕ} → o ≡ index_pointer table c → length table ≤ 128 → (p : ℕ) → o ≡ some p → p < 128
@@ -209,17 +192,16 @@ module _ (c : ℕ) where
   unfolding user_defined_encode
   user_one h = rw (lt-ltb c 0x80 h)
 
-  pub user_low : 0x80 ≤ c → c < 0xF780 → error_with c ≡ user_defined_encode c
+  pub user_none : 0x80 ≤ c → (0xF780 ≤ c → c ≤ 0xF7FF → ⊥) → error_with c ≡ user_defined_encode c
   unfolding user_defined_encode
-  user_low h g = rw (le-ltb c 0x80 h, under 0xF780 c 0xF7FF g)
+  user_none h n = split (ltb c 0xF780)
+      (λ z. rw (le-ltb c 0x80 h, under 0xF780 c 0xF7FF (ltb-true c 0xF780 z)))
+      (λ z. let l : 0xF780 ≤ c = ltb-false c 0xF780 z in
+      rw (le-ltb c 0x80 h, above 0xF780 c 0xF7FF (split (leb c 0xF7FF) (λ y. absurd (n l (leb-true c 0xF7FF y))) (λ y. leb-false c 0xF7FF y))))
 
   pub user_byte : 0xF780 ≤ c → c ≤ 0xF7FF → tokens ((c - 0xF780 + 0x80) ∷ []) ≡ user_defined_encode c
   unfolding user_defined_encode
   user_byte h g = rw (le-ltb c 0x80 (omega arith), le-leb 0xF780 c h, le-leb c 0xF7FF g)
-
-  pub user_high : 0xF7FF < c → error_with c ≡ user_defined_encode c
-  unfolding user_defined_encode
-  user_high g = rw (le-ltb c 0x80 (omega arith), above 0xF780 c 0xF7FF g)
 
 -- the encodings that write pairs
 module _ (e : ℕ) (p : pairs e ≡ true) where

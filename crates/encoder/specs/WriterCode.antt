@@ -1,8 +1,7 @@
 -- What the code's values stand for: the bytes of one scalar, the encoder of an encoding number, what a call wrote, and its refusal.
 -- Assumes nothing.
-use Rattle.std.specs.Prelude.{◌≡◌, Bool, true, false, not, ◌&&◌, ◌||◌, List, [], ◌∷◌, ℕ, ◌+◌, ◌*◌, ◌/◌, ◌%◌, ◌≤◌, ◌<◌, ltb, leb, eqb, length, take, drop, get_or, set}
-use Rattle.std.proofs.Math.Option.{some}
-use Rattle.standard.specs.Base.{◌then◌else◌, within, is_scalar, scalars, mapped}
+use Rattle.std.specs.Prelude.{◌≡◌, Bool, true, false, not, ◌&&◌, ◌||◌, List, [], ◌∷◌, ℕ, ◌+◌, ◌*◌, ◌/◌, ◌%◌, ◌≤◌, ◌<◌, ltb, leb, eqb, length, take, drop, get_or, set, Option, Some, None, Result as Outcome, Ok, Err}
+use Rattle.standard.specs.Base.{◌then◌else◌, within, scalars, mapped}
 use Rattle.standard.specs.Encodings.{family, Tables, lent, fits}
 use Rattle.standard.specs.Indexes.{windows1252}
 use Rattle.standard.specs.Machine.{Result, tokens, error_with}
@@ -12,22 +11,36 @@ use Rattle.standard.specs.Encoders.SingleByte.{single_byte_encode}
 use Rattle.standard.specs.Encoders.UserDefined.{user_defined_encode}
 use Rattle.standard.specs.Writers.{stateless}
 use Rattle.standard.specs.Ones.{One, wrote, shift_to, answered, encode_one}
-use Rattle.index.specs.IndexCode.{pointer_of}
-use Rattle.index.specs.declared.Found.{Found}
 use Rattle.reverse_index_spec.specs.ReverseIndex.{look_up}
 use Rattle.pair_writers.specs.Pairs.{pair_encode, pair_state, cells_of, floor_of, bytes_in}
 use Rattle.pair_writers.specs.declared.One.{One as Answer}
+use Rattle.pair_writers.specs.declared.One.TheVariants.{Two}
 use Rattle.encoder_spec.specs.Writing.{Writing, onward, writing}
 use Rattle.encoder_spec.specs.Writer.{write}
 use Rattle.encoder_spec.specs.declared.Written.{Written}
+use Rattle.encoder.specs.declared.refusals.Refusal.{Refusal}
+use Rattle.encoder.specs.declared.refusals.Refusal.TheVariants.{NoEncoding, NoMode, NoState, NoWriter, WrongTables, WrongIndex, TooLong, NoScalars, NoRoom}
 
--- 1 for a number that is no scalar, else 0.
-abbrev pub no_scalar : ℕ → ℕ
-no_scalar c = is_scalar c then 0 else 1
+-- The number of a refusal, and 0 where a call is not refused.
+abbrev pub number_of : Refusal → ℕ
+number_of NoEncoding = 2
+number_of NoMode = 3
+number_of NoState = 5
+number_of NoWriter = 9
+number_of WrongTables = 4
+number_of WrongIndex = 15
+number_of TooLong = 8
+number_of NoScalars = 10
+number_of NoRoom = 7
 
--- A byte, or from 256 on an error that names the scalar.
-abbrev pub given : ℕ → ℕ → Result
-given c b = ltb b 256 then tokens (b ∷ []) else error_with c
+abbrev pub number_in : Outcome (Unit {0}) Refusal → ℕ
+number_in (Ok u) = 0
+number_in (Err r) = number_of r
+
+-- A byte, or an error that names the scalar.
+abbrev pub given : ℕ → Option ℕ → Result
+given c (Some b) = tokens (b ∷ [])
+given c None = error_with c
 
 -- The bytes of a scalar in UTF-8.
 abbrev pub utf8_of : ℕ → List ℕ
@@ -36,6 +49,10 @@ utf8_of c =
     leb c 0x7FF then utf8_bytes 1 0xC0 c else
     leb c 0xFFFF then utf8_bytes 2 0xE0 c else
     utf8_bytes 3 0xF0 c
+
+-- The answer of a call that is refused.
+abbrev pub refused : ℕ → ℕ → Written
+refused n s = record { written = 0; index = 0; refusal = n; state = s }
 
 -- Does this encoding write pairs? Is there a writer for it?
 abbrev pub pairs : ℕ → Bool
@@ -83,8 +100,8 @@ pub record Slots (encode : ℕ → Result) (slots : List ℕ) : Type 0 where
 -- Slots of the writers of pairs (`pair_writers`, `Right`): two bytes of a scalar put into its slot, or nothing.
 pub data Keeps (e : ℕ) (before : List ℕ) (c : ℕ) (o : Answer) : List ℕ → Type 0 where
   same : Keeps e before c o before
-  put : o.count ≡ 2 → length before ≡ 0x10000 → c < 0x10000 → o.second < 256 → floor_of e ≤ o.first * 256 + o.second →
-      Keeps e before c o (set before c (o.first * 256 + o.second))
+  put : (u v : ℕ) → o ≡ Two (u ∷ v ∷ []) → length before ≡ 0x10000 → c < 0x10000 → v < 256 → floor_of e ≤ u * 256 + v →
+      Keeps e before c o (set before c (u * 256 + v))
 
 -- Their numbers are the bytes of one scalar in a state, which it leaves as it is; in ISO-2022-JP in the two-byte state only.
 abbrev pub Stays : ℕ → ℕ → List ℕ → (ℕ → ℕ → One) → Type 0
@@ -100,8 +117,8 @@ abbrev pub BySlots : ℕ → List ℕ → List ℕ → List ℕ → Type 0
 BySlots e table links slots = OneByte e table × Slots (encoder_of e (look_up table links)) slots
 
 -- A pointer that is found in a table of 128 cells or fewer.
-abbrev pub Found128 : Found → Type 0
-Found128 found = (p : ℕ) → pointer_of found ≡ some p → p < 128
+abbrev pub Found128 : Option ℕ → Type 0
+Found128 found = (p : ℕ) → found ≡ Some p → p < 128
 
 -- A cell and its byte put into their slot, where it counts as mapped.
 abbrev pub entered : List ℕ → ℕ → ℕ → List ℕ

@@ -5,33 +5,26 @@ ghost use Rattle.std.proofs.lemmas.List.Edits.{sets};
 ghost use Rattle.standard.specs.Ones.{shift_to};
 ghost use Rattle.encoder.specs.WriterCode.{middle_of, last_of};
 
+use crate::room;
+
 // How many bytes it has.
 pub(crate) fn size(from: u8, to: u8) -> usize
     ensures { (result ≡ length (shift_to from to)) × (result ≤ 3) }
 {
-    if from == to {
-        return 0;
-    }
-    3
+    if from == to { 0 } else { 3 }
 }
 
 // Its second and third byte.
 fn middle(to: u8) -> u8
     ensures { result ≡ middle_of to }
 {
-    if to < 2 {
-        return 0x28;
-    }
-    0x24
+    if to < 2 { 0x28 } else { 0x24 }
 }
 
 fn last(to: u8) -> u8
     ensures { result ≡ last_of to }
 {
-    if to == 1 {
-        return 0x4A;
-    }
-    0x42
+    if to == 1 { 0x4A } else { 0x42 }
 }
 
 // Written from a place on; the place behind it.
@@ -42,8 +35,5 @@ pub(crate) fn put(room: &mut [u8], at: usize, from: u8, to: u8) -> usize
     if from == to {
         return at;
     }
-    room[at] = 0x1B;
-    room[at + 1] = middle(to);
-    room[at + 2] = last(to);
-    at + 3
+    room::put(room, at, [0x1B, middle(to), last(to)])
 }

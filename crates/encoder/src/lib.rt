@@ -6,6 +6,7 @@ mod one_byte;
 mod pairs;
 mod references;
 mod refusals;
+mod room;
 mod single_byte;
 mod slots;
 mod user_defined;
@@ -17,9 +18,22 @@ ghost use Rattle.standard.specs.Encodings.{lent};
 ghost use Rattle.reverse_index_spec.specs.ReverseIndex.{look_up};
 ghost use Rattle.encoder_spec.specs.Writer.{call_by, writer_call, writer_finish};
 ghost use Rattle.indexed_writing.specs.Call.{indexed_call};
+ghost use Rattle.encoder.specs.WriterCode.{number_of, refused};
 
 use encoder_spec::Written;
-use refusals::refusal;
+use refusals::{Refusal, check};
+
+// Nothing is written where a call is refused, and the state stays.
+fn refused(refusal: Refusal, state: u8) -> Written
+    ensures { result ≡ refused (number_of refusal) state }
+{
+    Written {
+        written: 0,
+        index: 0,
+        refusal: u8::from(refusal),
+        state,
+    }
+}
 
 // A call by a reverse index of any cells, or of none, with the right length or not. Nothing is written where it is refused.
 fn call(
@@ -38,7 +52,7 @@ fn call(
         (room.new ≡ (call_by (look_up t1.now links.now) right encoding mode state
         (lent t1.now t2.now) scalars.now room.old).room) }
 {
-    let refused = refusal(
+    match check(
         encoding,
         mode,
         state,
@@ -48,16 +62,10 @@ fn call(
         links,
         right,
         room.len(),
-    );
-    if refused != 0 {
-        return Written {
-            written: 0,
-            index: 0,
-            refusal: refused,
-            state,
-        };
+    ) {
+        Ok(()) => writers::write(encoding, mode, state, scalars, t1, t2, links, room),
+        Err(refusal) => refused(refusal, state),
     }
-    writers::write(encoding, mode, state, scalars, t1, t2, links, room)
 }
 
 // The writer's call: the scalars' bytes are written at the front of the room. Nothing is written where the call is refused.
@@ -75,17 +83,7 @@ pub fn encode(
         (room.new ≡ (writer_call encoding mode state (lent t1.now t2.now)
         scalars.now room.old).room) }
 {
-    call(
-        encoding,
-        mode,
-        state,
-        scalars,
-        t1,
-        t2,
-        &t1[0..0],
-        true,
-        room,
-    )
+    call(encoding, mode, state, scalars, t1, t2, &[], true, room)
 }
 
 // The same with an index of any cells beside the first table. 15: the index has not the length for the table.
@@ -112,20 +110,10 @@ pub fn finish(state: u8, room: &mut [u8]) -> Written
     ensures { (result ≡ (writer_finish state room.old).answer) × (room.new ≡ (writer_finish state room.old).room) }
 {
     if 2 < state {
-        return Written {
-            written: 0,
-            index: 0,
-            refusal: 5,
-            state,
-        };
+        return refused(Refusal::NoState, state);
     }
     if room.len() < escapes::size(state, 0) {
-        return Written {
-            written: 0,
-            index: 0,
-            refusal: 7,
-            state,
-        };
+        return refused(Refusal::NoRoom, state);
     }
     let written = escapes::put(room, 0, state, 0);
     Written {

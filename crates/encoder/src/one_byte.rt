@@ -8,18 +8,16 @@ ghost use Rattle.encoder.specs.WriterCode.{given, encoder_of, OneByte, BySlots, 
 use crate::{references, slots};
 use encoder_spec::Written;
 
-// The byte of a scalar; 256 stands for an unwritable one.
-pub(crate) fn byte_of(encoding: u8, table: &[u32], links: &[u32], c: u32) -> u32
+// The byte of a scalar; none where it is unwritable.
+pub(crate) fn byte_of(encoding: u8, table: &[u32], links: &[u32], c: u32) -> Option<u8>
     requires { OneByte encoding table.now }
     ensures { given c result ≡ encoder_of encoding (look_up table.now links.now) c }
 {
-    if encoding == 21 {
-        return crate::single_byte::windows_1252(c);
+    match encoding {
+        21 => crate::single_byte::windows_1252(c),
+        0..=28 => crate::single_byte::byte_of(table, links, c),
+        _ => crate::user_defined::byte_of(c),
     }
-    if encoding <= 28 {
-        return crate::single_byte::byte_of(table, links, c);
-    }
-    crate::user_defined::byte_of(c)
 }
 
 // How many bytes are written of the scalars, with slots.
@@ -35,19 +33,12 @@ fn count_by(
     ensures { result ≡ length (writing_of (look_up table.now links.now) encoding mode scalars.now).bytes }
 {
     let mut n: usize = 0;
-    let mut i: usize = 0;
-    while i < scalars.len() {
-        let c = scalars[i];
-        if slots::byte_of(encoding, table, links, slots, c) < 256 {
-            n += 1;
-            i += 1;
-            continue;
+    for c in scalars {
+        match slots::byte_of(encoding, table, links, slots, *c) {
+            Some(_) => n += 1,
+            None if mode == 1 => return n,
+            None => n += references::size(*c),
         }
-        if mode == 1 {
-            return n;
-        }
-        n += references::size(c);
-        i += 1;
     }
     n
 }
@@ -81,26 +72,22 @@ fn write_by(
         encoding mode scalars.now) room.old result room.new }
 {
     let mut o: usize = 0;
-    let mut i: usize = 0;
-    while i < scalars.len() {
-        let c = scalars[i];
-        let b = slots::byte_of(encoding, table, links, slots, c);
-        if b < 256 {
-            room[o] = b as u8;
-            o += 1;
-            i += 1;
-            continue;
+    for (i, c) in scalars.iter().enumerate() {
+        match slots::byte_of(encoding, table, links, slots, *c) {
+            Some(b) => {
+                room[o] = b;
+                o += 1;
+            }
+            None if mode == 1 => {
+                return Written {
+                    written: o,
+                    index: i,
+                    refusal: 11,
+                    state: 0,
+                };
+            }
+            None => o = references::put(room, o, *c),
         }
-        if mode == 1 {
-            return Written {
-                written: o,
-                index: i,
-                refusal: 11,
-                state: 0,
-            };
-        }
-        o = references::put(room, o, c);
-        i += 1;
     }
     Written {
         written: o,

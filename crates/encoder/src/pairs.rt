@@ -1,7 +1,7 @@
 // The encodings that write pairs, ISO-2022-JP with a state. In html mode an unwritable scalar is a reference to the code point that its
 // error names.
 
-ghost use Rattle.std.specs.Prelude.{◌≡◌, true, List, ℕ, ◌+◌, ◌≤◌, ◌<◌, length, get_or};
+ghost use Rattle.std.specs.Prelude.{◌≡◌, true, List, ℕ, ◌+◌, ◌≤◌, ◌<◌, length, get_or, IfSome};
 ghost use Rattle.std.proofs.lemmas.List.Edits.{sets};
 ghost use Rattle.standard.specs.Base.{◌then◌else◌};
 ghost use Rattle.standard.specs.Machine.{tokens};
@@ -12,7 +12,7 @@ ghost use Rattle.standard.specs.Ones.{One as Encoded};
 ghost use Rattle.encoder_spec.specs.Writing.{writing};
 ghost use Rattle.encoder.specs.WriterCode.{Keeps, Stays, Running, pair_writing, Space, Wrote};
 
-use crate::{escapes, references};
+use crate::{escapes, references, room};
 use encoder_spec::Written;
 use pair_writers::One;
 
@@ -42,27 +42,24 @@ fn one_of(
     pair_writers::bytes_of(encoding, table, links, second, ordered, slots, c)
 }
 
-// The number in the slot of a scalar; 0 where there is none.
-fn kept(slots: &[u16], c: u32) -> u16
-    ensures { 256 ≤ result → (length slots.now ≡ 0x10000) × (result ≡ get_or slots.now c 0) }
+// The number in the slot of a scalar, where it is its bytes.
+fn kept(slots: &[u16], c: u32) -> Option<u16>
+    ensures { IfSome result (λ v. (256 ≤ v) × (length slots.now ≡ 0x10000) × (v ≡ get_or slots.now c 0)) }
 {
     if slots.len() != 65536 {
-        return 0;
+        return None;
     }
-    if 0xFFFF < c {
-        return 0;
+    match slots.get(c as usize) {
+        Some(v) if 256 <= *v => Some(*v),
+        _ => None,
     }
-    slots[c as usize]
 }
 
 // From which number on a slot has two bytes.
 fn floor(encoding: u8) -> u16
     ensures { result ≡ floor_of encoding }
 {
-    if encoding == 33 {
-        return 256;
-    }
-    0x8000
+    if encoding == 33 { 256 } else { 0x8000 }
 }
 
 // The bytes of a number in a slot.
@@ -70,50 +67,23 @@ fn recalled(encoding: u8, v: u16) -> One
     ensures { told result ≡ tokens (bytes_in encoding v) }
 {
     if v < floor(encoding) {
-        return One {
-            named: 0,
-            count: 1,
-            first: (v / 256) as u8,
-            second: 0,
-            third: 0,
-            fourth: 0,
-        };
+        One::Byte((v / 256) as u8)
+    } else {
+        One::Two([(v / 256) as u8, (v % 256) as u8])
     }
-    One {
-        named: 0,
-        count: 2,
-        first: (v / 256) as u8,
-        second: (v % 256) as u8,
-        third: 0,
-        fourth: 0,
-    }
-}
-
-// A byte as a wider number.
-fn wide(b: u8) -> u16
-    ensures { (result ≡ b) × (b < 256) }
-{
-    b as u16
 }
 
 // Two bytes of a scalar, put into its slot where there is one.
 fn remember(encoding: u8, slots: &mut [u16], c: u32, one: One)
     ensures { Keeps encoding slots.old c one slots.new }
 {
-    if one.count != 2 {
+    let One::Two(bytes) = one else {
         return;
+    };
+    let v = u16::from(bytes[0]) * 256 + u16::from(bytes[1]);
+    if slots.len() == 65536 && c <= 0xFFFF && floor(encoding) <= v {
+        slots[c as usize] = v;
     }
-    if slots.len() != 65536 {
-        return;
-    }
-    if 0xFFFF < c {
-        return;
-    }
-    let v = wide(one.first) * 256 + wide(one.second);
-    if v < floor(encoding) {
-        return;
-    }
-    slots[c as usize] = v;
 }
 
 // The bytes of a scalar, by its slot where that has them.
@@ -130,8 +100,7 @@ fn one_by(
     ensures { (told result ≡ pair_encode encoding (look_up table.now links.now) second.now c) ×
         Ready encoding table.now links.now second.now slots.new }
 {
-    let v = kept(slots, c);
-    if 256 <= v {
+    if let Some(v) = kept(slots, c) {
         return recalled(encoding, v);
     }
     let one = one_of(encoding, table, links, second, ordered, slots, c);
@@ -139,14 +108,13 @@ fn one_by(
     one
 }
 
-// One of two bytes.
+// One of two bytes, and a place one or two further: by functions of their own, since written out in the caller they are one branch.
 fn choose(first: bool, a: u8, b: u8) -> u8
     ensures { result ≡ (first then a else b) }
 {
     if first { a } else { b }
 }
 
-// A place one or two further.
 fn behind(two: bool, at: usize) -> usize
     requires { at + 2 < 0x10000000000000000 }
     ensures { result ≡ (two then at + 2 else at + 1) }
@@ -170,10 +138,7 @@ fn put_kept(room: &mut [u8], at: usize, encoding: u8, v: u16) -> usize
 fn stays(encoding: u8, state: u8) -> bool
     ensures { result ≡ true → (encoding ≡ 33 → state ≡ 2) }
 {
-    if encoding != 33 {
-        return true;
-    }
-    state == 2
+    encoding != 33 || state == 2
 }
 
 // Scalars whose slots have their bytes, from an index on, written from a place on: as far as they go.
@@ -193,34 +158,25 @@ fn run(
         Running one mode begin scalars.now first room.old from place state →
         Running one mode begin scalars.now first room.new result.index result.written state) }
 {
-    let mut i = from;
-    let mut o = place;
+    let mut written = place;
     if !stays(encoding, state) {
         return Reached {
-            index: i,
-            written: o,
+            index: from,
+            written,
         };
     }
-    while i < scalars.len() {
-        let v = kept(slots, scalars[i]);
-        if v < 256 {
-            return Reached {
-                index: i,
-                written: o,
-            };
+    for index in from..scalars.len() {
+        let Some(v) = kept(slots, scalars[index]) else {
+            return Reached { index, written };
+        };
+        if room.len() - written < 2 {
+            return Reached { index, written };
         }
-        if room.len() - o < 2 {
-            return Reached {
-                index: i,
-                written: o,
-            };
-        }
-        o = put_kept(room, o, encoding, v);
-        i += 1;
+        written = put_kept(room, written, encoding, v);
     }
     Reached {
-        index: i,
-        written: o,
+        index: scalars.len(),
+        written,
     }
 }
 
@@ -228,13 +184,12 @@ fn run(
 fn size(one: One) -> usize
     ensures { (result ≡ length (bytes_of one)) × (result ≤ 4) }
 {
-    if one.count == 1 {
-        return 1;
+    match one {
+        One::Unwritable(_) => 0,
+        One::Byte(_) => 1,
+        One::Two(_) => 2,
+        One::Four(_) => 4,
     }
-    if one.count == 2 {
-        return 2;
-    }
-    4
 }
 
 // The bytes, written from a place on; the place behind them.
@@ -242,17 +197,12 @@ fn put(room: &mut [u8], at: usize, one: One) -> usize
     requires { at + length (bytes_of one) ≤ length room.old }
     ensures { (result ≡ at + length (bytes_of one)) × (room.new ≡ sets room.old at (bytes_of one)) }
 {
-    room[at] = one.first;
-    if one.count == 1 {
-        return at + 1;
+    match one {
+        One::Unwritable(_) => at,
+        One::Byte(b) => room::put(room, at, [b]),
+        One::Two(bytes) => room::put(room, at, bytes),
+        One::Four(bytes) => room::put(room, at, bytes),
     }
-    room[at + 1] = one.second;
-    if one.count == 2 {
-        return at + 2;
-    }
-    room[at + 2] = one.third;
-    room[at + 3] = one.fourth;
-    at + 4
 }
 
 // How many bytes are written of the scalars from a state, with slots.
@@ -273,35 +223,18 @@ fn count_by(
 {
     let mut s = state;
     let mut n: usize = 0;
-    let mut i: usize = 0;
-    while i < scalars.len() {
-        let c = scalars[i];
-        let one = one_by(encoding, table, links, second, ordered, slots, c);
-        let to = pair_writers::state_for(encoding, s, c, one.count);
+    for c in scalars {
+        let one = one_by(encoding, table, links, second, ordered, slots, *c);
+        let to = pair_writers::state_for(encoding, s, *c, one);
         n += escapes::size(s, to);
         s = to;
-        if one.count != 0 {
-            n += size(one);
-            i += 1;
-            continue;
+        match one {
+            One::Unwritable(_) if mode == 1 => return n,
+            One::Unwritable(named) => n += references::size(named),
+            _ => n += size(one),
         }
-        if mode == 1 {
-            return n;
-        }
-        n += references::size(one.named);
-        i += 1;
     }
     n
-}
-
-// 0 for ASCII, else 1.
-fn other(c: u32) -> u32
-    ensures { result ≤ 1 }
-{
-    if c < 0x80 {
-        return 0;
-    }
-    1
 }
 
 // How many scalars are not ASCII. A loop with no return in it takes several at once.
@@ -310,23 +243,24 @@ fn others(scalars: &[u32]) -> u32
     ensures { result ≤ length scalars.now }
 {
     let mut n: u32 = 0;
-    let mut i: usize = 0;
-    while i < scalars.len() {
-        n += other(scalars[i]);
-        i += 1;
+    for c in scalars {
+        n += u32::from(0x80 <= *c);
     }
     n
 }
 
-// From how many scalars that are not ASCII on slots save more time than they cost beside a reverse index. gb18030 has many a scalar that
-// its table has not.
-fn least(encoding: u8) -> u32
+// From how many scalars that are not ASCII on slots save more time than they cost, without a reverse index and beside one. gb18030 has
+// many a scalar that its table has not.
+fn least(encoding: u8, links: &[u32]) -> u32
     ensures { result ≤ 1024 }
 {
-    if encoding == 30 {
-        return 64;
+    if links.is_empty() {
+        32
+    } else if encoding == 30 {
+        64
+    } else {
+        1024
     }
-    1024
 }
 
 // The same, with filled slots. The array stands apart: its room on the stack costs the calls without slots nothing.
@@ -369,13 +303,7 @@ pub(crate) fn count(
     ensures { result ≡ length (pair_writing (look_up table.now links.now)
         encoding mode state second.now scalars.now).bytes }
 {
-    let n = others(scalars);
-    if links.len() == 0 {
-        if 32 <= n {
-            return count_filled(encoding, mode, state, scalars, table, links, second);
-        }
-    }
-    if least(encoding) <= n {
+    if least(encoding, links) <= others(scalars) {
         return count_filled(encoding, mode, state, scalars, table, links, second);
     }
     let mut none = [0u16; 1];
@@ -406,6 +334,7 @@ fn write_by(
     let mut s = state;
     let mut o: usize = 0;
     let mut i: usize = 0;
+    // No `for`: a run takes several scalars in one turn.
     while i < scalars.len() {
         let c = scalars[i];
         if pair_writers::plain(encoding, s, c) {
@@ -421,23 +350,21 @@ fn write_by(
             continue;
         }
         let one = one_by(encoding, table, links, second, ordered, slots, c);
-        let to = pair_writers::state_for(encoding, s, c, one.count);
+        let to = pair_writers::state_for(encoding, s, c, one);
         o = escapes::put(room, o, s, to);
         s = to;
-        if one.count != 0 {
-            o = put(room, o, one);
-            i += 1;
-            continue;
+        match one {
+            One::Unwritable(_) if mode == 1 => {
+                return Written {
+                    written: o,
+                    index: i,
+                    refusal: 11,
+                    state: s,
+                };
+            }
+            One::Unwritable(named) => o = references::put(room, o, named),
+            _ => o = put(room, o, one),
         }
-        if mode == 1 {
-            return Written {
-                written: o,
-                index: i,
-                refusal: 11,
-                state: s,
-            };
-        }
-        o = references::put(room, o, one.named);
         i += 1;
     }
     Written {
@@ -490,13 +417,7 @@ pub(crate) fn write(
         encoding mode state second.now scalars.now)
         room.old result room.new }
 {
-    let n = others(scalars);
-    if links.len() == 0 {
-        if 32 <= n {
-            return write_filled(encoding, mode, state, scalars, table, links, second, room);
-        }
-    }
-    if least(encoding) <= n {
+    if least(encoding, links) <= others(scalars) {
         return write_filled(encoding, mode, state, scalars, table, links, second, room);
     }
     let mut none = [0u16; 1];

@@ -16,7 +16,7 @@ fn digits(c: u32) -> usize
 
 // How many bytes the reference to a scalar has.
 pub(crate) fn size(c: u32) -> usize
-    ensures { (result ≡ length (reference c)) × (result ≤ c + 4) }
+    ensures { (result ≡ length (reference c)) × (result ≤ c + 4) × (result ≤ 13) }
 {
     digits(c) + 3
 }

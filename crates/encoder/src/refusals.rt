@@ -4,30 +4,47 @@ ghost use Rattle.std.specs.Prelude.{◌≡◌, true, ◌≤◌, ltb, length};
 ghost use Rattle.standard.specs.Base.{is_scalar, scalars as are_scalars};
 ghost use Rattle.standard.specs.Encodings.{lent};
 ghost use Rattle.reverse_index_spec.specs.ReverseIndex.{look_up};
-ghost use Rattle.encoder.specs.WriterCode.{no_scalar, Tabled, tables_fit, lent_writing, text_refusal, refusal_of};
+ghost use Rattle.encoder.specs.WriterCode.{number_of, number_in, Tabled, tables_fit, lent_writing, text_refusal, refusal_of};
 
 use crate::writers::{count, most, writes};
+
+// Why a call is refused, in the papers' order.
+#[derive(Clone, Copy, PartialEq, Eq)]
+pub(crate) enum Refusal {
+    NoEncoding,
+    NoMode,
+    NoState,
+    NoWriter,
+    WrongTables,
+    WrongIndex,
+    TooLong,
+    NoScalars,
+    NoRoom,
+}
+
+// The papers' number of a refusal.
+impl From<Refusal> for u8 {
+    ghost from_gives = { λ refusal number. number ≡ number_of refusal };
+
+    fn from(refusal: Refusal) -> u8 {
+        match refusal {
+            Refusal::NoEncoding => 2,
+            Refusal::NoMode => 3,
+            Refusal::NoState => 5,
+            Refusal::NoWriter => 9,
+            Refusal::WrongTables => 4,
+            Refusal::WrongIndex => 15,
+            Refusal::TooLong => 8,
+            Refusal::NoScalars => 10,
+            Refusal::NoRoom => 7,
+        }
+    }
+}
 
 fn is_scalar(c: u32) -> bool
     ensures { result ≡ is_scalar c }
 {
-    if c < 0xD800 {
-        return true;
-    }
-    if c < 0xE000 {
-        return false;
-    }
-    c <= 0x10FFFF
-}
-
-// 1 for a number that is no scalar, else 0.
-fn no_scalar(c: u32) -> u32
-    ensures { (result ≡ no_scalar c) × (result ≤ 1) }
-{
-    if is_scalar(c) {
-        return 0;
-    }
-    1
+    char::from_u32(c).is_some()
 }
 
 // Are all of them scalars? The others are counted: a loop with no return in it takes several numbers at once.
@@ -36,10 +53,8 @@ fn all_scalars(scalars: &[u32]) -> bool
     ensures { result ≡ are_scalars scalars.now }
 {
     let mut others: u32 = 0;
-    let mut i: usize = 0;
-    while i < scalars.len() {
-        others += no_scalar(scalars[i]);
-        i += 1;
+    for c in scalars {
+        others += u32::from(!is_scalar(*c));
     }
     others == 0
 }
@@ -60,13 +75,11 @@ fn lacks(
         ltb room (length (lent_writing (look_up t1.now links.now)
         encoding mode state (lent t1.now t2.now) scalars.now).bytes) }
 {
-    if scalars.len() * most(encoding, mode) <= room {
-        return false;
-    }
-    room < count(encoding, mode, state, scalars, t1, t2, links)
+    room < scalars.len() * most(encoding, mode)
+        && room < count(encoding, mode, state, scalars, t1, t2, links)
 }
 
-// The refusal that depends on the scalars, or 0: 8, 10, 7.
+// The refusals that depend on the scalars: 8, 10, 7.
 fn text_refusal(
     encoding: u8,
     mode: u8,
@@ -76,21 +89,21 @@ fn text_refusal(
     t2: &[u32],
     links: &[u32],
     room: usize,
-) -> u8
+) -> Result<(), Refusal>
     requires { Tabled encoding t1.now }
-    ensures { result ≡ text_refusal (look_up t1.now links.now)
+    ensures { number_in result ≡ text_refusal (look_up t1.now links.now)
         encoding mode state (lent t1.now t2.now) scalars.now room }
 {
     if 16384 < scalars.len() {
-        return 8;
+        return Err(Refusal::TooLong);
     }
     if !all_scalars(scalars) {
-        return 10;
+        return Err(Refusal::NoScalars);
     }
     if lacks(encoding, mode, state, scalars, t1, t2, links, room) {
-        return 7;
+        return Err(Refusal::NoRoom);
     }
-    0
+    Ok(())
 }
 
 // Are the lent tables' lengths as they must be for writing? ISO-2022-JP is lent the katakana cells beside the table of its reader.
@@ -100,14 +113,11 @@ fn tables_fit(encoding: u8, t1: &[u32], t2: &[u32]) -> bool
     if encoding != 33 {
         return index::tables_fit(encoding, t1, t2);
     }
-    if t2.len() != 63 {
-        return false;
-    }
-    index::tables_fit(33, t1, &t2[0..0])
+    t2.len() == 63 && index::tables_fit(33, t1, &[])
 }
 
-// The refusal of a call with so many bytes of room, or 0. An index that is lent has the right length, or not.
-pub(crate) fn refusal(
+// Is a call with so many bytes of room refused? An index that is lent has the right length, or not.
+pub(crate) fn check(
     encoding: u8,
     mode: u8,
     state: u8,
@@ -117,27 +127,27 @@ pub(crate) fn refusal(
     links: &[u32],
     right: bool,
     room: usize,
-) -> u8
-    ensures { result ≡ refusal_of (look_up t1.now links.now) right
+) -> Result<(), Refusal>
+    ensures { number_in result ≡ refusal_of (look_up t1.now links.now) right
         encoding mode state (lent t1.now t2.now) scalars.now room }
 {
     if 39 < encoding {
-        return 2;
+        return Err(Refusal::NoEncoding);
     }
     if 1 < mode {
-        return 3;
+        return Err(Refusal::NoMode);
     }
     if 2 < state {
-        return 5;
+        return Err(Refusal::NoState);
     }
     if !writes(encoding) {
-        return 9;
+        return Err(Refusal::NoWriter);
     }
     if !tables_fit(encoding, t1, t2) {
-        return 4;
+        return Err(Refusal::WrongTables);
     }
     if !right {
-        return 15;
+        return Err(Refusal::WrongIndex);
     }
     text_refusal(encoding, mode, state, scalars, t1, t2, links, room)
 }

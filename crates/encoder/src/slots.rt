@@ -8,14 +8,13 @@ ghost use Rattle.reverse_index_spec.specs.ReverseIndex.{look_up};
 ghost use Rattle.encoder.specs.WriterCode.{given, encoder_of, Slots, OneByte, BySlots, entered};
 
 // A cell and its byte, put into their slot where the cell counts as mapped.
-fn enter(slots: &mut [u32], c: u32, b: u32)
-    requires { (length slots.old ≡ 2048) × (b < 256) }
+fn enter(slots: &mut [u32], c: u32, b: u8)
+    requires { length slots.old ≡ 2048 }
     ensures { slots.new ≡ entered slots.old c b }
 {
-    if !index::mapped(c) {
-        return;
+    if index::mapped(c) {
+        slots[(c % 2048) as usize] = c * 256 + u32::from(b);
     }
-    slots[(c % 2048) as usize] = c * 256 + b;
 }
 
 // The cells of a table, from the last on, so that the first of equal cells stays.
@@ -23,10 +22,8 @@ fn fill_table(table: &[u32], slots: &mut [u32])
     requires { (length table.now ≤ 128) × (slots.old ≡ replicate 2048 0) }
     ensures { Slots (single_byte_encode (searching table.now)) slots.new }
 {
-    let mut p = table.len();
-    while 0 < p {
-        p -= 1;
-        enter(slots, table[p], p as u32 + 0x80);
+    for p in (0..table.len()).rev() {
+        enter(slots, table[p], p as u8 + 0x80);
     }
 }
 
@@ -35,15 +32,10 @@ fn fill_looked(table: &[u32], links: &[u32], slots: &mut [u32])
     requires { (length table.now ≤ 128) × (slots.old ≡ replicate 2048 0) }
     ensures { Slots (single_byte_encode (look_up table.now links.now)) slots.new }
 {
-    let mut p: usize = 0;
-    while p < table.len() {
-        let c = table[p];
-        p += 1;
-        let b = crate::single_byte::byte_of(table, links, c);
-        if 256 <= b {
-            continue;
+    for c in table {
+        if let Some(b) = crate::single_byte::byte_of(table, links, *c) {
+            enter(slots, *c, b);
         }
-        enter(slots, c, b);
     }
 }
 
@@ -52,10 +44,8 @@ fn fill_regular(slots: &mut [u32])
     requires { (length slots.old ≡ 2048) × Slots (single_byte_encode (searching windows1252)) slots.old }
     ensures { Slots (single_byte_encode (searching windows1252)) slots.new }
 {
-    let mut c: u32 = 0xA0;
-    while c < 0x100 {
+    for c in 0xA0..0x100_u32 {
         slots[c as usize] = c * 256 + c;
-        c += 1;
     }
 }
 
@@ -69,10 +59,7 @@ pub(crate) fn least(encoding: u8, links: &[u32]) -> usize
     if encoding == 21 {
         return 256;
     }
-    if links.len() == 0 {
-        return 16;
-    }
-    256
+    if links.is_empty() { 16 } else { 256 }
 }
 
 // The slots of an encoding, from empty ones.
@@ -88,27 +75,32 @@ pub(crate) fn fill(encoding: u8, table: &[u32], links: &[u32], slots: &mut [u32]
         fill_regular(slots);
         return;
     }
-    if links.len() != 0 {
+    if links.is_empty() {
+        fill_table(table, slots);
+    } else {
         fill_looked(table, links, slots);
-        return;
     }
-    fill_table(table, slots);
 }
 
-// The byte of a scalar in an encoding of one byte a scalar, by its slot or looked up; 256 stands for an unwritable scalar.
-pub(crate) fn byte_of(encoding: u8, table: &[u32], links: &[u32], slots: &[u32], c: u32) -> u32
+// The byte of a scalar in an encoding of one byte a scalar, by its slot or looked up; none where it is unwritable.
+pub(crate) fn byte_of(
+    encoding: u8,
+    table: &[u32],
+    links: &[u32],
+    slots: &[u32],
+    c: u32,
+) -> Option<u8>
     requires { BySlots encoding table.now links.now slots.now }
     ensures { given c result ≡ encoder_of encoding (look_up table.now links.now) c }
 {
     if c < 0x80 {
-        return c;
+        return Some(c as u8);
     }
-    if slots.len() != 2048 {
-        return crate::one_byte::byte_of(encoding, table, links, c);
-    }
-    let s = slots[(c % 2048) as usize];
-    if s / 256 == c {
-        return s % 256;
+    if slots.len() == 2048 {
+        let s = slots[(c % 2048) as usize];
+        if s / 256 == c {
+            return Some((s % 256) as u8);
+        }
     }
     crate::one_byte::byte_of(encoding, table, links, c)
 }

@@ -1,29 +1,21 @@
 // UTF-8: document 01, "Writing rules".
 
-ghost use Rattle.std.specs.Prelude.{◌≡◌, true, [], ◌∷◌, ◌+◌, ◌%◌, ◌≤◌, ltb, length};
+ghost use Rattle.std.specs.Prelude.{◌≡◌, true, ◌+◌, ◌%◌, ◌≤◌, length};
 ghost use Rattle.std.proofs.Math.Option.{none};
 ghost use Rattle.std.proofs.lemmas.List.Edits.{sets};
-ghost use Rattle.standard.specs.Base.{◌then◌else◌, scalars as are_scalars};
+ghost use Rattle.standard.specs.Base.{scalars as are_scalars};
 ghost use Rattle.standard.specs.Encoders.Utf8.{utf8_encode};
 ghost use Rattle.encoder_spec.specs.Writing.{writing};
 ghost use Rattle.encoder_spec.specs.Writer.{answer_of};
 ghost use Rattle.encoder.specs.WriterCode.{utf8_of, plain, Space, Wrote};
 
-// 0 below a number, else 1.
-fn at_least(c: u32, least: u32) -> u32
-    ensures { (result ≡ (ltb c least then 0 else 1)) × (result ≤ 1) }
-{
-    if c < least {
-        return 0;
-    }
-    1
-}
+use crate::room;
 
 // How many bytes a scalar has. A sum, with no branch that depends on the text.
 pub(crate) fn size(c: u32) -> u32
     ensures { (result ≡ length (utf8_of c)) × (result ≤ 4) }
 {
-    1 + at_least(c, 0x80) + at_least(c, 0x800) + at_least(c, 0x10000)
+    1 + u32::from(0x80 <= c) + u32::from(0x800 <= c) + u32::from(0x10000 <= c)
 }
 
 fn low(c: u32) -> u8
@@ -32,62 +24,26 @@ fn low(c: u32) -> u8
     (c % 64 + 0x80) as u8
 }
 
-// Two bytes, written from a place on; the place behind them.
-fn put_two(room: &mut [u8], at: usize, u: u8, v: u8) -> usize
-    requires { at + 2 ≤ length room.old }
-    ensures { (result ≡ at + length (u ∷ v ∷ [])) × (room.new ≡ sets room.old at (u ∷ v ∷ [])) }
-{
-    room[at] = u;
-    room[at + 1] = v;
-    at + 2
-}
-
-fn put_three(room: &mut [u8], at: usize, u: u8, v: u8, w: u8) -> usize
-    requires { at + 3 ≤ length room.old }
-    ensures { (result ≡ at + length (u ∷ v ∷ w ∷ [])) × (room.new ≡ sets room.old at (u ∷ v ∷ w ∷ [])) }
-{
-    room[at] = u;
-    room[at + 1] = v;
-    room[at + 2] = w;
-    at + 3
-}
-
-fn put_four(room: &mut [u8], at: usize, u: u8, v: u8, w: u8, x: u8) -> usize
-    requires { at + 4 ≤ length room.old }
-    ensures { (result ≡ at + length (u ∷ v ∷ w ∷ x ∷ [])) ×
-        (room.new ≡ sets room.old at (u ∷ v ∷ w ∷ x ∷ [])) }
-{
-    room[at] = u;
-    room[at + 1] = v;
-    room[at + 2] = w;
-    room[at + 3] = x;
-    at + 4
-}
-
 // The bytes of a scalar, written from a place on; the place behind them.
 pub(crate) fn put(room: &mut [u8], at: usize, c: u32) -> usize
     requires { (at + length (utf8_of c) ≤ length room.old) × (c ≤ 0x10FFFF) }
     ensures { (result ≡ at + length (utf8_of c)) × (room.new ≡ sets room.old at (utf8_of c)) }
 {
     if c < 0x80 {
-        room[at] = c as u8;
-        return at + 1;
+        return room::put(room, at, [c as u8]);
     }
     let last = low(c);
     if c <= 0x7FF {
-        return put_two(room, at, (c / 64 + 0xC0) as u8, last);
+        return room::put(room, at, [(c / 64 + 0xC0) as u8, last]);
     }
     let third = low(c / 64);
     if c <= 0xFFFF {
-        return put_three(room, at, (c / 4096 + 0xE0) as u8, third, last);
+        return room::put(room, at, [(c / 4096 + 0xE0) as u8, third, last]);
     }
-    put_four(
+    room::put(
         room,
         at,
-        (c / 262144 + 0xF0) as u8,
-        low(c / 4096),
-        third,
-        last,
+        [(c / 262144 + 0xF0) as u8, low(c / 4096), third, last],
     )
 }
 
@@ -97,10 +53,8 @@ pub(crate) fn count(scalars: &[u32]) -> usize
     ensures { result ≡ length (writing (plain utf8_encode) 0 0 scalars.now).bytes }
 {
     let mut n: u32 = 0;
-    let mut i: usize = 0;
-    while i < scalars.len() {
-        n += size(scalars[i]);
-        i += 1;
+    for c in scalars {
+        n += size(*c);
     }
     n as usize
 }
@@ -111,10 +65,8 @@ pub(crate) fn write(scalars: &[u32], room: &mut [u8]) -> usize
     ensures { Wrote (writing (plain utf8_encode) 0 0 scalars.now) room.old (answer_of result 0 none) room.new }
 {
     let mut o: usize = 0;
-    let mut i: usize = 0;
-    while i < scalars.len() {
-        o = put(room, o, scalars[i]);
-        i += 1;
+    for c in scalars {
+        o = put(room, o, *c);
     }
     o
 }

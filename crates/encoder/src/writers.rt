@@ -12,33 +12,21 @@ use encoder_spec::Written;
 fn pairs(encoding: u8) -> bool
     ensures { result ≡ pairs encoding }
 {
-    if encoding < 29 {
-        return false;
-    }
-    encoding <= 35
+    (29..=35).contains(&encoding)
 }
 
 // Is there a writer for this encoding?
 pub(crate) fn writes(encoding: u8) -> bool
     ensures { result ≡ writes encoding }
 {
-    if encoding <= 28 {
-        return true;
-    }
-    if pairs(encoding) {
-        return true;
-    }
-    encoding == 39
+    encoding <= 28 || pairs(encoding) || encoding == 39
 }
 
 // The bytes that may stand in front of those of a scalar.
 fn front(encoding: u8) -> usize
     ensures { (result ≡ front_of encoding) × (result ≤ 3) }
 {
-    if encoding == 33 {
-        return 3;
-    }
-    0
+    if encoding == 33 { 3 } else { 0 }
 }
 
 // The most bytes that are written of one scalar.
@@ -51,16 +39,12 @@ pub(crate) fn most(encoding: u8, mode: u8) -> usize
     if mode != 1 {
         return 10 + front(encoding);
     }
-    if encoding == 30 {
-        return 4;
+    match encoding {
+        30 => 4,
+        33 => 5,
+        _ if pairs(encoding) => 2,
+        _ => 1,
     }
-    if encoding == 33 {
-        return 5;
-    }
-    if pairs(encoding) {
-        return 2;
-    }
-    1
 }
 
 // How many bytes are written of the scalars from a state.
@@ -90,12 +74,7 @@ pub(crate) fn count(
 fn handed_back(w: Written, state: u8) -> Written
     ensures { result ≡ handed_back state w }
 {
-    Written {
-        written: w.written,
-        index: w.index,
-        refusal: w.refusal,
-        state,
-    }
+    Written { state, ..w }
 }
 
 // The scalars written from a state into a room that has space for all their bytes.

@@ -2,11 +2,12 @@
 // and what the call left of it is stored.
 #![tactic(auto)]
 
+ghost use Rattle.std.specs.Prelude.{◌≡◌};
 ghost use Rattle.standard.specs.Encodings.{lent};
 ghost use Rattle.decoder.specs.Calls.{feeding, finishing};
-ghost use Rattle.in_place.specs.Replies.{Leaves};
+ghost use Rattle.in_place.specs.Replies.{reply_of, Leaves};
 
-use decoder::Decoder;
+use decoder::{Answer, Decoder};
 
 // What a call on a lent decoder answers: as Answer, without the decoder.
 #[repr(C)]
@@ -18,6 +19,19 @@ pub struct Reply {
     pub refusal: u8,
 }
 
+impl From<Answer> for Reply {
+    ghost from_gives = { λ answer reply. reply ≡ reply_of answer };
+
+    fn from(answer: Answer) -> Reply {
+        Reply {
+            written: answer.written,
+            place: answer.place,
+            line: answer.line,
+            refusal: answer.refusal,
+        }
+    }
+}
+
 // Feed: Decoder::feed on the decoder that is lent.
 pub fn feed(decoder: &mut Decoder, chunk: &[u8], t1: &[u32], t2: &[u32], room: &mut [u32]) -> Reply
     ensures { Leaves
@@ -26,12 +40,7 @@ pub fn feed(decoder: &mut Decoder, chunk: &[u8], t1: &[u32], t2: &[u32], room: &
 {
     let fed = (*decoder).feed(chunk, t1, t2, room);
     *decoder = fed.decoder;
-    Reply {
-        written: fed.written,
-        place: fed.place,
-        line: fed.line,
-        refusal: fed.refusal,
-    }
+    Reply::from(fed)
 }
 
 // Finish: Decoder::finish on the decoder that is lent.
@@ -41,10 +50,5 @@ pub fn finish(decoder: &mut Decoder, t1: &[u32], t2: &[u32], room: &mut [u32]) -
 {
     let last = (*decoder).finish(t1, t2, room);
     *decoder = last.decoder;
-    Reply {
-        written: last.written,
-        place: last.place,
-        line: last.line,
-        refusal: last.refusal,
-    }
+    Reply::from(last)
 }

@@ -1,59 +1,78 @@
 -- A code point searched for in a stretch of a table, and an entry put into a table. Assumes nothing.
 use mathlib.Core.Path.{◌≡◌, refl, sym, ap, ◌∙◌}
 use mathlib.Core.Bool.{Bool, true, false, not, ◌&&◌, and-false}
-use mathlib.Core.List.{List, [], ◌∷◌}
+use mathlib.Core.List.{List, [], ◌∷◌, ◌++◌}
 use mathlib.Core.Option.{Option, some, none}
 use Prim.Native.Nat.{ℕ, zero, suc, ◌+◌, ◌-◌, ◌≤◌, ◌<◌, min}
 use native.Mathlib.Numerals.{add-one}
 use native.Mathlib.Omega.{arith}
+use Rattle.std.specs.Prelude.{Option as Maybe, Some, None, MatchOption, option_map, position}
+use Rattle.std.specs.List.{list_any, position_or_len}
 use lib.Dec.{ltb, leb, eqb}
-use lib.ListN.{length, get_or, take, drop, length-take, drop_of_length-le}
-use lib.Seq.{slice, slice-cons, take_all, take-length, take-nil, drop-nil}
-use borrow.Author.Tests.{ltb-true, ltb-false, lt-ltb, le-ltb, leb-true, leb-false, eqb-true, eqb-false, eq-eqb, ne_eqb, not-true}
+use lib.ListN.{length, get_or, take, drop, length-take, length-drop, drop_of_length-le}
+use lib.Seq.{slice, take_all, take-add, take-length, take-nil, drop-nil, drop-drop}
+use Rattle.std.proofs.lemmas.List.{take_at, drop_at, drop-take}
+use Rattle.std.proofs.lemmas.List.Folds.{list_any-append}
+use borrow.Author.Tests.{ltb-true, ltb-false, lt-ltb, le-ltb, leb-true, leb-false, eqb-true, eqb-false, not-true}
 use Rattle.standard.specs.Base.{◌then◌else◌, within, mapped}
 use Rattle.standard.specs.Indexes.{index_code_point}
 use Rattle.standard.specs.Search.{pass_over, first, last, either, search_from, search, pointer_from, Counts}
 use Rattle.standard.proofs.Search.{search_rule}
-use Rattle.standard.proofs.Tests.{split, and_both, under, above, in_range}
+use Rattle.standard.proofs.Tests.{split, and_both, or_none_lem, under, above, in_range}
 use Rattle.index_spec.specs.IndexCall.{Outcome}
-use Rattle.index.specs.IndexCode.{Absent}
+use Rattle.index.specs.IndexCode.{pointer_of}
 
-module _ (table : List ℕ) (end c : ℕ) where
-  pub stretch_end : (i : ℕ) → end ≤ i → none ≡ pointer_from i (slice i end table) c
+-- The first place that passes a test, past a front that has none.
+module _ (p : ℕ → Bool) where
+  past_front : (n : ℕ) (xs : List ℕ) → n ≤ length xs → list_any p (take n xs) ≡ false → position_or_len p xs ≡ n + position_or_len p (drop n xs)
+  past_front zero xs h e = omega arith
+  past_front (suc n) [] h e = absurd (omega arith)
+  past_front (suc n) (x ∷ xs) h e =
+      let f = or_none_lem (p x) (list_any p (take n xs)) e in
+      let g : p x ≡ false = f.0 in
+      rw g (omega (arith, past_front n xs (omega arith) f.1))
+
+  pub position_behind : (n : ℕ) (xs : List ℕ) → n ≤ length xs → list_any p (take n xs) ≡ false →
+      option_map (λ (i : ℕ). n + i) (position p (take (length xs - n) (drop n xs))) ≡ position p xs
+  position_behind n xs h e =
+      let ys = drop n xs in
+      let a = position_or_len p ys in
+      let f = past_front n xs h e in
+      let l : length ys ≡ length xs - n = length-drop n xs in
+      rw (take_all (length xs - n) ys (omega arith)) (split (ltb a (length ys))
+      (λ t. rw (t, f, lt-ltb (n + a) (length xs) (omega (arith, ltb-true a (length ys) t))))
+      (λ t. rw (t, f, le-ltb (n + a) (length xs) (omega (arith, ltb-false a (length ys) t)))))
+
+  -- a block more
+  pub passed_block : (cells block behind : List ℕ) (n k : ℕ) → drop n cells ≡ block ++ behind → length block ≡ k →
+      list_any p (take n cells) ≡ false → list_any p block ≡ false → (behind ≡ drop (n + k) cells) × (list_any p (take (n + k) cells) ≡ false)
+  passed_block cells block behind n k q e f g = (
+    sym (drop_at block behind k e) ∙ ap (λ (l : List ℕ). drop k l) (sym q) ∙ drop-drop k n cells,
+    rw (take-add n k cells, q, take_at block behind k e, list_any-append p (take n cells) block, f, g),
+  )
+
+  position-cons : (x : ℕ) (xs : List ℕ) → position p (x ∷ xs) ≡ (p x then Some 0 else option_map suc (position p xs))
+  position-cons x xs =
+      let a = position_or_len p xs in
+      let n = length xs in
+      split (p x)
+      (λ t. rw (t, lt-ltb 0 (length (x ∷ xs)) (omega arith)))
+      (λ t. split (ltb a n)
+      (λ u. rw (t, u, lt-ltb (1 + a) (length (x ∷ xs)) (omega (arith, ltb-true a n u))) (ap Some (omega arith)))
+      (λ u. rw (t, u, le-ltb (1 + a) (length (x ∷ xs)) (omega (arith, ltb-false a n u)))))
+
+-- A code point that counts as mapped: the place of its first cell is its pointer.
+module _ (c : ℕ) (m : mapped c ≡ true) where
+  onward : (start : ℕ) (o : Maybe ℕ) → pointer_of (option_map (λ (i : ℕ). start + i) (option_map suc o)) ≡ pointer_of (option_map (λ (i : ℕ). suc start + i) o)
+  onward start None = refl
+  onward start (Some i) = ap some (omega arith)
+
+  pub pointer_at : (start : ℕ) (xs : List ℕ) → pointer_of (option_map (λ (i : ℕ). start + i) (position (λ x. eqb x c) xs)) ≡ pointer_from start xs c
   unfolding search_from
-  stretch_end i h = let e : slice i end table ≡ [] = drop_of_length-le (take end table) {i = i} (rw length-take (omega arith)) in rw e refl
-
-  module _ (l : end ≤ length table) (i : ℕ) (h : i < end) where
-    pub stretch_found : mapped c ≡ true → get_or table i 0 ≡ c → some i ≡ pointer_from i (slice i end table) c
-    unfolding search_from
-    stretch_found m e = rw (slice-cons i end table 0 h l, e, m, eq-eqb c c refl)
-
-    pub stretch_on : (get_or table i 0 ≡ c → ⊥) → pointer_from (i + 1) (slice (i + 1) end table) c ≡ pointer_from i (slice i end table) c
-    unfolding search_from
-    stretch_on n = rw (add-one, slice-cons i end table 0 h l, ne_eqb (get_or table i 0) c n, and-false (mapped (get_or table i 0)))
-
-  -- n cells that are not the code point
-  pub stretch_past : end ≤ length table → (n i : ℕ) → i + n ≤ end → Absent table i (i + n) c →
-      pointer_from (i + n) (slice (i + n) end table) c ≡ pointer_from i (slice i end table) c
-  stretch_past l zero i h a = let z : i + 0 ≡ i = omega arith in rw z
-  stretch_past l (suc n) i h a =
-      let z : i + suc n ≡ i + n + 1 = omega arith in
-      rw z (stretch_on l (i + n) (omega arith) (a (i + n) (omega arith) (omega arith))) ∙
-      stretch_past l n i (omega arith) (λ k f g. a k f (omega arith))
-
--- Cells told one after the other.
-module _ (table : List ℕ) (start c : ℕ) where
-  pub absent_none : Absent table start (start + 0) c
-  absent_none k h g e = omega arith
-
-  pub absent_on : (i : ℕ) → Absent table start (start + i) c → (get_or table (start + i) 0 ≡ c → ⊥) → Absent table start (start + (i + 1)) c
-  absent_on i a n k h g e = split (eqb k (start + i))
-      (λ z. n (ap (λ (j : ℕ). get_or table j 0) (sym (eqb-true k (start + i) z)) ∙ e))
-      (λ z. a k h (omega (arith, eqb-false k (start + i) z)) e)
-
--- equal cells counted: none
-pub counts_none : (a b n r : ℕ) → r ≡ (eqb a b then 1 else 0) → n + r ≡ 0 → (n ≡ 0) × (a ≡ b → ⊥)
-counts_none a b n r e z = (omega arith, λ q. let o : r ≡ 1 = e ∙ rw (eq-eqb a b q) in omega arith)
+  pointer_at start [] = refl
+  pointer_at start (x ∷ xs) = split (eqb x c)
+      (λ t. let e = eqb-true x c t in let z : start + 0 ≡ start = omega arith in rw (position-cons (λ x. eqb x c) x xs, t, e, m, z))
+      (λ t. rw (position-cons (λ x. eqb x c) x xs, t, and-false (mapped x)) (onward start (position (λ x. eqb x c) xs) ∙ pointer_at (suc start) xs))
 
 -- A stretch is passed over: what stands below it is searched, and then what stands behind it. `behind` begins at p where p is past it.
 module _ (low high c : ℕ) where
@@ -106,6 +125,12 @@ module _ (low high c : ℕ) where
       let z : low - 0 ≡ low = omega arith in let y : suc high - 0 ≡ suc high = omega arith in
       sym (rw (add-one, take-length table) (rw (z, y, le-ltb high 0 (omega arith)) at (outside_from 0 table)))
 
+-- what stands below the stretch is found first
+pub either_first : (o r : Maybe ℕ) (behind : Option ℕ) → MatchOption o (pointer_of r ≡ behind) (λ p. r ≡ Some p) →
+    pointer_of r ≡ either first (pointer_of o) behind
+either_first None r behind h = h
+either_first (Some p) r behind h = ap pointer_of h
+
 -- A code point that counts as unmapped stands nowhere.
 pub unmapped_missing : (c : ℕ) → mapped c ≡ false → (p : ℕ) (index : List ℕ) → none ≡ pointer_from p index c
 unfolding search_from
@@ -115,36 +140,33 @@ unmapped_missing c m p (x ∷ index) = rw not_here (unmapped_missing c m (suc p)
     not_here : mapped x && eqb x c ≡ false
     not_here = split (eqb x c) (λ e. rw (eqb-true x c e, m)) (λ e. rw (e, and-false (mapped x)))
 
--- A stretch ends with the table.
-pub clipped : (start end : ℕ) (table : List ℕ) → slice start (min end (length table)) table ≡ slice start end table
-clipped start end table = split (leb end (length table))
-    (λ h. let g : end ≤ length table = leb-true end (length table) h in let e : min end (length table) ≡ end = omega arith in rw e)
-    (λ h. let g : length table < end = leb-false end (length table) h in let e : min end (length table) ≡ length table = omega arith in
-    rw (e, take-length table, take_all end table (omega arith)))
+-- A stretch of a table, that ends with the table at the latest.
+module _ (table : List ℕ) (c start end : ℕ) where
+  pub stretch_none : min end (length table) < start → none ≡ pointer_from start (slice start end table) c
+  unfolding search_from
+  stretch_none h =
+      let e : slice start end table ≡ [] = drop_of_length-le (take end table) {i = start} (rw length-take (omega arith)) in
+      rw e refl
 
-pub whole : (table : List ℕ) → slice 0 (length table) table ≡ table
-whole table = take-length table
+  clipped : take (min end (length table)) table ≡ take end table
+  clipped = split (leb end (length table))
+      (λ h. let e : min end (length table) ≡ end = omega (arith, leb-true end (length table) h) in rw e)
+      (λ h.
+      let g : length table < end = leb-false end (length table) h in
+      let e : min end (length table) ≡ length table = omega arith in
+      rw (e, take-length table, take_all end table (omega arith)))
+
+  pub stretch_found : mapped c ≡ true → (n : ℕ) → n ≡ min end (length table) → start ≤ n → (stretch : List ℕ) →
+      stretch ≡ take (n - start) (drop start table) → (o : Maybe ℕ) → o ≡ position (λ x. eqb x c) stretch →
+      pointer_of (option_map (λ (i : ℕ). start + i) o) ≡ pointer_from start (slice start end table) c
+  stretch_found m n k h stretch e o q =
+      let z : start + (n - start) ≡ n = omega arith in
+      let s : slice start end table ≡ stretch = ap (λ (l : List ℕ). drop start l) (sym clipped ∙ ap (λ (i : ℕ). take i table) (sym k)) ∙ (rw z at (drop-take start (n - start) table)) ∙ sym e in
+      rw (q, s) (pointer_at c m start stretch)
 
 -- What a call leaves, part by part.
 pub told : {o w : Outcome} → o ≡ w → (w.answer ≡ o.answer) × (w.table ≡ o.table)
 told e = (ap (λ (o : Outcome). o.answer) (sym e), ap (λ (o : Outcome). o.table) (sym e))
-
--- a cell that is hit, by the tests of the code
-module _ (low high p x c : ℕ) where
-  pub hit_other : (x ≡ c → ⊥) → false ≡ (not (within low p high) && (mapped x && eqb x c))
-  hit_other n = rw (ne_eqb x c n, and-false (mapped x), and-false (not (within low p high)))
-
-  pub hit_unmapped : mapped x ≡ false → false ≡ (not (within low p high) && (mapped x && eqb x c))
-  hit_unmapped m = rw (m, and-false (not (within low p high)))
-
-  module _ (e : x ≡ c) (m : mapped x ≡ true) where
-    pub hit_below : p < low → true ≡ (not (within low p high) && (mapped x && eqb x c))
-    hit_below h = rw (eq-eqb x c e, m, under low p high h)
-
-    pub hit_behind : low ≤ p → ltb high p ≡ (not (within low p high) && (mapped x && eqb x c))
-    hit_behind h = rw (eq-eqb x c e, m) (split (ltb high p)
-        (λ t. rw (t, above low p high (ltb-true high p t)))
-        (λ t. rw (t, in_range low p high h (ltb-false high p t))))
 
 -- The last pointer, by the law of the search: what a cell that is hit says, and what is known once the pointers from p on are tried.
 module _ (low high c : ℕ) (table : List ℕ) where
@@ -199,9 +221,9 @@ module _ (low high c : ℕ) (table : List ℕ) where
           (λ z. ap some (sym (eqb-true q (p - 1) z)))
           (λ z. absurd (n q (omega (arith, eqb-false q (p - 1) z, rule.nearest q (p - 1) e k)) (rule.found q e)))
 
-  pub last_none : NoneFrom 0 → none ≡ search last (pass_over low high) table c
+  pub last_none : (p : ℕ) → p ≤ 0 → NoneFrom p → none ≡ search last (pass_over low high) table c
   unfolding NoneFrom
-  last_none n = go (search last (pass_over low high) table c) refl
+  last_none p z n = go (search last (pass_over low high) table c) refl
     where
       go : (o : Option ℕ) → search last (pass_over low high) table c ≡ o → none ≡ o
       go none e = refl

@@ -1,58 +1,30 @@
 // The lengths of the tables that a caller lends: document 01, "Tables the caller lends".
 
-ghost use Rattle.std.specs.Prelude.{◌≡◌, ◌&&◌, ◌%◌, leb, eqb};
+ghost use Rattle.std.specs.Prelude.{◌≡◌};
 ghost use Rattle.standard.specs.Encodings.{family, traits, second_fits};
 
 // The cells of the first table of an encoding.
+#[tactic(auto, using(crate::proofs::TableLengths::first_lengths))]
 pub(crate) fn first_cells(encoding: u8) -> usize
     ensures { result ≡ (traits (family encoding)).first }
 {
-    if encoding == 0 {
-        return 0;
+    match encoding {
+        1..=20 | 22..=28 => 128,
+        29 | 30 | 35 => 23940,
+        31 => 19782,
+        32..=34 => 11280,
+        _ => 0,
     }
-    if encoding == 21 {
-        return 0;
-    }
-    if encoding <= 28 {
-        return 128;
-    }
-    if encoding <= 30 {
-        return 23940;
-    }
-    if encoding == 31 {
-        return 19782;
-    }
-    if encoding <= 34 {
-        return 11280;
-    }
-    if encoding == 35 {
-        return 23940;
-    }
-    0
 }
 
-// Does a second table of so many cells fit?
+// Does a second table of so many cells fit? Ranges have an even length, at most 414.
+#[tactic(auto, using(crate::proofs::TableLengths::second_lengths))]
 pub(crate) fn second_fits(encoding: u8, size: usize) -> bool
     ensures { result ≡ second_fits (traits (family encoding)).second size }
 {
-    if encoding == 29 {
-        return ranges_fit(size);
+    match encoding {
+        29 | 30 => size % 2 == 0 && size <= 414,
+        32 => size == 8836,
+        _ => size == 0,
     }
-    if encoding == 30 {
-        return ranges_fit(size);
-    }
-    if encoding == 32 {
-        return size == 8836;
-    }
-    size == 0
-}
-
-// The ranges have an even length, at most 414.
-fn ranges_fit(size: usize) -> bool
-    ensures { result ≡ (eqb (size % 2) 0 && leb size 414) }
-{
-    if size % 2 == 0 {
-        return size <= 414;
-    }
-    false
 }

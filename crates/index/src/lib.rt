@@ -5,7 +5,7 @@ mod lengths;
 mod reading;
 
 use index_spec::Line;
-use reading::Reading;
+use reading::BadLine;
 
 // What the bytes 80 to 9F map to in windows-1252.
 pub const IRREGULAR: [u32; 32] = [
@@ -14,168 +14,112 @@ pub const IRREGULAR: [u32; 32] = [
     0x02DC, 0x2122, 0x0161, 0x203A, 0x0153, 0x009D, 0x017E, 0x0178,
 ];
 
-// Where a code point stands in a table.
-#[derive(Clone, Copy)]
-pub enum Found {
-    At(usize),
-    Missing,
-}
-
-ghost use Rattle.std.specs.Prelude.{◌≡◌, true, not, ◌&&◌, ◌+◌, ◌≤◌, min, eqb, length};
-ghost use Rattle.standard.specs.Base.{◌then◌else◌, within, mapped};
+ghost use Rattle.std.specs.Prelude.{◌≡◌, ◌==◌, not, ◌&&◌, ◌≤◌, eqb, length, take, false, position};
+ghost use Rattle.std.specs.List.{list_any};
+ghost use Rattle.standard.specs.Base.{within, mapped};
 ghost use Rattle.standard.specs.Encodings.{family, traits, fits, lent};
 ghost use Rattle.standard.specs.Sequence.{cell};
 ghost use Rattle.standard.specs.Search.{pass_over, first, last, search, index_pointer, pointer_from};
-ghost use Rattle.index_spec.specs.IndexRead.{entry};
-ghost use Rattle.index_spec.specs.IndexCall.{enter, index_line};
-ghost use Rattle.index.specs.IndexCode.{pointer_of, Absent};
+ghost use Rattle.index_spec.specs.IndexCall.{index_line};
+ghost use Rattle.index.specs.IndexCode.{answer_of, pointer_of};
+ghost use Rattle.index.specs.declared.Refusal.TheVariants.{BadLine};
 ghost use Rattle.std.proofs.Math.Seq.{slice};
 
 // Does a cell count as mapped: is it a scalar of at least 0x80?
 pub fn mapped(c: u32) -> bool
     ensures { result ≡ mapped c }
 {
-    if c < 0x80 {
-        return false;
-    }
-    if c < 0xD800 {
-        return true;
-    }
-    if c < 0xE000 {
-        return false;
-    }
-    c <= 0x10FFFF
+    matches!(c, 0x80..=0xD7FF | 0xE000..=0x10FFFF)
 }
 
 // The cell at a pointer; 0 where there is none, or one that counts as unmapped.
+#[tactic(auto, unfolding(standard::specs::Sequence::cell))]
 pub fn cell(table: &[u32], p: usize) -> u32
     ensures { result ≡ cell table.now p }
 {
-    if table.len() <= p {
-        return 0;
+    match table.get(p) {
+        Some(&c) if mapped(c) => c,
+        _ => 0,
     }
-    let c = table[p];
-    if mapped(c) { c } else { 0 }
 }
 
-fn least(a: usize, b: usize) -> usize
-    ensures { result ≡ min a b }
+// How many cells at the front are passed over on the way to a code point, in blocks that lack it: `contains` compares several cells at once.
+fn passed_over(cells: &[u32], c: u32) -> usize
+    ensures within { result ≤ length cells.now }
+    ensures lacks { list_any (λ x. x == c) (take result cells.now) ≡ false }
 {
-    if a < b { a } else { b }
-}
-
-// The first place from `start` on and before `end` whose cell is `c`, cell by cell.
-fn find_each(table: &[u32], start: usize, end: usize, c: u32) -> Found
-    requires { (mapped c ≡ true) × (end ≤ length table.now) }
-    ensures { pointer_of result ≡ pointer_from start (slice start end table.now) c }
-{
-    let mut i = start;
-    while i < end {
-        if table[i] == c {
-            return Found::At(i);
+    let mut passed = 0;
+    for block in cells.chunks_exact(64) {
+        if block.contains(&c) {
+            return passed;
         }
-        i += 1;
+        passed += 64;
     }
-    Found::Missing
+    passed
 }
 
-// 1 for equal cells, else 0.
-fn equal(a: u32, b: u32) -> u32
-    ensures { (result ≡ (eqb a b then 1 else 0)) × (result ≤ 1) }
+// The first place of a code point in some cells, cell by cell.
+fn find_each(cells: &[u32], c: u32) -> Option<usize>
+    ensures { result ≡ position (λ x. x == c) cells.now }
 {
-    if a == b {
-        return 1;
-    }
-    0
+    cells.iter().position(|x| *x == c)
 }
 
-// How many of 16 cells are `c`. A loop with no return in it takes several cells at once.
-fn among(table: &[u32], at: usize, c: u32) -> u32
-    requires { at + 16 ≤ length table.now }
-    ensures { result ≡ 0 → Absent table.now at (at + 16) c }
+// The same, by blocks.
+fn find(cells: &[u32], c: u32) -> Option<usize>
+    ensures { result ≡ position (λ x. x == c) cells.now }
 {
-    let mut n: u32 = 0;
-    let mut i: usize = 0;
-    while i < 16 {
-        n += equal(table[at + i], c);
-        i += 1;
-    }
-    n
-}
-
-// The same as `find_each`, by blocks of 16 cells.
-fn find(table: &[u32], start: usize, end: usize, c: u32) -> Found
-    requires { (mapped c ≡ true) × (end ≤ length table.now) }
-    ensures { pointer_of result ≡ pointer_from start (slice start end table.now) c }
-{
-    let mut i = start;
-    while i < end {
-        if end - i < 16 {
-            return find_each(table, i, end, c);
-        }
-        if among(table, i, c) != 0 {
-            return find_each(table, i, end, c);
-        }
-        i += 16;
-    }
-    Found::Missing
+    let passed = passed_over(cells, c);
+    find_each(&cells[passed..], c).map(|place| passed + place)
 }
 
 // The pointer of a code point in a stretch of a table, from `start` on and before `end`: the first whose cell counts as mapped and equals it.
-pub fn pointer_between(table: &[u32], start: usize, end: usize, c: u32) -> Found
+pub fn pointer_between(table: &[u32], start: usize, end: usize, c: u32) -> Option<usize>
     ensures { pointer_of result ≡ pointer_from start (slice start end table.now) c }
 {
     if !mapped(c) {
-        return Found::Missing;
+        return None;
     }
-    find(table, start, least(end, table.len()), c)
+    let stretch = table.get(start..end.min(table.len()))?;
+    find(stretch, c).map(|at| start + at)
 }
 
 // The pointer of a code point in a table.
-pub fn pointer(table: &[u32], c: u32) -> Found
+pub fn pointer(table: &[u32], c: u32) -> Option<usize>
     ensures { pointer_of result ≡ index_pointer table.now c }
 {
     pointer_between(table, 0, table.len(), c)
 }
 
 // The pointer of a code point in a table, with the pointers from low to high passed over.
-pub fn pointer_outside(table: &[u32], low: u32, high: u32, c: u32) -> Found
+pub fn pointer_outside(table: &[u32], low: u32, high: u32, c: u32) -> Option<usize>
     ensures { pointer_of result ≡ search first (pass_over low high) table.now c }
 {
-    match pointer_between(table, 0, low as usize, c) {
-        Found::At(p) => Found::At(p),
-        Found::Missing => pointer_between(table, high as usize + 1, table.len(), c),
-    }
+    pointer_between(table, 0, low as usize, c).or_else(|| pointer_between(
+        table,
+        high as usize + 1,
+        table.len(),
+        c,
+    ))
 }
 
 // Is a cell the code point, counting as mapped, and its pointer not from low to high?
 pub fn hits(low: usize, high: usize, p: usize, x: u32, c: u32) -> bool
     ensures { result ≡ (not (within low p high) && (mapped x && eqb x c)) }
 {
-    if x != c {
-        return false;
-    }
-    if !mapped(x) {
-        return false;
-    }
-    if p < low {
-        return true;
-    }
-    high < p
+    x == c && mapped(x) && (p < low || high < p)
 }
 
 // The last pointer of a code point in a table, with the pointers from low to high passed over.
-pub fn last_outside(table: &[u32], low: u32, high: u32, c: u32) -> Found
+pub fn last_outside(table: &[u32], low: u32, high: u32, c: u32) -> Option<usize>
     ensures { pointer_of result ≡ search last (pass_over low high) table.now c }
 {
-    let mut p = table.len();
-    while 0 < p {
-        p -= 1;
+    for p in (0..table.len()).rev() {
         if hits(low as usize, high as usize, p, table[p], c) {
-            return Found::At(p);
+            return Some(p);
         }
     }
-    Found::Missing
+    None
 }
 
 // Is the first table's length as it must be for an encoding?
@@ -186,66 +130,64 @@ pub fn first_fits(encoding: u8, first: &[u32]) -> bool
 }
 
 // Are the lent tables' lengths as they must be for an encoding?
+#[tactic(auto, unfolding(standard::specs::Encodings::fits))]
 pub fn tables_fit(encoding: u8, first: &[u32], second: &[u32]) -> bool
     ensures { result ≡ fits (family encoding) (lent first.now second.now) }
 {
-    if first_fits(encoding, first) {
-        return lengths::second_fits(encoding, second.len());
-    }
-    false
+    first_fits(encoding, first) && lengths::second_fits(encoding, second.len())
 }
 
-// An entry fills the cell at its pointer. 13: there is none, or it is not 0.
-fn enter(table: &mut [u32], pointer: u32, c: u32) -> Line
-    ensures { (result ≡ (enter (entry pointer c) table.old).answer) ×
-        (table.new ≡ (enter (entry pointer c) table.old).table) }
+// Why a line is refused.
+#[derive(Clone, Copy)]
+enum Refusal {
+    LongLine,
+    BadLine,
+    NoFreeCell,
+}
+
+impl From<BadLine> for Refusal {
+    ghost from_gives = { λ _ r. r ≡ BadLine };
+
+    fn from(_: BadLine) -> Refusal {
+        Refusal::BadLine
+    }
+}
+
+// A line's entry put into the table: its pointer, or none for a line without an entry.
+fn enter(line: &[u8], table: &mut [u32]) -> Result<Option<u32>, Refusal>
+    ensures { (answer_of result ≡ (index_line line.now table.old).answer) ×
+        (table.new ≡ (index_line line.now table.old).table) }
 {
-    let at = pointer as usize;
-    if table.len() <= at {
-        return Line {
-            pointer: 0,
-            refusal: 13,
-            entry: 0,
-        };
+    if 1024 < line.len() {
+        return Err(Refusal::LongLine);
     }
-    if table[at] != 0 {
-        return Line {
-            pointer: 0,
-            refusal: 13,
-            entry: 0,
-        };
+    let Some(entry) = reading::read(line)? else {
+        return Ok(None);
+    };
+    let at = entry.pointer as usize;
+    if table.len() <= at || table[at] != 0 {
+        return Err(Refusal::NoFreeCell);
     }
-    table[at] = c;
-    Line {
-        pointer,
-        refusal: 0,
-        entry: 1,
-    }
+    table[at] = entry.code_point;
+    Ok(Some(entry.pointer))
 }
 
-// The index line call: what a line of a published index file is, and its entry put into the table. 8: a line above 1,024 bytes. 12: a bad line.
+// The index line call: what a line of a published index file is, and its entry put into the table.
 pub fn index_line(line: &[u8], table: &mut [u32]) -> Line
     ensures { (result ≡ (index_line line.now table.old).answer) ×
         (table.new ≡ (index_line line.now table.old).table) }
 {
-    if 1024 < line.len() {
-        return Line {
-            pointer: 0,
-            refusal: 8,
-            entry: 0,
-        };
-    }
-    match reading::read(line) {
-        Reading::NoEntry => Line {
-            pointer: 0,
-            refusal: 0,
-            entry: 0,
-        },
-        Reading::Bad => Line {
-            pointer: 0,
-            refusal: 12,
-            entry: 0,
-        },
-        Reading::Entry(pointer, c) => enter(table, pointer, c),
+    // Numbers and not enums: the C record has them.
+    let (pointer, refusal, entry) = match enter(line, table) {
+        Ok(Some(pointer)) => (pointer, 0, 1),
+        Ok(None) => (0, 0, 0),
+        Err(Refusal::LongLine) => (0, 8, 0),
+        Err(Refusal::BadLine) => (0, 12, 0),
+        Err(Refusal::NoFreeCell) => (0, 13, 0),
+    };
+    Line {
+        pointer,
+        refusal,
+        entry,
     }
 }

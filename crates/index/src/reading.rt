@@ -1,172 +1,110 @@
 // The parts of an index line: document 01, "Index line".
 
-ghost use Rattle.std.specs.Prelude.{◌≡◌, ◌+◌, ◌-◌, ◌≤◌, length, get_or, drop};
-ghost use Rattle.std.proofs.Math.Seq.{slice};
-ghost use Rattle.index_spec.specs.IndexLine.{digit, value, ending};
-ghost use Rattle.index_spec.specs.IndexRead.{marked, read};
-ghost use Rattle.index.specs.IndexCode.{passes, Past, read_of, entry_at};
+ghost use Rattle.std.specs.Prelude.{◌≡◌, ◌&&◌, ℕ, Bool, ◌≤◌, length};
+ghost use Rattle.standard.specs.Base.{within};
+ghost use Rattle.index_spec.specs.IndexLine.{hexadecimal, digit, value, ending};
+ghost use Rattle.index_spec.specs.IndexRead.{front, behind, is_no_entry, read};
+ghost use Rattle.index.specs.IndexCode.{read_of};
 
-// The bytes that a part is made of.
+// What a line says: the cell at a pointer.
 #[derive(Clone, Copy)]
-pub enum Kind {
-    Space,
-    Decimal,
-    Hexadecimal,
+pub(crate) struct Entry {
+    pub(crate) pointer: u32,
+    pub(crate) code_point: u32,
 }
 
-// What a line is; an entry with its pointer and its code point.
+// A line that is neither an entry nor without one.
 #[derive(Clone, Copy)]
-pub enum Reading {
-    NoEntry,
-    Bad,
-    Entry(u32, u32),
-}
+pub(crate) struct BadLine;
 
-fn decimal(b: u8) -> bool
-    ensures { result ≡ passes Kind.Decimal b }
+// The bytes at the front that pass a test, and those behind them.
+fn split_front<F: Fn(u8) -> bool>(bytes: &[u8], passes: F) -> (&[u8], &[u8])
+    requires { F.IsAlwaysCallable passes }
+    ensures { (p : ℕ → Bool) → ((b : ℕ) (r : Bool) → F.post passes b r → r ≡ p b) →
+        (result.0.now ≡ front p bytes.now) × (result.1.now ≡ behind p bytes.now) }
 {
-    if b < 0x30 {
-        return false;
-    }
-    b <= 0x39
-}
-
-fn hexadecimal(b: u8) -> bool
-    ensures { result ≡ passes Kind.Hexadecimal b }
-{
-    if b < 0x41 {
-        return decimal(b);
-    }
-    b <= 0x46
-}
-
-// Is a byte of this kind?
-fn is(kind: Kind, b: u8) -> bool
-    ensures { result ≡ passes kind b }
-{
-    match kind {
-        Kind::Space => b == 0x20,
-        Kind::Decimal => decimal(b),
-        Kind::Hexadecimal => hexadecimal(b),
-    }
-}
-
-// The place past the bytes of this kind that stand from a place on.
-fn past(line: &[u8], at: usize, kind: Kind) -> usize
-    ensures { Past (passes kind) line.now at result }
-{
-    let mut i = at;
-    while i < line.len() {
-        if !is(kind, line[i]) {
-            return i;
+    for (count, b) in bytes.iter().enumerate() {
+        if !passes(*b) {
+            return bytes.split_at(count);
         }
-        i += 1;
     }
-    i
+    bytes.split_at(bytes.len())
+}
+
+fn is_hexadecimal(b: u8) -> bool
+    ensures { result ≡ hexadecimal b }
+{
+    matches!(b, b'0'..=b'9' | b'A'..=b'F')
 }
 
 // The number that a digit stands for.
 fn digit(b: u8) -> u32
-    ensures { (result ≡ digit b) × (result ≤ 200) }
+    ensures value { result ≡ digit b }
+    ensures small { result ≤ 200 }
 {
-    if b < 0x30 {
-        return 0;
+    if b < b'A' {
+        u32::from(b.saturating_sub(b'0'))
+    } else {
+        u32::from(b - b'A') + 10
     }
-    let n = b as u32;
-    if n < 0x41 {
-        return n - 0x30;
-    }
-    n - 0x41 + 10
 }
 
-// The number that the digits of a part stand for.
-fn number(line: &[u8], at: usize, end: usize, base: u32) -> u32
-    requires { (end ≤ length line.now) × (end ≤ at + 7) × (base ≤ 16) }
-    ensures { result ≡ value base 0 (slice at end line.now) }
+// The number that a part's digits stand for.
+fn number(digits: &[u8], base: u32) -> u32
+    requires few { length digits.now ≤ 7 }
+    requires small { base ≤ 16 }
+    ensures { result ≡ value base 0 digits.now }
 {
-    let mut n: u32 = 0;
-    let mut i = at;
-    while i < end {
-        n = n * base + digit(line[i]);
-        i += 1;
+    let mut n = 0;
+    for b in digits {
+        n = n * base + digit(*b);
     }
     n
 }
 
-// The byte at a place, 0 past the end.
-fn byte_at(line: &[u8], at: usize) -> u8
-    ensures { result ≡ get_or line.now at 0 }
+// Does a line end here, or go on behind a tab?
+fn closes(rest: &[u8]) -> bool
+    ensures { result ≡ ending rest.now }
 {
-    if at < line.len() { line[at] } else { 0 }
+    matches!(rest.first(), None | Some(b'\t'))
 }
 
-// Do a tab and `0x` stand at a place?
-fn marked(line: &[u8], at: usize) -> bool
-    requires { at ≤ 4096 }
-    ensures { result ≡ marked (drop at line.now) }
+// Is a line empty, or does it start with `#`?
+fn has_no_entry(line: &[u8]) -> bool
+    ensures { result ≡ is_no_entry line.now }
 {
-    if byte_at(line, at) != 0x09 {
-        return false;
-    }
-    if byte_at(line, at + 1) != 0x30 {
-        return false;
-    }
-    byte_at(line, at + 2) == 0x78
+    matches!(line.first(), None | Some(b'#'))
 }
 
-// Does a place stand at the end, or at a tab?
-fn closed(line: &[u8], at: usize) -> bool
-    ensures { result ≡ ending (drop at line.now) }
+// Have the parts as many digits as they may, and does the line close behind them?
+fn parts_fit(pointer: &[u8], code: &[u8], rest: &[u8]) -> bool
+    ensures { result ≡ (within 1 (length pointer.now) 7 && (within 4 (length code.now) 6 && ending rest.now)) }
 {
-    if line.len() <= at {
-        return true;
-    }
-    line[at] == 0x09
+    matches!(pointer.len(), 1..=7) && matches!(code.len(), 4..=6) && closes(rest)
 }
 
-// The code point's digits and the ending, with the pointer's digits before them.
-fn entry(line: &[u8], start: usize, tab: usize) -> Reading
-    requires { (start ≤ tab) × (tab ≤ length line.now) × (length line.now ≤ 1024) }
-    ensures { read_of result ≡ entry_at line.now start tab }
-{
-    if tab == start {
-        return Reading::Bad;
-    }
-    if 7 < tab - start {
-        return Reading::Bad;
-    }
-    if !marked(line, tab) {
-        return Reading::Bad;
-    }
-    let code = tab + 3;
-    let end = past(line, code, Kind::Hexadecimal);
-    if end < code + 4 {
-        return Reading::Bad;
-    }
-    if code + 6 < end {
-        return Reading::Bad;
-    }
-    if !closed(line, end) {
-        return Reading::Bad;
-    }
-    let c = number(line, code, end, 16);
-    if !crate::mapped(c) {
-        return Reading::Bad;
-    }
-    Reading::Entry(number(line, start, tab, 10), c)
-}
-
-// A line, read from its start.
-pub(crate) fn read(line: &[u8]) -> Reading
-    requires { length line.now ≤ 1024 }
+// A line, read from its start: spaces, the pointer's digits, a tab and 0x, the code point's digits, and the ending.
+pub(crate) fn read(line: &[u8]) -> Result<Option<Entry>, BadLine>
     ensures { read_of result ≡ read line.now }
 {
-    if line.len() == 0 {
-        return Reading::NoEntry;
+    if has_no_entry(line) {
+        return Ok(None);
     }
-    if line[0] == 0x23 {
-        return Reading::NoEntry;
+    let (_, rest) = split_front(line, |b| b == b' ');
+    let (pointer, rest) = split_front(rest, |b| b.is_ascii_digit());
+    let Some(rest) = rest.strip_prefix(b"\t0x") else {
+        return Err(BadLine);
+    };
+    let (code, rest) = split_front(rest, is_hexadecimal);
+    if !parts_fit(pointer, code, rest) {
+        return Err(BadLine);
     }
-    let start = past(line, 0, Kind::Space);
-    entry(line, start, past(line, start, Kind::Decimal))
+    let code_point = number(code, 16);
+    if !crate::mapped(code_point) {
+        return Err(BadLine);
+    }
+    Ok(Some(Entry {
+        pointer: number(pointer, 10),
+        code_point,
+    }))
 }

@@ -1,5 +1,5 @@
 -- One byte of a file, and the started line. Assumes nothing.
-use mathlib.Core.Path.{◌≡◌, refl, ap, ◌∙◌, subst}
+use mathlib.Core.Path.{◌≡◌, refl, ap, sym, ◌∙◌, subst}
 use mathlib.Core.List.{List, [], ◌∷◌}
 use Prim.Native.Nat.{ℕ, ◌+◌, ◌≤◌, ◌<◌}
 use native.Mathlib.Numerals.{add-one}
@@ -9,35 +9,35 @@ use lib.ListN.{length, set, get_or, take, drop}
 use lib.Seq.{take-suc-set, length-take-le, drop-cons}
 use borrow.Author.Tests.{eq-eqb, ne_eqb, lt-ltb, le-ltb}
 use Rattle.index_spec.specs.IndexCall.{index_line}
-use Rattle.index_spec.specs.declared.Line.{Line}
-use Rattle.index_loading.specs.Steps.{Place, close, on_byte, on_bytes, on_end, at, most, placed, Stands}
+use Rattle.index_loading.specs.Steps.{Place, close, on_byte, on_bytes, on_end, at, most, placed, told, Stands}
+use Rattle.std.specs.declared.result.Result.{Result}
 use Rattle.index_loading.specs.declared.Loading.{Loading}
 
-pub close_stands : (line table : List ℕ) (n : ℕ) {a : Line} {after : List ℕ} → a ≡ (index_line (take n line) table).answer →
-    after ≡ (index_line (take n line) table).table → Stands (close (placed (at n 0) line table)) (at 0 a.refusal) line after
-close_stands line table n p q = record { few = lit≤ tt; stands = λ i. record { line = []; table = q i; refusal = (p i).refusal } }
+module _ (line table : List ℕ) (n : ℕ) (r : Result ℕ ℕ) (after : List ℕ) (p : told r ≡ at 0 (index_line (take n line) table).answer.refusal)
+    (q : after ≡ (index_line (take n line) table).table) where
+  pub close_stands : Stands (close (placed (at n 0) line table)) (told r) line after
+  close_stands = rw (p, q) (record { few = lit≤ tt; stands = refl })
 
-module _ (s : Loading) (b : ℕ) (line table : List ℕ) (size : 1025 ≤ length line) (few : s.length ≤ 1025) (none : s.refusal ≡ 0) where
-  count : length (take s.length line) ≡ s.length
-  count = length-take-le s.length line (omega (arith, size, few))
-
-  pub byte_ends : b ≡ 0x0A → {r : Loading} {after : List ℕ} → Stands (close (placed (at s.length 0) line table)) r line after →
-      Stands (on_byte (placed s line table) b) r line after
+  pub byte_ends : (b : ℕ) → b ≡ 0x0A → Stands (on_byte (placed (at n 0) line table) b) (told r) line after
   unfolding on_byte
-  byte_ends h k = rw (eq-eqb s.refusal 0 none, eq-eqb b 0x0A h) k
+  byte_ends b h = rw (eq-eqb b 0x0A h) close_stands
 
-  pub byte_kept : (b ≡ 0x0A → ⊥) → s.length < 1025 → Stands (on_byte (placed s line table) b) (at (s.length + 1) 0) (set line s.length b) table
+module _ (n b : ℕ) (line table : List ℕ) (size : 1025 ≤ length line) (few : n ≤ 1025) (h : b ≡ 0x0A → ⊥) where
+  count : length (take n line) ≡ n
+  count = length-take-le n line (omega (arith, size, few))
+
+  pub byte_kept : (n ≡ 1025 → ⊥) → Stands (on_byte (placed (at n 0) line table) b) (at (n + 1) 0) (set line n b) table
   unfolding on_byte
-  byte_kept h l = rw (eq-eqb s.refusal 0 none, ne_eqb b 0x0A h, lt-ltb (length (take s.length line)) 1025 (omega (arith, count)))
+  byte_kept l = rw (ne_eqb b 0x0A h, lt-ltb (length (take n line)) 1025 (omega (arith, count, few)))
       (record {
         few = omega arith;
         stands = ap (λ (t : List ℕ). record { line = t; table = table; refusal = 0 })
-            (ap (λ (k : ℕ). take k (set line s.length b)) (add-one s.length) ∙ take-suc-set line s.length b (omega (arith, size)));
+            (ap (λ (k : ℕ). take k (set line n b)) (add-one n) ∙ take-suc-set line n b (omega (arith, size)));
       })
 
-  pub byte_left : (b ≡ 0x0A → ⊥) → 1025 ≤ s.length → Stands (on_byte (placed s line table) b) s line table
+  pub byte_left : n ≡ 1025 → Stands (on_byte (placed (at n 0) line table) b) (at n 0) line table
   unfolding on_byte
-  byte_left h l = rw (eq-eqb s.refusal 0 none, ne_eqb b 0x0A h, le-ltb (length (take s.length line)) 1025 (omega (arith, count)))
+  byte_left l = rw (ne_eqb b 0x0A h, le-ltb (length (take n line)) 1025 (omega (arith, count)))
       (record { few = few; stands = refl })
 
 -- behind a line at fault nothing is done
@@ -51,6 +51,13 @@ pub one_on : (p : Place) (bs : List ℕ) (i : ℕ) → i < length bs → on_byte
 unfolding on_bytes
 one_on p bs i h = rw (drop-cons bs i 0 h, add-one)
 
+module _ (p : Place) (bs : List ℕ) (i : ℕ) (h : i < length bs) (s : Loading) (line table : List ℕ) (t : Stands (on_byte p (get_or bs i 0)) s line table) where
+  pub step_on : on_bytes p (drop i bs) ≡ on_bytes (placed s line table) (drop (i + 1) bs)
+  step_on = one_on p bs i h ∙ ap (λ (q : Place). on_bytes q (drop (i + 1) bs)) (sym t.stands)
+
+  pub step_fault : (s.refusal ≡ 0 → ⊥) → on_bytes p (drop i bs) ≡ placed s line table
+  step_fault n = step_on ∙ stays (placed s line table) (drop (i + 1) bs) n
+
 end_none : (s : Loading) (line table : List ℕ) → (s.refusal ≡ 0 → ⊥) → on_end (placed s line table) ≡ placed s line table
 unfolding on_end
 end_none s line table h = rw (ne_eqb s.refusal 0 h)
@@ -59,8 +66,18 @@ end_closes : (s : Loading) (line table : List ℕ) → s.refusal ≡ 0 → on_en
 unfolding on_end
 end_closes s line table h = rw (eq-eqb s.refusal 0 h)
 
--- the end of the file, for the place that the code makes of the one it was handed
+-- for the place that the code makes of the one it was handed: bytes, and the end of the file
 module _ (s : Loading) (line table : List ℕ) {m : Loading} (e : m ≡ most s) where
+  pub loads_stay : (bs : List ℕ) → (m.refusal ≡ 0 → ⊥) → m.length ≤ 1025 → Stands (on_bytes (placed (most s) line table) bs) m line table
+  loads_stay bs h k = subst (λ (x : Loading). Stands (on_bytes (placed x line table) bs) m line table) e
+      (record { few = k; stands = sym (stays (placed m line table) bs h) })
+
+  pub loads_by : (bs : List ℕ) → m.refusal ≡ 0 → {r : Loading} {line' table' : List ℕ} → Stands (on_bytes (placed (at m.length 0) line table) bs) r line' table' →
+      Stands (on_bytes (placed (most s) line table) bs) r line' table'
+  loads_by bs h {r} {line'} {table'} k =
+      let g : at m.length 0 ≡ m = λ i. record { length = m.length; refusal = sym h i } in
+      subst (λ (x : Loading). Stands (on_bytes (placed x line table) bs) r line' table') (g ∙ e) k
+
   pub end_stays : (m.refusal ≡ 0 → ⊥) → m.length ≤ 1025 → Stands (on_end (placed (most s) line table)) m line table
   end_stays h k = subst (λ (x : Loading). Stands (on_end (placed x line table)) m line table) e
       (rw (end_none m line table h) (record { few = k; stands = refl }))

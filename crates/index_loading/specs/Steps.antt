@@ -1,6 +1,7 @@
 -- Loading as the code does it, a byte at a time: of a started line at most 1,025 bytes are kept. Contracts cite these; that they come to
 -- `loading` is proved. Assumes nothing.
-use Rattle.std.specs.Prelude.{◌≡◌, List, [], ◌∷◌, ◌++◌, ℕ, ◌≤◌, ◌<◌, ltb, eqb, length, take}
+use Rattle.std.specs.Prelude.{◌≡◌, List, [], ◌∷◌, ◌++◌, ℕ, ◌≤◌, ◌<◌, ltb, eqb, length, take, Ok, Err}
+use Rattle.std.specs.declared.result.Result.{Result}
 use Rattle.standard.specs.Base.{◌then◌else◌}
 use Rattle.index_spec.specs.IndexCall.{index_line}
 use Rattle.index_loading.specs.Loading.{Loaded}
@@ -41,6 +42,11 @@ placed s kept table = record { line = take s.length kept; table = table; refusal
 -- A place with n bytes kept.
 abbrev pub at : ℕ → ℕ → Loading
 at n refusal = record { length = n; refusal = refusal }
+
+-- Where loading stands once a step of the code is done: the bytes that are kept, or the refusal number of a line at fault.
+abbrev pub told : Result ℕ ℕ → Loading
+told (Ok n) = at n 0
+told (Err r) = at 0 r
 
 -- This is where loading is to stand.
 pub record Stands (p : Place) (s : Loading) (kept table : List ℕ) : Type 0 where

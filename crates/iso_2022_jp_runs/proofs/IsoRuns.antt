@@ -2,7 +2,7 @@
 use mathlib.Core.Path.{◌≡◌, refl, sym, subst, ◌∙◌}
 use mathlib.Core.Bool.{Bool, true, false, ◌||◌}
 use mathlib.Core.List.{List, [], ◌∷◌}
-use Prim.Native.Nat.{ℕ, ◌+◌, ◌-◌, ◌/◌, ◌≤◌, ◌<◌}
+use Prim.Native.Nat.{ℕ, ◌+◌, ◌/◌, ◌≤◌, ◌<◌}
 use native.Mathlib.Omega.{arith}
 use native.Mathlib.Nat.{add-zero}
 use lib.Dec.{eqb}
@@ -107,19 +107,19 @@ module _ (t : Tables) (m : ℕ) (n : m ≡ 1 → ⊥) (chunk : List ℕ) (at w :
       one_more f false 3 room _ three (omega arith) d e₃
 
 -- an escape at a place of the chunk, where something came since the one before
-pub escape_there : (chunk : List ℕ) (i flag r : ℕ) → (flag ≡ 1 → ⊥) → i + 3 ≤ length chunk → get_or chunk i 0 ≡ 0x1B →
-    eqb (get_or chunk (i + 1) 0) 0x24 || eqb (get_or chunk (i + 1) 0) 0x28 ≡ true → r < 5 → (r ≡ 0 → ⊥) →
-    escaped (get_or chunk (i + 1) 0) (get_or chunk (i + 2) 0) ≡ r - 1 →
-    (t : Tables) (state : ℕ) → next t ISO-2022-JP (shift state (eqb flag 1)) (drop i chunk) ≡ item 3 (shift (r - 1) true) (text [])
+pub escape_there : (chunk : List ℕ) (i flag s : ℕ) → (flag ≡ 1 → ⊥) → i + 3 ≤ length chunk → get_or chunk i 0 ≡ 0x1B →
+    eqb (get_or chunk (i + 1) 0) 0x24 || eqb (get_or chunk (i + 1) 0) 0x28 ≡ true → s < 4 →
+    escaped (get_or chunk (i + 1) 0) (get_or chunk (i + 2) 0) ≡ s →
+    (t : Tables) (state : ℕ) → next t ISO-2022-JP (shift state (eqb flag 1)) (drop i chunk) ≡ item 3 (shift s true) (text [])
 unfolding next iso2022_jp
-escape_there chunk i flag r n h b c l z e t state =
-    rw (three_at chunk i (omega arith), b, c, e, lt-leb 4 (r - 1) (omega arith), ne_eqb flag 1 n)
+escape_there chunk i flag s n h b c l e t state =
+    rw (three_at chunk i (omega arith), b, c, e, lt-leb 4 s (omega arith), ne_eqb flag 1 n)
 
 -- the two escapes that a run reads
-pub escape_to_pairs : (c d : ℕ) → d ≡ 0x42 → c ≡ 0x24 → (eqb c 0x24 || eqb c 0x28 ≡ true) × (4 < 5) × (escaped c d ≡ 4 - 1)
+pub escape_to_pairs : (c d : ℕ) → d ≡ 0x42 → c ≡ 0x24 → (eqb c 0x24 || eqb c 0x28 ≡ true) × (3 < 4) × (escaped c d ≡ 3)
 unfolding escaped
 escape_to_pairs c d e f = rw (e, f) (refl, omega arith, refl)
 
-pub escape_to_ascii : (c d : ℕ) → d ≡ 0x42 → c ≡ 0x28 → (eqb c 0x24 || eqb c 0x28 ≡ true) × (1 < 5) × (escaped c d ≡ 1 - 1)
+pub escape_to_ascii : (c d : ℕ) → d ≡ 0x42 → c ≡ 0x28 → (eqb c 0x24 || eqb c 0x28 ≡ true) × (0 < 4) × (escaped c d ≡ 0)
 unfolding escaped
 escape_to_ascii c d e f = rw (e, f) (refl, omega arith, refl)

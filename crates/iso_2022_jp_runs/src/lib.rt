@@ -1,19 +1,18 @@
 // Runs of ISO-2022-JP.
 #![tactic(auto)]
 
-ghost use Rattle.std.specs.Prelude.{◌≡◌, Bool, true, false, ◌||◌, List, ◌∷◌, [], ℕ, ◌+◌, ◌-◌, ◌≤◌, ◌<◌, eqb, length, drop, get_or};
+ghost use Rattle.std.specs.Prelude.{◌≡◌, Bool, true, false, ◌||◌, List, ◌∷◌, [], ℕ, ◌+◌, ◌-◌, ◌≤◌, ◌<◌, eqb, length, drop, get_or, IfSome};
 ghost use Rattle.standard.specs.Encodings.{Tables, ISO-2022-JP, lent};
 ghost use Rattle.standard.specs.Sequence.{text, item, shift};
 ghost use Rattle.standard.specs.Sequences.Iso2022Jp.{escaped, byte_out};
 ghost use Rattle.standard.specs.Decode.{given};
 ghost use Rattle.standard.specs.Next.{next};
-ghost use Rattle.sequences.specs.Code.{next_of};
 ghost use Rattle.runs.specs.Run.{Run, Ready, placed};
 
 use index::cell;
 use layouts::iso_2022_jp_pointer;
 use runs::{Place, next_at, ready, scalar_of, wide};
-use sequences::Sequence;
+use sequences::Out;
 
 // A run of ISO-2022-JP.
 pub fn iso_2022_jp_run(
@@ -37,115 +36,101 @@ fn sequences(mode: u8, chunk: &[u8], t1: &[u32], t2: &[u32], room: &mut [u32], p
     requires { Ready chunk.now p.at room.old p.written }
     ensures { Run (lent t1.now t2.now) ISO-2022-JP mode chunk.now p result room.old room.new }
 {
-    let mut i = p.at;
-    let mut o = p.written;
-    let mut s = p.state;
-    let mut f = p.flag;
+    let mut p = p;
     loop {
-        let r = stretch(mode, chunk, t1, t2, i, room, o, s, f);
-        let e = escape_at(chunk, r.at, r.flag);
-        if e != 0 {
-            i = r.at + 3;
-            o = r.written;
-            s = e - 1;
-            f = 1;
+        let r = stretch(mode, chunk, t1, t2, room, p);
+        if let Some(state) = escape_at(chunk, r.at, r.flag) {
+            p = Place {
+                at: r.at + 3,
+                written: r.written,
+                state,
+                flag: 1,
+            };
             continue;
         }
-        let q = next_at(t1, t2, 33, r.state, r.flag, chunk, r.at);
-        if silent(q) {
-            i = r.at + (q.width as usize);
-            o = r.written;
-            s = q.state;
-            f = q.flag;
-            continue;
-        }
-        let c = scalar_of(mode, q);
-        if c == 0 {
+        let Some(q) = next_at(t1, t2, 33, r.state, r.flag, chunk, r.at) else {
             return r;
+        };
+        let at = r.at + q.width as usize;
+        let flag = u8::from(q.shift.flag);
+        if let Out::Nothing = q.out {
+            p = Place {
+                at,
+                written: r.written,
+                state: q.shift.state,
+                flag,
+            };
+            continue;
         }
-        let w = r.written;
-        room[w] = c;
-        i = r.at + (q.width as usize);
-        o = w + 1;
-        s = q.state;
-        f = q.flag;
+        let Some(c) = scalar_of(mode, q) else {
+            return r;
+        };
+        room[r.written] = c;
+        p = Place {
+            at,
+            written: r.written + 1,
+            state: q.shift.state,
+            flag,
+        };
     }
 }
 
-// One plus the state that an escape at a place leads to; 0 where there is none, and where it is an error or stays for `next`.
-fn escape_at(chunk: &[u8], i: usize, flag: u8) -> u8
-    ensures { (result ≡ 0 → ⊥) → (i + 3 ≤ length chunk.now) × ((t : Tables) (state : ℕ) →
-        next t ISO-2022-JP (shift state (eqb flag 1)) (drop i chunk.now) ≡ item 3 (shift (result - 1) true) (text [])) }
+// The state that an escape at a place leads to; none where there is no escape, and where it is an error or stays for `next`.
+fn escape_at(chunk: &[u8], i: usize, flag: u8) -> Option<u8>
+    ensures { IfSome result (λ s. (i + 3 ≤ length chunk.now) × ((t : Tables) (state : ℕ) →
+        next t ISO-2022-JP (shift state (eqb flag 1)) (drop i chunk.now) ≡ item 3 (shift s true) (text []))) }
 {
     if flag == 1 {
-        return 0;
+        return None;
     }
     if chunk.len() < i {
-        return 0;
+        return None;
     }
     if chunk.len() - i < 3 {
-        return 0;
+        return None;
     }
     if chunk[i] != 0x1B {
-        return 0;
+        return None;
     }
     escape_of(chunk[i + 1], chunk[i + 2])
 }
 
 // The same by the second and third byte of an escape: to ASCII and to the state of lead bytes; the rare ones stay for `next`.
-fn escape_of(c: u8, d: u8) -> u8
-    ensures { (result ≡ 0 → ⊥) → (eqb c 0x24 || eqb c 0x28 ≡ true) × (result < 5) × (escaped c d ≡ result - 1) }
+fn escape_of(c: u8, d: u8) -> Option<u8>
+    ensures { IfSome result (λ s. (eqb c 0x24 || eqb c 0x28 ≡ true) × (s < 4) × (escaped c d ≡ s)) }
 {
     if d != 0x42 {
-        return 0;
+        return None;
     }
     if c == 0x24 {
-        return 4;
+        return Some(3);
     }
     if c == 0x28 {
-        return 1;
+        return Some(0);
     }
-    0
+    None
 }
 
 // Characters of one state, as far as they go without an escape or an error that stops.
-fn stretch(
-    mode: u8,
-    chunk: &[u8],
-    t1: &[u32],
-    t2: &[u32],
-    from: usize,
-    room: &mut [u32],
-    place: usize,
-    state: u8,
-    flag: u8,
-) -> Place
-    requires { Ready chunk.now from room.old place }
-    ensures { Run (lent t1.now t2.now) ISO-2022-JP mode chunk.now (placed from place state flag) result room.old room.new }
+fn stretch(mode: u8, chunk: &[u8], t1: &[u32], t2: &[u32], room: &mut [u32], p: Place) -> Place
+    requires { Ready chunk.now p.at room.old p.written }
+    ensures { Run (lent t1.now t2.now) ISO-2022-JP mode chunk.now p result room.old room.new }
 {
-    if state == 0 {
-        let r = eights(mode, chunk, from, room, place, flag);
-        return bytes(mode, chunk, t1, t2, r.at, room, r.written, r.flag);
+    if p.state == 0 {
+        let r = eights(mode, chunk, p.at, room, p.written, p.flag);
+        return bytes(mode, chunk, r.at, room, r.written, r.flag);
     }
-    if state == 3 {
-        return pairs(mode, chunk, t1, t2, from, room, place, flag);
+    if p.state == 3 {
+        return pairs(mode, chunk, t1, p.at, room, p.written, p.flag);
     }
-    Place {
-        at: from,
-        written: place,
-        state,
-        flag,
-    }
+    p
 }
 
 // 1 for the first byte of an escape, 0 for another.
 fn one_if_escape(b: u8) -> u8
     ensures { b ≡ 0x1B → 1 ≤ result }
 {
-    if b == 0x1B {
-        return 1;
-    }
-    0
+    u8::from(b == 0x1B)
 }
 
 // Is none of eight bytes the first of an escape? They are tested together, without a branch for each.
@@ -216,18 +201,9 @@ fn eight_left(mode: u8, left: usize) -> bool
 }
 
 // Bytes in the state of ASCII.
-fn bytes(
-    mode: u8,
-    chunk: &[u8],
-    t1: &[u32],
-    t2: &[u32],
-    from: usize,
-    room: &mut [u32],
-    place: usize,
-    flag: u8,
-) -> Place
+fn bytes(mode: u8, chunk: &[u8], from: usize, room: &mut [u32], place: usize, flag: u8) -> Place
     requires { Ready chunk.now from room.old place }
-    ensures { Run (lent t1.now t2.now) ISO-2022-JP mode chunk.now (placed from place 0 flag) result room.old room.new }
+    ensures { (t : Tables) → Run t ISO-2022-JP mode chunk.now (placed from place 0 flag) result room.old room.new }
 {
     let n = chunk.len();
     let mut i = from;
@@ -236,12 +212,7 @@ fn bytes(
     while i < n {
         let b = chunk[i];
         if !one_scalar(mode, b) {
-            return Place {
-                at: i,
-                written: o,
-                state: 0,
-                flag: f,
-            };
+            break;
         }
         room[o] = byte_scalar(b);
         i += 1;
@@ -260,30 +231,23 @@ fn bytes(
 fn pairs(
     mode: u8,
     chunk: &[u8],
-    t1: &[u32],
-    t2: &[u32],
+    index: &[u32],
     from: usize,
     room: &mut [u32],
     place: usize,
     flag: u8,
 ) -> Place
     requires { Ready chunk.now from room.old place }
-    ensures { Run (lent t1.now t2.now) ISO-2022-JP mode chunk.now (placed from place 3 flag) result room.old room.new }
+    ensures { (second : List ℕ) → Run (lent index.now second) ISO-2022-JP mode chunk.now (placed from place 3 flag) result room.old room.new }
 {
     let n = chunk.len();
     let mut i = from;
     let mut o = place;
     let mut f = flag;
     while 2 <= n - i {
-        let c = pair_code(t1, chunk[i], chunk[i + 1]);
-        if c == 0 {
-            return Place {
-                at: i,
-                written: o,
-                state: 3,
-                flag: f,
-            };
-        }
+        let Some(c) = pair_code(index, chunk[i], chunk[i + 1]) else {
+            break;
+        };
         room[o] = c;
         i += 2;
         o += 1;
@@ -297,16 +261,20 @@ fn pairs(
     }
 }
 
-// The code point of a pair, 0 for none.
-fn pair_code(index: &[u32], lead: u8, trail: u8) -> u32
-    ensures { (result ≡ 0 → ⊥) → (second : List ℕ) (flag : Bool) (xs : List ℕ) →
-        next (lent index.now second) ISO-2022-JP (shift 3 flag) (lead ∷ trail ∷ xs) ≡ item 2 (shift 3 false) (text (result ∷ [])) }
+// The code point of a pair.
+fn pair_code(index: &[u32], lead: u8, trail: u8) -> Option<u32>
+    ensures { IfSome result (λ c. (second : List ℕ) (flag : Bool) (xs : List ℕ) →
+        next (lent index.now second) ISO-2022-JP (shift 3 flag) (lead ∷ trail ∷ xs) ≡ item 2 (shift 3 false) (text (c ∷ []))) }
 {
     let p = iso_2022_jp_pointer(lead, trail);
-    if p < 32768 {
-        return cell(index, p);
+    if 32768 <= p {
+        return None;
     }
-    0
+    let c = cell(index, p);
+    if c == 0 {
+        return None;
+    }
+    Some(c)
 }
 
 // Does a byte give one scalar, in the state of ASCII? In mode 1 an error gives none.
@@ -336,14 +304,4 @@ fn byte_scalar(b: u8) -> u32
         return 0xFFFD;
     }
     wide(b)
-}
-
-// Does a sequence give nothing?
-fn silent(q: Sequence) -> bool
-    ensures { result ≡ true → next_of q ≡ item q.width (shift q.state (eqb q.flag 1)) (text []) }
-{
-    if q.width == 0 {
-        return false;
-    }
-    q.count == 0
 }

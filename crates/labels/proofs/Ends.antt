@@ -1,79 +1,55 @@
--- White space at the ends, byte by byte, as the code drops it. Assumes nothing.
-use mathlib.Core.Path.{◌≡◌, sym, ap, ◌∙◌}
-use mathlib.Core.Bool.{true, false}
-use mathlib.Core.List.{List, [], ◌∷◌, ◌++◌, reverse, reverse-append, reverse-reverse}
-use Prim.Native.Nat.{ℕ, suc, ◌+◌, ◌-◌, ◌≤◌, ◌<◌}
-use native.Mathlib.Numerals.{add-one}
-use native.Mathlib.Omega.{arith}
-use lib.ListN.{length, get_or, take, drop, length-drop}
-use lib.Seq.{take-suc, take_all, drop-cons, drop-length}
+-- White space at the ends of a label, as std's trimming leaves it. Assumes nothing.
+use Rattle.std.proofs.Common.{◌≡◌, sym, ap, ◌∙◌, ℕ, zero, suc, ◌-◌, ◌≤◌, ◌<◌, true, false, List, [], ◌∷◌, ◌++◌, length, get_or, take, drop, arith, length-drop}
+use Rattle.std.proofs.Math.Seq.{drop-append_seam}
+use Rattle.std.proofs.lemmas.List.{take_rest, take-append-drop, reverse-append, length-reverse, get_or-reverse}
+use Rattle.std.proofs.lemmas.Bool.Decides.{nat_tests}
+use Rattle.std.specs.Prelude.{reverse}
+use Rattle.std.specs.Char.{is_ascii_whitespace}
+use Rattle.std.specs.Str.{IsTrimAsciiStart, IsTrimAsciiEnd}
+use mathlib.Core.List.{reverse-reverse}
 use Rattle.labels_spec.specs.Labels.{white, start, trimmed}
-use Rattle.labels.specs.LookUp.{untail}
 
--- One byte of the front.
-module _ (s : List ℕ) (i : ℕ) (h : i < length s) where
-  pub start_white : white (get_or s i 0) ≡ true → i + start (drop i s) ≡ i + 1 + start (drop (i + 1) s)
-  unfolding start
-  start_white w =
-      let p : start (drop i s) ≡ suc (start (drop (i + 1) s)) = rw (add-one, drop-cons s i 0) (rw w) in
-      omega (arith, p)
+white_is : (b : ℕ) → is_ascii_whitespace b ≡ white b
+white_is b = grind (arith, nat_tests)
 
-  pub start_other : white (get_or s i 0) ≡ false → i + start (drop i s) ≡ i
-  unfolding start
-  start_other w =
-      let p : start (drop i s) ≡ 0 = rw (drop-cons s i 0) (rw w) in
-      omega (arith, p)
-
--- Nothing is left.
-pub start_end : (s : List ℕ) (i : ℕ) → i ≤ length s → length s ≤ i → i + start (drop i s) ≡ i
+-- The first n bytes are white space, and the next is none.
+start_at : (s : List ℕ) (n : ℕ) → n ≤ length s → ((i : ℕ) → i < n → is_ascii_whitespace (get_or s i 0) ≡ true) →
+    (n < length s → is_ascii_whitespace (get_or s n 0) ≡ false) → start s ≡ n
 unfolding start
-start_end s i h g =
-    let e : i ≡ length s = omega arith in
-    let p : start (drop i s) ≡ 0 = rw (e, drop-length s) in
-    omega (arith, p)
+start_at [] n h f g = omega arith
+start_at (b ∷ s) zero h f g = rw (sym (white_is b) ∙ g (omega arith))
+start_at (b ∷ s) (suc n) h f g =
+    rw (sym (white_is b) ∙ f 0 (omega arith)) (ap suc (start_at s n (omega arith) (λ i k. f (suc i) (omega arith)) (λ k. g (omega arith))))
 
--- The list reversed, with one byte more at the end.
-reverse_snoc : (xs : List ℕ) (b : ℕ) → reverse (xs ++ (b ∷ [])) ≡ b ∷ reverse xs
-reverse_snoc xs b = reverse-append xs (b ∷ [])
+pub start_is : (s r : List ℕ) → IsTrimAsciiStart s r → length s - length r ≡ start s
+start_is s r h =
+    let e = start_at s h.0 (omega arith) h.3 h.4 in omega (arith, e)
 
--- White space at the end goes.
-untail_white : (xs : List ℕ) (b : ℕ) → white b ≡ true → untail (xs ++ (b ∷ [])) ≡ untail xs
-unfolding start
-untail_white xs b w = rw (reverse_snoc xs b) (rw w)
+-- White space dropped from the end.
+untail : List ℕ → List ℕ
+untail xs = reverse (drop (start (reverse xs)) (reverse xs))
 
--- Any other byte at the end stays, with all before it.
-untail_other : (xs : List ℕ) (b : ℕ) → white b ≡ false → untail (xs ++ (b ∷ [])) ≡ xs ++ (b ∷ [])
-unfolding start
-untail_other xs b w = rw (reverse_snoc xs b) (rw w (ap reverse (sym (reverse_snoc xs b)) ∙ reverse-reverse (xs ++ (b ∷ []))))
+end_is : (s r : List ℕ) → IsTrimAsciiEnd s r → take (length r) s ≡ untail s
+unfolding untail
+end_is s r h =
+    let n = h.0 in
+    let e : start (reverse s) ≡ length s - n =
+    start_at (reverse s) (length s - n) (rw length-reverse (omega arith))
+    (λ i f. rw (get_or-reverse s i 0 (omega arith)) (h.4 (length s - 1 - i) (omega arith) (omega arith)))
+    (λ f. let g : 0 < n = omega (arith, length-reverse s) in
+    let i : length s - 1 - (length s - n) ≡ n - 1 = omega arith in
+    rw (get_or-reverse s (length s - n) 0 (omega arith), i) (h.5 g)) in
+    let d : length (reverse (drop n s)) ≡ length s - n = length-reverse (drop n s) ∙ length-drop n s in
+    let w : reverse s ≡ reverse (drop n s) ++ reverse (take n s) = sym (ap reverse (take-append-drop n s)) ∙ reverse-append (take n s) (drop n s) in
+    let k : drop (length s - n) (reverse s) ≡ reverse (take n s) =
+    ap (drop (length s - n)) w ∙ ap (λ (m : ℕ). drop m (reverse (drop n s) ++ reverse (take n s))) (sym d) ∙
+    drop-append_seam (reverse (drop n s)) (reverse (take n s)) in
+    ap (λ (m : ℕ). take m s) h.2 ∙
+    sym (ap (λ (m : ℕ). reverse (drop m (reverse s))) e ∙ ap reverse k ∙ reverse-reverse (take n s))
 
--- One byte of the end.
-module _ (s : List ℕ) (e : ℕ) (f : 0 < e) (h : e ≤ length s) where
-  last : take e s ≡ take (e - 1) s ++ (get_or s (e - 1) 0 ∷ [])
-  last = let p : e ≡ suc (e - 1) = omega arith in ap (λ n. take n s) p ∙ take-suc s (e - 1) 0 (omega arith)
-
-  pub back_white : white (get_or s (e - 1) 0) ≡ true → untail (take e s) ≡ untail (take (e - 1) s)
-  back_white w = ap untail last ∙ untail_white (take (e - 1) s) (get_or s (e - 1) 0) w
-
-  pub back_other : white (get_or s (e - 1) 0) ≡ false → take e s ≡ untail (take e s)
-  back_other w = sym (ap untail last ∙ untail_other (take (e - 1) s) (get_or s (e - 1) 0) w ∙ sym last)
-
--- Nothing is left.
-pub back_end : (s : List ℕ) (e : ℕ) → e ≤ 0 → take e s ≡ untail (take e s)
-unfolding start
-back_end s e h = let p : e ≡ 0 = omega arith in rw p
-
--- All is there.
-pub back_all : (s : List ℕ) → untail (take (length s) s) ≡ untail s
-back_all s = ap untail (take_all (length s) s (omega arith))
-
--- The rest of a list from a place on.
-pub rest : (s : List ℕ) (a : ℕ) → take (length s - a) (drop a s) ≡ drop a s
-rest s a = take_all (length s - a) (drop a s) (simp length-drop (omega arith))
-
--- Dropped in front, and then at the end, it is the trimmed label.
-pub both_ends : (s : List ℕ) (a e : ℕ) → a ≡ start s → take e (take (length s - a) (drop a s)) ≡ untail (take (length s - a) (drop a s)) →
-    take (e - 0) (take (length s - a) (drop a s)) ≡ trimmed s
-unfolding trimmed
-both_ends s a e p q =
-    let z : e - 0 ≡ e = omega arith in
-    ap (λ n. take n (take (length s - a) (drop a s))) z ∙ q ∙ ap untail (rest s a ∙ ap (λ n. drop n s) p)
+-- Both ends: of a part without the white space in front, what is left without that at the end.
+pub both_ends : (s r : List ℕ) (a : ℕ) → a ≡ start s → IsTrimAsciiEnd (take (length s - a) (drop a s)) r →
+    take (length r) (take (length s - a) (drop a s)) ≡ trimmed s
+unfolding trimmed start untail
+both_ends s r a p h =
+    end_is (take (length s - a) (drop a s)) r h ∙ ap untail (take_rest s a ∙ ap (λ n. drop n s) p)

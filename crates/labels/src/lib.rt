@@ -3,182 +3,101 @@
 
 mod tables;
 
-ghost use Rattle.std.specs.Prelude.{◌≡◌, map, ◌++◌, ◌+◌, ◌-◌, ◌≤◌, ◌<◌, length, get_or, take, drop};
-ghost use Rattle.labels_spec.specs.Labels.{table, white, fold, start, TrimmedPart, find, label, naming};
-ghost use Rattle.labels.specs.LookUp.{label_starts, name_starts, untail, begins, seek, number};
+ghost use Rattle.std.specs.Prelude.{◌≡◌, ◌≤◌, map, length};
+ghost use Rattle.std.specs.Char.{to_ascii_lowercase};
+ghost use Rattle.std.specs.List.{slice_get};
+ghost use Rattle.labels_spec.specs.Labels.{table, fold, start, TrimmedPart, find, label, naming};
+ghost use Rattle.labels.specs.LookUp.{seek, look_up, number};
+ghost use Rattle.labels.specs.Writing.{written};
 
 use labels_spec::{Found, Named};
-use tables::{LABELS, NAME_STARTS, NAMES, STARTS};
-
-// White space: 09, 0A, 0C, 0D, 20.
-fn white(b: u8) -> bool
-    ensures { result ≡ white b }
-{
-    if b == 0x09 {
-        return true;
-    }
-    if b == 0x0A {
-        return true;
-    }
-    if b == 0x0C {
-        return true;
-    }
-    if b == 0x0D {
-        return true;
-    }
-    b == 0x20
-}
-
-// ASCII letters in lower case; any other byte as it is.
-fn fold(b: u8) -> u8
-    ensures { result ≡ fold b }
-{
-    if b < 0x41 {
-        return b;
-    }
-    if b > 0x5A {
-        return b;
-    }
-    b + 0x20
-}
+use tables::{LABELS, NAMES};
 
 // How many bytes of white space stand in front.
 fn front(s: &[u8]) -> usize
-    ensures { (result ≡ start s.now) × (result ≤ length s.now) }
+    ensures value { result ≡ start s.now }
+    ensures within { result ≤ length s.now }
 {
-    let mut i: usize = 0;
-    while i < s.len() {
-        if !white(s[i]) {
-            return i;
-        }
-        i += 1;
-    }
-    i
+    s.len() - s.trim_ascii_start().len()
 }
 
-// How many bytes are left without the white space at the end.
-fn back(s: &[u8]) -> usize
-    ensures { (result ≤ length s.now) × (take result s.now ≡ untail s.now) }
-{
-    let mut e = s.len();
-    while e > 0 {
-        if !white(s[e - 1]) {
-            return e;
-        }
-        e -= 1;
-    }
-    e
-}
-
-// The label without the white space on both sides, as a part of the caller's bytes.
-pub fn trim<'a>(label: &'a [u8]) -> &'a [u8]
+// The label without the white space on both sides, as a part of the caller's bytes: cut by numbers, since the contracts of std's trimming
+// do not say where its answer lies.
+pub fn trim(label: &[u8]) -> &[u8]
     ensures { TrimmedPart label.now label.entry.ref_ptr result.now result.ref_ptr }
 {
-    let a = front(label);
-    let s = &label[a..];
-    let e = back(s);
-    &s[0..e]
+    let start = front(label);
+    let rest = &label[start..];
+    &rest[..rest.trim_ascii_end().len()]
 }
 
-// Does the group begin with the label, its letters folded?
-fn begins(label: &[u8], group: &[u8]) -> bool
-    requires { length label.now ≤ length group.now }
-    ensures { result ≡ begins (map fold label.now) group.now }
+// The encoding that a group gives for a label, whatever the case of its letters.
+fn seek(label: &[u8], group: &[(&str, u8)]) -> Option<u8>
+    ensures { result ≡ seek (map to_ascii_lowercase label.now) group.now }
 {
-    let mut i: usize = 0;
-    while i < label.len() {
-        if fold(label[i]) != group[i] {
-            return false;
-        }
-        i += 1;
-    }
-    true
+    group
+        .iter()
+        .find(|(known, _)| label.eq_ignore_ascii_case(known.as_bytes()))
+        .map(|(_, encoding)| *encoding)
 }
 
-// The number behind the label in the group of its length; 40 where it is not there.
-fn seek(label: &[u8], group: &[u8]) -> u8
-    ensures { result ≡ number (seek (map fold label.now) group.now) }
+// The encoding of a label, in groups by length: the labels of n bytes at place n.
+fn look_up(label: &[u8], groups: &[&[(&str, u8)]]) -> Option<u8>
+    ensures { result ≡ look_up (map to_ascii_lowercase label.now) groups.now }
 {
-    let n = label.len();
-    let mut rest = group;
-    while n < rest.len() {
-        if begins(label, rest) {
-            return rest[n];
-        }
-        rest = &rest[n + 1..];
-    }
-    40
+    seek(label, groups.get(label.len())?)
 }
 
-// Where the labels of n bytes start.
-fn group_start(n: usize) -> usize
-    requires { n < 21 }
-    ensures { result ≡ get_or label_starts n 0 }
-{
-    STARTS[n]
-}
-
-// The part of a table from one place to another, searched.
-fn seek_between(label: &[u8], labels: &[u8], from: usize, to: usize) -> u8
-    requires { (from ≤ to) × (to ≤ length labels.now) }
-    ensures { result ≡ number (seek (map fold label.now) (take (to - from) (drop from labels.now))) }
-{
-    seek(label, &labels[from..to])
-}
-
-// The number of the encoding with this label, its letters folded; 40 where there is none.
-fn encoding_of(label: &[u8]) -> u8
+// The encoding of a label, whatever the case of its letters.
+fn encoding_of(label: &[u8]) -> Option<u8>
     ensures { result ≡ number (find (map fold label.now) 0 table) }
 {
-    let n = label.len();
-    if n > 19 {
-        return 40;
-    }
-    let from = group_start(n);
-    let to = group_start(n + 1);
-    seek_between(label, &LABELS, from, to)
+    look_up(label, &LABELS)
 }
 
 // The label call.
 pub fn find_label(bytes: &[u8]) -> Found
     ensures { result ≡ label bytes.now }
 {
-    let a = front(bytes);
     let part = trim(bytes);
-    let encoding = encoding_of(part);
-    if encoding == 40 {
-        return Found {
+    match encoding_of(part) {
+        Some(encoding) => Found {
+            start: front(bytes),
+            length: part.len(),
+            refusal: 0,
+            encoding,
+        },
+        None => Found {
             start: 0,
             length: 0,
             refusal: 1,
             encoding: 0,
+        },
+    }
+}
+
+// One of some names, written to the front of the room.
+pub fn put_name(names: &[&str], number: u8, room: &mut [u8]) -> Named
+    ensures answer { result ≡ (written (slice_get (map (λ n. n.now) names.now) number) room.old).answer }
+    ensures after { room.new ≡ (written (slice_get (map (λ n. n.now) names.now) number) room.old).room }
+{
+    let Some(name) = names.get(usize::from(number)) else {
+        return Named {
+            length: 0,
+            refusal: 2,
+        };
+    };
+    let n = name.len();
+    if room.len() < n {
+        return Named {
+            length: 0,
+            refusal: 7,
         };
     }
-    Found {
-        start: a,
-        length: part.len(),
+    room[..n].copy_from_slice(name.as_bytes());
+    Named {
+        length: n,
         refusal: 0,
-        encoding,
-    }
-}
-
-// Where the name of an encoding starts.
-fn name_start(encoding: usize) -> usize
-    requires { encoding < 41 }
-    ensures { result ≡ get_or name_starts encoding 0 }
-{
-    NAME_STARTS[encoding]
-}
-
-// Copies bytes to the front of the room.
-fn copy(bytes: &[u8], from: usize, count: usize, room: &mut [u8])
-    requires { (from + count ≤ length bytes.now) × (count ≤ length room.old) }
-    ensures { room.new ≡ take count (drop from bytes.now) ++ drop count room.old }
-{
-    let mut i: usize = 0;
-    while i < count {
-        room[i] = bytes[from + i];
-        i += 1;
     }
 }
 
@@ -187,24 +106,5 @@ pub fn name(encoding: u8, room: &mut [u8]) -> Named
     ensures { (result ≡ (naming encoding room.old).answer) ×
         (room.new ≡ (naming encoding room.old).room) }
 {
-    if encoding > 39 {
-        return Named {
-            length: 0,
-            refusal: 2,
-        };
-    }
-    let e = encoding as usize;
-    let a = name_start(e);
-    let n = name_start(e + 1) - a;
-    if room.len() < n {
-        return Named {
-            length: 0,
-            refusal: 7,
-        };
-    }
-    copy(&NAMES, a, n, room);
-    Named {
-        length: n,
-        refusal: 0,
-    }
+    put_name(&NAMES, encoding, room)
 }

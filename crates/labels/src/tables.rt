@@ -1,65 +1,296 @@
 // The labels and names of 004's table, section 4.2.
 
-// The labels of 004, the shorter first, each with its encoding number behind it.
-pub const LABELS: [u8; 2316] = *b"\
-    l2\x02l3\x03l4\x04l6\x0Al9\x0Dl1\x15l5\x17\
-    866\x01koi\x0Fmac\x11gbk\x1D\
-    utf8\x00koi8\x0Fbig5\x1Fsjis\x22\
-    utf-8\x00cp866\x01greek\x07ascii\x15cp819\x15x-gbk\x1Dms932\x22ucs-2\x26\
-    ibm866\x01latin2\x02latin3\x03latin4\x04arabic\x06greek8\x07hebrew\x08visual\x08latin6\x0Akoi8-r\x0F\
-    koi8_r\x0Fkoi8-u\x10cp1250\x13cp1251\x14cp1252\x15ibm819\x15latin1\x15cp1253\x16cp1254\x17latin5\x17\
-    cp1255\x18cp1256\x19cp1257\x1Acp1258\x1Bgb2312\x1Dcsbig5\x1Feuc-jp\x20x-sjis\x22euc-kr\x23korean\x23\
-    utf-16\x26\
-    logical\x09cskoi8r\x0Fkoi8-ru\x10dos-874\x12tis-620\x12chinese\x1Dgb_2312\x1Dgb18030\x1Ecn-big5\x1F\
-    cseuckr\x23ksc5601\x23unicode\x26\
-    csibm866\x01iso88592\x02iso88593\x03iso88594\x04cyrillic\x05iso88595\x05asmo-708\x06ecma-114\x06\
-    iso88596\x06ecma-118\x07elot_928\x07iso88597\x07iso88598\x08x-cp1250\x13x-cp1251\x14iso88591\x15\
-    us-ascii\x15x-cp1252\x15x-cp1253\x16iso88599\x17x-cp1254\x17x-cp1255\x18x-cp1256\x19x-cp1257\x1A\
-    x-cp1258\x1Bcsgb2312\x1Dx-x-big5\x1Fx-euc-jp\x20ms_kanji\x22ksc_5601\x23utf-16be\x25utf-16le\x26\
-    iso8859-2\x02iso8859-3\x03iso8859-4\x04iso8859-5\x05iso8859-6\x06iso8859-7\x07iso8859-8\x08iso885910\x0A\
-    iso885913\x0Biso885914\x0Ciso885915\x0Dmacintosh\x11iso885911\x12iso8859-1\x15iso8859-9\x17iso-ir-58\x1D\
-    shift-jis\x22shift_jis\x22csunicode\x26\
-    iso-8859-2\x02iso-ir-101\x02iso_8859-2\x02iso-8859-3\x03iso-ir-109\x03iso_8859-3\x03iso-8859-4\x04\
-    iso-ir-110\x04iso_8859-4\x04iso-8859-5\x05iso-ir-144\x05iso_8859-5\x05iso-8859-6\x06iso-ir-127\x06\
-    iso_8859-6\x06iso-8859-7\x07iso-ir-126\x07iso_8859-7\x07iso-8859-8\x08iso-ir-138\x08iso_8859-8\x08\
-    iso-ir-157\x0Aiso8859-10\x0Aiso8859-13\x0Biso8859-14\x0Ciso8859-15\x0Diso8859-11\x12iso-8859-1\x15\
-    iso-ir-100\x15iso_8859-1\x15iso-8859-9\x17iso-ir-148\x17iso_8859-9\x17gb_2312-80\x1Dbig5-hkscs\x1F\
-    csshiftjis\x22iso-ir-149\x23hz-gb-2312\x24\
-    csisolatin2\x02csisolatin3\x03csisolatin4\x04csiso88596e\x06csiso88596i\x06csiso88598e\x08\
-    csiso88598i\x09csisolatin6\x0Aiso-8859-10\x0Aiso-8859-13\x0Biso-8859-14\x0Ccsisolatin9\x0D\
-    iso-8859-15\x0Diso_8859-15\x0Diso-8859-16\x0Ecsmacintosh\x11x-mac-roman\x11iso-8859-11\x12\
-    windows-874\x12csisolatin1\x15csisolatin5\x17csiso2022jp\x21iso-2022-jp\x21windows-31j\x22\
-    windows-949\x23csiso2022kr\x24iso-2022-cn\x24iso-2022-kr\x24replacement\x24unicodefffe\x25\
-    unicodefeff\x26\
-    iso-8859-6-e\x06iso-8859-6-i\x06sun_eu_greek\x07iso-8859-8-e\x08iso-8859-8-i\x09windows-1250\x13\
-    windows-1251\x14windows-1252\x15windows-1253\x16windows-1254\x17windows-1255\x18windows-1256\x19\
-    windows-1257\x1Awindows-1258\x1B\
-    unicode11utf8\x00unicode20utf8\x00csksc56011987\x23\
-    ansi_x3.4-1968\x15x-mac-cyrillic\x1Cks_c_5601-1987\x23ks_c_5601-1989\x23x-user-defined\x27\
-    x-unicode20utf8\x00iso_8859-2:1987\x02iso_8859-3:1988\x03iso_8859-4:1988\x04iso_8859-5:1988\x05\
-    iso_8859-6:1987\x06csisolatingreek\x07iso_8859-7:1987\x07iso_8859-8:1988\x08iso_8859-1:1987\x15\
-    iso_8859-9:1989\x17x-mac-ukrainian\x1Ccsiso58gb231280\x1Diso-2022-cn-ext\x24iso-10646-ucs-2\x26\
-    csisolatinarabic\x06csisolatinhebrew\x08\
-    unicode-1-1-utf-8\x00\
-    csisolatincyrillic\x05\
-    cseucpkdfmtjapanese\x20";
-
-// Where the labels of each length start in it: those of n bytes stand from STARTS[n] to STARTS[n + 1].
-pub const STARTS: [usize; 21] = [
-    0, 0, 0, 21, 37, 57, 105, 322, 418, 706, 896, 1314, 1686, 1868, 1910, 1985, 2225, 2259, 2277,
-    2296, 2316,
+// The labels by length: those of n bytes at place n, each with its encoding's number.
+pub const LABELS: [&[(&str, u8)]; 20] = [
+    &[],
+    &[],
+    &[
+        ("l2", 2),
+        ("l3", 3),
+        ("l4", 4),
+        ("l6", 10),
+        ("l9", 13),
+        ("l1", 21),
+        ("l5", 23),
+    ],
+    &[("866", 1), ("koi", 15), ("mac", 17), ("gbk", 29)],
+    &[("utf8", 0), ("koi8", 15), ("big5", 31), ("sjis", 34)],
+    &[
+        ("utf-8", 0),
+        ("cp866", 1),
+        ("greek", 7),
+        ("ascii", 21),
+        ("cp819", 21),
+        ("x-gbk", 29),
+        ("ms932", 34),
+        ("ucs-2", 38),
+    ],
+    &[
+        ("ibm866", 1),
+        ("latin2", 2),
+        ("latin3", 3),
+        ("latin4", 4),
+        ("arabic", 6),
+        ("greek8", 7),
+        ("hebrew", 8),
+        ("visual", 8),
+        ("latin6", 10),
+        ("koi8-r", 15),
+        ("koi8_r", 15),
+        ("koi8-u", 16),
+        ("cp1250", 19),
+        ("cp1251", 20),
+        ("cp1252", 21),
+        ("ibm819", 21),
+        ("latin1", 21),
+        ("cp1253", 22),
+        ("cp1254", 23),
+        ("latin5", 23),
+        ("cp1255", 24),
+        ("cp1256", 25),
+        ("cp1257", 26),
+        ("cp1258", 27),
+        ("gb2312", 29),
+        ("csbig5", 31),
+        ("euc-jp", 32),
+        ("x-sjis", 34),
+        ("euc-kr", 35),
+        ("korean", 35),
+        ("utf-16", 38),
+    ],
+    &[
+        ("logical", 9),
+        ("cskoi8r", 15),
+        ("koi8-ru", 16),
+        ("dos-874", 18),
+        ("tis-620", 18),
+        ("chinese", 29),
+        ("gb_2312", 29),
+        ("gb18030", 30),
+        ("cn-big5", 31),
+        ("cseuckr", 35),
+        ("ksc5601", 35),
+        ("unicode", 38),
+    ],
+    &[
+        ("csibm866", 1),
+        ("iso88592", 2),
+        ("iso88593", 3),
+        ("iso88594", 4),
+        ("cyrillic", 5),
+        ("iso88595", 5),
+        ("asmo-708", 6),
+        ("ecma-114", 6),
+        ("iso88596", 6),
+        ("ecma-118", 7),
+        ("elot_928", 7),
+        ("iso88597", 7),
+        ("iso88598", 8),
+        ("x-cp1250", 19),
+        ("x-cp1251", 20),
+        ("iso88591", 21),
+        ("us-ascii", 21),
+        ("x-cp1252", 21),
+        ("x-cp1253", 22),
+        ("iso88599", 23),
+        ("x-cp1254", 23),
+        ("x-cp1255", 24),
+        ("x-cp1256", 25),
+        ("x-cp1257", 26),
+        ("x-cp1258", 27),
+        ("csgb2312", 29),
+        ("x-x-big5", 31),
+        ("x-euc-jp", 32),
+        ("ms_kanji", 34),
+        ("ksc_5601", 35),
+        ("utf-16be", 37),
+        ("utf-16le", 38),
+    ],
+    &[
+        ("iso8859-2", 2),
+        ("iso8859-3", 3),
+        ("iso8859-4", 4),
+        ("iso8859-5", 5),
+        ("iso8859-6", 6),
+        ("iso8859-7", 7),
+        ("iso8859-8", 8),
+        ("iso885910", 10),
+        ("iso885913", 11),
+        ("iso885914", 12),
+        ("iso885915", 13),
+        ("macintosh", 17),
+        ("iso885911", 18),
+        ("iso8859-1", 21),
+        ("iso8859-9", 23),
+        ("iso-ir-58", 29),
+        ("shift-jis", 34),
+        ("shift_jis", 34),
+        ("csunicode", 38),
+    ],
+    &[
+        ("iso-8859-2", 2),
+        ("iso-ir-101", 2),
+        ("iso_8859-2", 2),
+        ("iso-8859-3", 3),
+        ("iso-ir-109", 3),
+        ("iso_8859-3", 3),
+        ("iso-8859-4", 4),
+        ("iso-ir-110", 4),
+        ("iso_8859-4", 4),
+        ("iso-8859-5", 5),
+        ("iso-ir-144", 5),
+        ("iso_8859-5", 5),
+        ("iso-8859-6", 6),
+        ("iso-ir-127", 6),
+        ("iso_8859-6", 6),
+        ("iso-8859-7", 7),
+        ("iso-ir-126", 7),
+        ("iso_8859-7", 7),
+        ("iso-8859-8", 8),
+        ("iso-ir-138", 8),
+        ("iso_8859-8", 8),
+        ("iso-ir-157", 10),
+        ("iso8859-10", 10),
+        ("iso8859-13", 11),
+        ("iso8859-14", 12),
+        ("iso8859-15", 13),
+        ("iso8859-11", 18),
+        ("iso-8859-1", 21),
+        ("iso-ir-100", 21),
+        ("iso_8859-1", 21),
+        ("iso-8859-9", 23),
+        ("iso-ir-148", 23),
+        ("iso_8859-9", 23),
+        ("gb_2312-80", 29),
+        ("big5-hkscs", 31),
+        ("csshiftjis", 34),
+        ("iso-ir-149", 35),
+        ("hz-gb-2312", 36),
+    ],
+    &[
+        ("csisolatin2", 2),
+        ("csisolatin3", 3),
+        ("csisolatin4", 4),
+        ("csiso88596e", 6),
+        ("csiso88596i", 6),
+        ("csiso88598e", 8),
+        ("csiso88598i", 9),
+        ("csisolatin6", 10),
+        ("iso-8859-10", 10),
+        ("iso-8859-13", 11),
+        ("iso-8859-14", 12),
+        ("csisolatin9", 13),
+        ("iso-8859-15", 13),
+        ("iso_8859-15", 13),
+        ("iso-8859-16", 14),
+        ("csmacintosh", 17),
+        ("x-mac-roman", 17),
+        ("iso-8859-11", 18),
+        ("windows-874", 18),
+        ("csisolatin1", 21),
+        ("csisolatin5", 23),
+        ("csiso2022jp", 33),
+        ("iso-2022-jp", 33),
+        ("windows-31j", 34),
+        ("windows-949", 35),
+        ("csiso2022kr", 36),
+        ("iso-2022-cn", 36),
+        ("iso-2022-kr", 36),
+        ("replacement", 36),
+        ("unicodefffe", 37),
+        ("unicodefeff", 38),
+    ],
+    &[
+        ("iso-8859-6-e", 6),
+        ("iso-8859-6-i", 6),
+        ("sun_eu_greek", 7),
+        ("iso-8859-8-e", 8),
+        ("iso-8859-8-i", 9),
+        ("windows-1250", 19),
+        ("windows-1251", 20),
+        ("windows-1252", 21),
+        ("windows-1253", 22),
+        ("windows-1254", 23),
+        ("windows-1255", 24),
+        ("windows-1256", 25),
+        ("windows-1257", 26),
+        ("windows-1258", 27),
+    ],
+    &[
+        ("unicode11utf8", 0),
+        ("unicode20utf8", 0),
+        ("csksc56011987", 35),
+    ],
+    &[
+        ("ansi_x3.4-1968", 21),
+        ("x-mac-cyrillic", 28),
+        ("ks_c_5601-1987", 35),
+        ("ks_c_5601-1989", 35),
+        ("x-user-defined", 39),
+    ],
+    &[
+        ("x-unicode20utf8", 0),
+        ("iso_8859-2:1987", 2),
+        ("iso_8859-3:1988", 3),
+        ("iso_8859-4:1988", 4),
+        ("iso_8859-5:1988", 5),
+        ("iso_8859-6:1987", 6),
+        ("csisolatingreek", 7),
+        ("iso_8859-7:1987", 7),
+        ("iso_8859-8:1988", 8),
+        ("iso_8859-1:1987", 21),
+        ("iso_8859-9:1989", 23),
+        ("x-mac-ukrainian", 28),
+        ("csiso58gb231280", 29),
+        ("iso-2022-cn-ext", 36),
+        ("iso-10646-ucs-2", 38),
+    ],
+    &[("csisolatinarabic", 6), ("csisolatinhebrew", 8)],
+    &[("unicode-1-1-utf-8", 0)],
+    &[("csisolatincyrillic", 5)],
+    &[("cseucpkdfmtjapanese", 32)],
 ];
 
 // The names of the encodings, by number.
-pub const NAMES: [u8; 389] = *b"\
-    UTF-8IBM866ISO-8859-2ISO-8859-3ISO-8859-4ISO-8859-5ISO-8859-6ISO-8859-7ISO-8859-8ISO-8859-8-IISO-8859-10\
-    ISO-8859-13ISO-8859-14ISO-8859-15ISO-8859-16KOI8-RKOI8-Umacintoshwindows-874windows-1250windows-1251\
-    windows-1252windows-1253windows-1254windows-1255windows-1256windows-1257windows-1258x-mac-cyrillicGBK\
-    gb18030Big5EUC-JPISO-2022-JPShift_JISEUC-KRreplacementUTF-16BEUTF-16LEx-user-defined";
-
-// Where each name starts in it.
-pub const NAME_STARTS: [usize; 41] = [
-    0, 5, 11, 21, 31, 41, 51, 61, 71, 81, 93, 104, 115, 126, 137, 148, 154, 160, 169, 180, 192,
-    204, 216, 228, 240, 252, 264, 276, 288, 302, 305, 312, 316, 322, 333, 342, 348, 359, 367, 375,
-    389,
+pub const NAMES: [&str; 40] = [
+    "UTF-8",
+    "IBM866",
+    "ISO-8859-2",
+    "ISO-8859-3",
+    "ISO-8859-4",
+    "ISO-8859-5",
+    "ISO-8859-6",
+    "ISO-8859-7",
+    "ISO-8859-8",
+    "ISO-8859-8-I",
+    "ISO-8859-10",
+    "ISO-8859-13",
+    "ISO-8859-14",
+    "ISO-8859-15",
+    "ISO-8859-16",
+    "KOI8-R",
+    "KOI8-U",
+    "macintosh",
+    "windows-874",
+    "windows-1250",
+    "windows-1251",
+    "windows-1252",
+    "windows-1253",
+    "windows-1254",
+    "windows-1255",
+    "windows-1256",
+    "windows-1257",
+    "windows-1258",
+    "x-mac-cyrillic",
+    "GBK",
+    "gb18030",
+    "Big5",
+    "EUC-JP",
+    "ISO-2022-JP",
+    "Shift_JIS",
+    "EUC-KR",
+    "replacement",
+    "UTF-16BE",
+    "UTF-16LE",
+    "x-user-defined",
 ];

@@ -1,13 +1,13 @@
 -- The pointer of gb18030's four bytes, by their ranges, and the pointers that no range has. Assumes nothing.
 use mathlib.Core.Path.{◌≡◌, sym, subst, ◌∙◌}
 use mathlib.Core.Bool.{Bool, true, false, ◌&&◌, ◌||◌, and-false}
-use Prim.Native.Nat.{ℕ, ◌≤◌, ◌<◌}
+use Prim.Native.Nat.{ℕ, ◌≤◌}
 use native.Mathlib.Omega.{arith}
 use lib.Dec.{T, ltb}
-use borrow.Author.Tests.{ltb-false, le-ltb}
+use borrow.Author.Tests.{ltb-false}
 use Rattle.standard.specs.Base.{within}
 use Rattle.standard.specs.Sequences.Gb18030.{gb18030_four_pointer}
-use Rattle.standard.proofs.Tests.{split, under, above, in_range}
+use Rattle.standard.proofs.Tests.{split}
 use Rattle.layouts.specs.Fours.{no_four, four_pointer}
 
 module _ (b c d e : ℕ) where
@@ -44,15 +44,6 @@ module _ (b c d e : ℕ) where
 
 -- the pointers that no range has
 module _ (p : ℕ) where
-  pub gap_below : p < 39420 → within 39420 p 188999 || ltb 1237575 p ≡ false
-  gap_below h = rw (under 39420 p 188999 h, le-ltb 1237575 p (omega arith))
-
-  pub gap_in : 39420 ≤ p → p < 189000 → within 39420 p 188999 || ltb 1237575 p ≡ true
-  gap_in h g = rw (in_range 39420 p 188999 h (omega arith))
-
-  pub gap_above : 189000 ≤ p → within 39420 p 188999 || ltb 1237575 p ≡ ltb 1237575 p
-  gap_above h = rw (above 39420 p 188999 (omega arith))
-
   pub told : within 39420 p 188999 || ltb 1237575 p ≡ false → p ≤ 1237575
   told h = split (ltb 1237575 p)
       (λ t. absurd (not_or (within 39420 p 188999) (ltb 1237575 p) h t))

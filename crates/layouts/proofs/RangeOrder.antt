@@ -96,30 +96,6 @@ module _ (back : Bool) (r : List ℕ) (x : ℕ) where
       behind = λ i a b. all_above (k + 1) (g (omega arith)) i (omega arith) b;
     }
 
--- the first i numbers are in order
-pub record Checked (back : Bool) (r : List ℕ) (i : ℕ) : Type 0 where
-  pub short : length r ≤ 65536
-  pub begun : 1 ≤ i
-  pub order : (k : ℕ) → k + 1 < i → number back r k ≤ number back r (k + 1)
-
-module _ (back : Bool) (r : List ℕ) where
-  pub checked_start : length r ≤ 65536 → Checked back r 1
-  checked_start h = record { short = h; begun = omega arith; order = λ k l. absurd (omega arith) }
-
-  pub checked_next : (i : ℕ) → Checked back r i → number back r (i - 1) ≤ number back r i → Checked back r (i + 1)
-  checked_next i C h = record { short = C.short; begun = omega arith; order = λ k l. go k l (ltb (k + 1) i) refl }
-    where
-      go : (k : ℕ) → k + 1 < i + 1 → (b : Bool) → ltb (k + 1) i ≡ b → number back r k ≤ number back r (k + 1)
-      go k l true e = C.order k (ltb-true (k + 1) i e)
-      go k l false e =
-          let g = ltb-false (k + 1) i e in
-          let x : k + 1 ≡ i = omega arith in
-          let y : k ≡ i - 1 = omega (arith, C.begun) in
-          rw (x, y) h
-
-  pub checked_all : (i : ℕ) → Checked back r i → length r / 2 ≤ i → Ascending back r
-  checked_all i C h = record { short = C.short; order = λ k l. C.order k (omega arith) }
-
 -- a number once, or not at all
 pub at_most : (h n : ℕ) (b : Bool) → n ≡ (b then 1 else 0) → h * n ≤ h
 at_most h n true e = rw e (omega arith)

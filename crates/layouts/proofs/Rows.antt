@@ -1,68 +1,17 @@
--- Rows and columns: where a byte stands, by ranges; the layout of an encoding number; pointers and code points by rows and columns. Assumes nothing.
-use mathlib.Core.Path.{◌≡◌, refl, sym, ap, ◌∙◌}
+-- Rows and columns: the layout of an encoding number; pointers and code points by rows and columns. Assumes nothing.
+use mathlib.Core.Path.{◌≡◌, sym, ap, ◌∙◌}
 use mathlib.Core.Bool.{Bool, true, false, and-false}
 use mathlib.Core.List.{List}
-use Prim.Native.Nat.{ℕ, ◌+◌, ◌-◌, ◌*◌, ◌/◌, ◌%◌, ◌≤◌, ◌<◌}
+use Prim.Native.Nat.{ℕ, ◌+◌, ◌*◌, ◌≤◌, ◌<◌}
 use native.Mathlib.Omega.{arith}
 use lib.Dec.{ltb, leb, eqb, lit≤}
-use borrow.Author.Tests.{lt-ltb, le-ltb, lt-leb, le-leb, ltb-true, ltb-false, ne_eqb}
-use Rattle.standard.specs.Base.{◌then◌else◌, within}
+use borrow.Author.Tests.{lt-ltb, lt-leb, le-leb, ne_eqb}
+use Rattle.standard.specs.Base.{◌then◌else◌}
 use Rattle.standard.specs.Sequence.{cell}
-use Rattle.standard.specs.Layouts.{one, two, number, Layout, leads, trails, pointer_of, pair_code, gb18030_layout, big5_layout, euc_jp_layout, iso2022_jp_layout, shift_jis_layout, euc_kr_layout}
+use Rattle.standard.specs.Layouts.{number, Layout, leads, trails, pointer_of, pair_code, gb18030_layout, big5_layout, euc_jp_layout, iso2022_jp_layout, shift_jis_layout, euc_kr_layout}
 use Rattle.standard.proofs.Layouts.{Regular, divisor_real, row_below, pointer_below, gb18030_regular, big5_regular, euc_jp-regular, iso_2022_jp_regular, shift_jis-regular, euc_kr-regular}
-use Rattle.standard.proofs.Tests.{split, under, above, in_range, out_above}
+use Rattle.standard.proofs.Tests.{split}
 use Rattle.layouts.specs.Rows.{no_cell, place, row, column, layout_of}
-
--- one offset
-module _ (low n step b : ℕ) where
-  pub one_in : within low b (low + n - 1) ≡ true → place (one low) n step b ≡ (b - low) * step
-  unfolding place
-  one_in h = let z : n + low - 1 ≡ low + n - 1 = omega arith in rw (z, h)
-
-  pub one_out : within low b (low + n - 1) ≡ false → place (one low) n step b ≡ no_cell
-  unfolding place
-  one_out h = let z : n + low - 1 ≡ low + n - 1 = omega arith in rw (z, h)
-
--- two offsets without a branch: `half` tells the bytes above the gap
-pub record Counted (half gap low high n step b : ℕ) : Type 0 where
-  pub less : b / half % 2 * (high - low) ≤ b
-  pub least : low ≤ b - b / half % 2 * (high - low)
-  pub below : b - b / half % 2 * (high - low) - low < n
-  pub stands : place (two gap low high) n step b ≡ (b - b / half % 2 * (high - low) - low) * step
-
--- two offsets
-module _ (gap low high n step b : ℕ) (s : 1 ≤ gap) (m : gap ≤ n) (o : low ≤ high) where
-  pub two_out : within low b (high + n - 1) ≡ false → place (two gap low high) n step b ≡ no_cell
-  unfolding place
-  two_out f = split (ltb b low)
-      (λ t. let h = ltb-true b low t in rw (under low b (gap + low - 1) h, under (gap + high) b (n + high - 1) (omega arith)))
-      (λ t. let h = out_above low b (high + n - 1) f (ltb-false b low t) in rw (above low b (gap + low - 1) (omega arith), above (gap + high) b (n + high - 1) (omega arith)))
-
-  pub two_gap : gap + low ≤ b → b < gap + high → place (two gap low high) n step b ≡ no_cell
-  unfolding place
-  two_gap h g = rw (above low b (gap + low - 1) (omega arith), under (gap + high) b (n + high - 1) g)
-
-  pub two_low : low ≤ b → b < gap + low → place (two gap low high) n step b ≡ (b - low) * step
-  unfolding place
-  two_low h g = rw (in_range low b (gap + low - 1) h (omega arith), lt-ltb b (gap + low) g)
-
-  pub two_high : gap + high ≤ b → b < high + n → place (two gap low high) n step b ≡ (b - high) * step
-  unfolding place
-  two_high h g = rw (above low b (gap + low - 1) (omega arith), in_range (gap + high) b (n + high - 1) h (omega arith), le-ltb b (gap + low) (omega arith))
-
-  pub counted : (half : ℕ) → low ≤ b → within (gap + low) b (gap + high - 1) ≡ false → b < high + n →
-      ((k : ℕ) → low ≤ k → k < gap + low → k / half % 2 ≡ 0) → ((k : ℕ) → gap + high ≤ k → k < high + n → k / half % 2 ≡ 1) → Counted half gap low high n step b
-  counted half l out h even odd = split (ltb b (gap + low))
-      (λ t.
-      let g = ltb-true b (gap + low) t in
-      let q : b / half % 2 * (high - low) ≡ 0 = rw (even b l g) (omega arith) in
-      let z : b - 0 - low ≡ b - low = omega arith in
-      record { less = omega (arith, q); least = omega (arith, q); below = omega (arith, q); stands = rw (q, z) (two_low l g) })
-      (λ f.
-      let g : gap + high ≤ b = omega (arith, out_above (gap + low) b (gap + high - 1) out (ltb-false b (gap + low) f)) in
-      let q : b / half % 2 * (high - low) ≡ high - low = rw (odd b g h) (omega arith) in
-      let z : b - (high - low) - low ≡ b - high = omega arith in
-      record { less = omega (arith, q); least = omega (arith, q); below = omega (arith, q); stands = rw (q, z) (two_high g h) })
 
 -- the layout of an encoding number
 module _ (e : ℕ) where
@@ -89,16 +38,6 @@ module _ (e : ℕ) where
   pub layout_euc_kr : 30 < e → (e ≡ 31 → ⊥) → (e ≡ 32 → ⊥) → (e ≡ 33 → ⊥) → (e ≡ 34 → ⊥) → layout_of e ≡ euc_kr_layout
   unfolding layout_of
   layout_euc_kr l f g h i = rw (lt-leb e 30 l, ne_eqb e 31 f, ne_eqb e 32 g, ne_eqb e 33 h, ne_eqb e 34 i)
-
-  -- the leads of those that are not Japanese
-  pub lead_others : (e ≡ 32 → ⊥) → (e ≡ 33 → ⊥) → (e ≡ 34 → ⊥) → ((layout_of e).rows ≡ 126) × ((layout_of e).lead ≡ one 0x81)
-  unfolding layout_of
-  lead_others f g h = rw (ne_eqb e 32 f, ne_eqb e 33 g, ne_eqb e 34 h) (go (leb e 30) (eqb e 31))
-    where
-      go : (a b : Bool) → let y = a then gb18030_layout else b then big5_layout else euc_kr_layout in (y.rows ≡ 126) × (y.lead ≡ one 0x81)
-      go true b = (refl, refl)
-      go false true = (refl, refl)
-      go false false = (refl, refl)
 
   -- what holds of the six layouts
   each : (P : Layout → Type 0) → P gb18030_layout → P big5_layout → P euc_jp_layout → P iso2022_jp_layout → P shift_jis_layout → P euc_kr_layout → P (layout_of e)

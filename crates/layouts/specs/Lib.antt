@@ -1,3 +1,5 @@
 pub mod Rows
 pub mod Fours
 pub mod Ranges
+pub mod Offsets
+pub mod Views

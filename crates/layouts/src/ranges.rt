@@ -9,38 +9,27 @@ fn number(ranges: &[u32], back: bool, k: usize) -> u32
     requires { k < length ranges.now / 2 }
     ensures { result ≡ number back ranges.now k }
 {
-    if back {
-        return ranges[k * 2 + 1];
-    }
-    ranges[k * 2]
+    ranges[k * 2 + usize::from(back)]
 }
 
 // Are the numbers of a column in ascending order?
 pub fn in_order(ranges: &[u32], back: bool) -> bool
     ensures { result ≡ true → Ascending back ranges.now }
 {
-    if 65536 < ranges.len() {
-        return false;
-    }
-    let n = ranges.len() / 2;
-    let mut i: usize = 1;
-    while i < n {
-        if number(ranges, back, i) < number(ranges, back, i - 1) {
-            return false;
-        }
-        i += 1;
-    }
-    true
+    ranges.len() <= 65536
+        && (1..ranges.len() / 2).all(|k| number(&*ranges, back, k - 1) <= number(&*ranges, back, k))
 }
 
-// 1 if q is not above x, else 0.
+// 1 if q is not above x, else 0. By arithmetic and not by a comparison: of that the compiler may make a branch, which the search would
+// have to foresee at each turn.
 fn not_above(q: u32, x: u32) -> usize
     ensures { result ≡ (leb q x then 1 else 0) }
 {
-    (((x as u64) + 0x100000000 - (q as u64)) / 0x100000000) as usize
+    ((u64::from(x) + 0x100000000 - u64::from(q)) / 0x100000000) as usize
 }
 
 // The last pair that is not above x, or the first where all are, if they are in order: by halves.
+// A loop of its own and not `partition_point`, whose turns branch.
 pub fn search(ranges: &[u32], back: bool, x: u32) -> usize
     ensures { (result ≤ length ranges.now / 2) ×
         (Ascending back ranges.now → 2 ≤ length ranges.now → Decides back ranges.now x result) }

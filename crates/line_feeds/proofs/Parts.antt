@@ -1,22 +1,13 @@
--- Line feeds counted part by part: one element, one more, one part more, and parts that end with the list. Assumes nothing.
+-- Line feeds counted part by part: one part more, and parts that end with the list. Assumes nothing.
 use mathlib.Core.Path.{◌≡◌, refl, sym, ap, ◌∙◌}
 use mathlib.Core.List.{List, [], ◌∷◌}
-use Prim.Native.Nat.{ℕ, suc, ◌+◌, ◌-◌, ◌≤◌, ◌<◌}
+use Prim.Native.Nat.{ℕ, ◌+◌, ◌-◌, ◌≤◌}
 use native.Mathlib.Omega.{arith}
-use borrow.Author.Tests.{ne_eqb}
-use lib.ListN.{length, get_or, take, drop, length-take, length-drop}
-use lib.Seq.{take-suc, take-add, take_all, drop-drop, get_or-drop}
+use lib.ListN.{length, take, drop, length-take, length-drop}
+use lib.Seq.{take-add, take_all, drop-drop}
 use Rattle.standard.specs.Base.{line_feeds}
 use Rattle.standard.proofs.LineFeeds.{line_feeds-append, line_feeds-length}
 use Rattle.line_feeds.specs.Parts.{part}
-
-pub counts : (x : ℕ) → x ≡ 0x0A → 1 ≡ line_feeds (x ∷ [])
-unfolding line_feeds
-counts x h = rw h
-
-pub counts_not : (x : ℕ) → (x ≡ 0x0A → ⊥) → 0 ≡ line_feeds (x ∷ [])
-unfolding line_feeds
-counts_not x h = rw (ne_eqb x 0x0A h)
 
 -- n line feeds are among the k elements from a place on
 pub record Counted (xs : List ℕ) (at k n : ℕ) : Type 0 where
@@ -26,14 +17,6 @@ module _ {xs : List ℕ} {at : ℕ} where
   pub none_yet : Counted xs at 0 0
   unfolding line_feeds
   none_yet = record { is = refl }
-
-  pub one_more : {k n r : ℕ} → Counted xs at k n → at + k < length xs → r ≡ line_feeds (get_or xs (at + k) 0 ∷ []) → Counted xs at (k + 1) (n + r)
-  one_more {k} c h e =
-      let z : k + 1 ≡ suc k = omega arith in
-      record {
-        is = rw (z, c.is, e, ← get_or-drop at xs k 0)
-            (sym (ap line_feeds (take-suc (drop at xs) k 0 (simp length-drop (omega arith))) ∙ line_feeds-append (take k (drop at xs)) _));
-      }
 
   -- a part more, of m elements from the place p on
   pub part_more : {k n r : ℕ} (p m : ℕ) → p ≡ at + k → Counted xs at k n → r ≡ line_feeds (part xs p m) → Counted xs at (k + m) (n + r)
@@ -48,13 +31,10 @@ module _ {xs : List ℕ} {at : ℕ} where
   pub at_most : {k n : ℕ} → Counted xs at k n → n ≤ k
   at_most {k} c = omega (arith, c.is, line_feeds-length (part xs at k), length-take k (drop at xs))
 
--- no element; parts that end with the list; a part behind it
+-- no element; parts that end with the list
 pub none_in : (xs : List ℕ) (at n : ℕ) → n ≡ 0 → 0 ≡ line_feeds (part xs at n)
 unfolding line_feeds
 none_in xs at n h = rw h
 
 pub to_end : (xs : List ℕ) (at n m : ℕ) → length xs ≤ at + n → length xs ≤ at + m → line_feeds (part xs at n) ≡ line_feeds (part xs at m)
 to_end xs at n m h g = ap line_feeds (take_all n (drop at xs) (simp length-drop (omega arith)) ∙ sym (take_all m (drop at xs) (simp length-drop (omega arith))))
-
-pub behind : (xs : List ℕ) (at n : ℕ) → length xs ≤ at → 0 ≡ line_feeds (part xs at n)
-behind xs at n h = none_in xs at 0 refl ∙ to_end xs at 0 n (omega arith) (omega arith)

@@ -1,52 +1,24 @@
--- The room: five stores, and a turn of the writing. Assumes nothing.
-use mathlib.Core.Path.{◌≡◌, refl, sym, ap, ◌∙◌}
-use mathlib.Core.Bool.{Bool, true, false}
-use mathlib.Core.List.{List, [], ◌∷◌, ◌++◌, append_assoc}
-use Prim.Native.Nat.{ℕ, suc, ◌+◌, ◌≤◌, ◌<◌}
-use native.Mathlib.Omega.{arith}
-use lib.Dec.{ltb}
-use lib.ListN.{length, take, drop, set, length-append, take-append-drop}
-use lib.Seq.{slice, sets-eq, length-take-le, take_at, drop_at, drop-drop}
+-- The room: the cells of a line, and a turn of the writing. Assumes nothing.
+use Rattle.std.proofs.Common.{◌≡◌, refl, sym, ap, ◌∙◌, ℕ, ◌+◌, ◌<◌, ◌≤◌, List, [], ◌∷◌, ◌++◌, append_assoc, length, take, drop, arith, length-append, length-take, length-drop}
+use borrow.Rule.Slice.PartMut.{put_mid}
+use lib.ListN.{take-append-drop}
+use lib.Seq.{length-take-le, take_at, drop_at, drop-drop}
 use borrow.Author.Tests.{lt-ltb, le-ltb}
-use Rattle.standard.specs.Base.{◌then◌else◌}
-use Rattle.list_spec.specs.Lines.{TAB, before, Line, line}
+use Rattle.list_spec.specs.Lines.{TAB, before, Line}
 use Rattle.list_spec.specs.ListCall.{cells_of, kept, cells}
+use Rattle.list_spec.proofs.Parts.{before_le}
 use Rattle.list_spec.proofs.Turns.{lines_at, lines_end}
-use Rattle.list.specs.Walking.{put_at, put}
+use Rattle.list.specs.Walking.{line_with, InText, line_cells, put}
 
-five : (l : List ℕ) (o a b c d e : ℕ) → o + 5 ≤ length l →
-    set (set (set (set (set l o a) (o + 1) b) (o + 2) c) (o + 3) d) (o + 4) e ≡ put l o (a ∷ b ∷ c ∷ d ∷ e ∷ [])
-five l o a b c d e h =
-    let z₁ : o + 1 ≡ suc o = omega arith in
-    let z₂ : o + 2 ≡ suc (suc o) = omega arith in
-    let z₃ : o + 3 ≡ suc (suc (suc o)) = omega arith in
-    let z₄ : o + 4 ≡ suc (suc (suc (suc o))) = omega arith in
-    let out = a ∷ b ∷ c ∷ d ∷ e ∷ [] in
-    rw (z₁, z₂, z₃, z₄) (sets-eq out l o h ∙ append_assoc (take o l) out (drop (o + 5) l))
+-- where the tab stands, behind the name
+pub name_length : (chars name : List ℕ) → name ≡ take (before TAB chars) chars → length name ≡ before TAB chars
+name_length chars name e = omega (arith, ap length e, length-take (before TAB chars) chars, before_le TAB chars)
 
--- the cells of the line n from a to z
-module _ (text : List ℕ) (n a z : ℕ) where
-  abbrev out : List ℕ
-  out = put_at text (line n a z)
-
-  pub put_none : a ≡ z → out ≡ []
-  unfolding put_at
-  put_none h = simp (le-ltb a z (omega arith))
-
-  pub put_same : (room : List ℕ) (o : ℕ) → a ≡ z → room ≡ put room o out
-  put_same room o h = let w : o + 0 ≡ o = omega arith in rw (put_none h, w) (sym (take-append-drop o room))
-
-  module _ (h : a < z) where
-    put_some : let tab = a + before TAB (slice a z text) in out ≡ n ∷ a ∷ tab ∷ (tab + 1) ∷ z ∷ []
-    unfolding put_at cells_of
-    put_some = simp (lt-ltb a z h)
-
-    pub put_five : length out ≡ 5
-    put_five = ap length put_some
-
-    pub put_is : (room : List ℕ) (o k : ℕ) → k ≡ a + before TAB (slice a z text) → o + length out ≤ length room →
-        set (set (set (set (set room o n) (o + 1) a) (o + 2) k) (o + 3) (k + 1)) (o + 4) z ≡ put room o out
-    put_is room o k e f = five room o n a k (k + 1) z (omega (arith, put_five)) ∙ rw (put_some, e)
+-- the cells of a line of the text
+pub cells_are : (text : List ℕ) (n a : ℕ) (chars : List ℕ) → InText text (line_with n a chars) chars →
+    line_cells n a chars ≡ cells_of text (line_with n a chars)
+unfolding cells_of
+cells_are text n a chars s = rw (sym s.are)
 
 -- cells at o, and more of them behind, are all of them
 module _ (room : List ℕ) (o : ℕ) (p rest : List ℕ) (h : o + length (p ++ rest) ≤ length room) where
@@ -73,45 +45,51 @@ module _ (room : List ℕ) (o : ℕ) (p rest : List ℕ) (h : o + length (p ++ r
       let far = drop (o + length (p ++ rest)) room in
       rw (front, back) (append_assoc (take o room) p (rest ++ far) ∙ ap (λ (l : List ℕ). take o room ++ l) (sym (append_assoc p rest far)))
 
-cells_on : (text : List ℕ) (l : Line) (ls ms : List Line) → ms ≡ l ∷ ls → cells text (kept ms) ≡ put_at text l ++ cells text (kept ls)
-unfolding kept cells put_at
-cells_on text l ls ms e = rw e (go (ltb l.start l.stop))
-  where
-    go : (b : Bool) → cells text (b then l ∷ kept ls else kept ls) ≡ (b then cells_of text l else []) ++ cells text (kept ls)
-    go true = refl
-    go false = refl
+-- The options before the lines ls stand in the room, up to o; with those of ls it is the room r.
+pub record Writes (text room : List ℕ) (ls : List Line) (o : ℕ) (r : List ℕ) : Type 0 where
+  pub fits : o + length (cells text (kept ls)) ≤ length room
+  pub same : put room o (cells text (kept ls)) ≡ r
 
--- The options before the place a stand in the room, up to o; with those from a on it is the room r.
-pub record Writes (text room : List ℕ) (n a o : ℕ) (r : List ℕ) : Type 0 where
-  pub fits : o + length (cells text (kept (lines_at text n a))) ≤ length room
-  pub same : put room o (cells text (kept (lines_at text n a))) ≡ r
+module _ (text room : List ℕ) (l : Line) (ls : List Line) (o : ℕ) (r : List ℕ) (w : Writes text room (l ∷ ls) o r) where
+  pub writes_empty : l.stop ≤ l.start → Writes text room ls o r
+  unfolding kept
+  writes_empty h = record { fits = simp (le-ltb l.start l.stop h) at w.fits; same = simp (le-ltb l.start l.stop h) at w.same }
 
-module _ (text room : List ℕ) (n a o : ℕ) (r : List ℕ) (w : Writes text room n a o r) where
-  module _ (z b : ℕ) (e : lines_at text n a ≡ line n a z ∷ lines_at text (n + 1) b) where
-    abbrev later : List ℕ
-    later = cells text (kept (lines_at text (n + 1) b))
+  module _ (h : l.start < l.stop) where
+    both : cells text (kept (l ∷ ls)) ≡ cells_of text l ++ cells text (kept ls)
+    unfolding kept cells
+    both = simp (lt-ltb l.start l.stop h)
 
-    both : cells text (kept (lines_at text n a)) ≡ put_at text (line n a z) ++ later
-    both = cells_on text (line n a z) (lines_at text (n + 1) b) (lines_at text n a) e
+    five : length (cells_of text l) ≡ 5
+    unfolding cells_of
+    five = refl
 
-    sum : length (cells text (kept (lines_at text n a))) ≡ length (put_at text (line n a z)) + length later
-    sum = ap length both ∙ length-append (put_at text (line n a z)) later
+    sum : length (cells text (kept (l ∷ ls))) ≡ 5 + length (cells text (kept ls))
+    sum = omega (arith, ap length both, length-append (cells_of text l) (cells text (kept ls)), five)
 
-    pub writes_fit : o + length (put_at text (line n a z)) ≤ length room
+    pub writes_fit : o + 5 ≤ length room
     writes_fit = omega (arith, sum, w.fits)
 
-    pub writes_on : (room' : List ℕ) (o' : ℕ) → room' ≡ put room o (put_at text (line n a z)) → length room' ≡ length room →
-        o' ≡ o + length (put_at text (line n a z)) → Writes text room' (n + 1) b o' r
-    writes_on room' o' d s f = record {
-      fits = omega (arith, sum, w.fits);
-      same = rw (d, f) (put_put room o (put_at text (line n a z)) later (omega (arith, w.fits, ap length both)) ∙
-          ap (put room o) (sym both) ∙ w.same);
-    }
+    -- after the cells are written to the part of the room from o on
+    pub writes_on : (k : ℕ) (out : List ℕ) → k ≡ 5 → out ≡ cells_of text l → Writes text (put_mid o k room out) ls (o + 5) r
+    writes_on k out z d =
+        let wide : k ≡ length (cells_of text l) = omega (arith, five) in
+        let is : put_mid o k room out ≡ put room o (cells_of text l) = rw (d, drop-drop k o room, wide) in
+        let to : o + 5 ≡ o + length (cells_of text l) = omega (arith, five) in
+        let long : length (put room o (cells_of text l)) ≡ length room = put_length in
+        record {
+          fits = omega (arith, ap length is, long, sum, w.fits);
+          same = rw (is, to) (put_put room o (cells_of text l) (cells text (kept ls)) (omega (arith, w.fits, ap length both)) ∙
+              ap (put room o) (sym both) ∙ w.same);
+        }
+      where
+        put_length : length (put room o (cells_of text l)) ≡ length room
+        put_length = simp (length-append, length-drop) (omega (arith, length-take-le o room (omega (arith, writes_fit)), five, writes_fit))
 
-  -- no line is left
-  pub writes_none : length text ≤ a → room ≡ r
-  unfolding kept cells
-  writes_none h =
-      let e : cells text (kept (lines_at text n a)) ≡ [] = ap (λ (ls : List Line). cells text (kept ls)) (lines_end text n a h) in
-      let z : o + 0 ≡ o = omega arith in
-      sym (take-append-drop o room) ∙ ap (λ (i : ℕ). take o room ++ drop i room) (sym z) ∙ ap (put room o) (sym e) ∙ w.same
+-- no line is left
+pub writes_none : (text room : List ℕ) (n a o : ℕ) (r : List ℕ) → length text ≤ a → Writes text room (lines_at text n a) o r → room ≡ r
+unfolding kept cells
+writes_none text room n a o r h w =
+    let e : cells text (kept (lines_at text n a)) ≡ [] = ap (λ (ls : List Line). cells text (kept ls)) (lines_end text n a h) in
+    let z : o + 0 ≡ o = omega arith in
+    sym (take-append-drop o room) ∙ ap (λ (i : ℕ). take o room ++ drop i room) (sym z) ∙ ap (put room o) (sym e) ∙ w.same

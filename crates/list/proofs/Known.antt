@@ -1,19 +1,18 @@
 -- The known names one by one, and the names of the lines before a place. Assumes nothing.
-use mathlib.Core.Path.{◌≡◌, refl, sym, ap, ◌∙◌}
-use mathlib.Core.Bool.{Bool, true, false}
-use mathlib.Core.List.{List, [], ◌∷◌}
-use Prim.Native.Nat.{ℕ, suc, ◌+◌, ◌≤◌, ◌<◌}
-use native.Mathlib.Omega.{arith}
+use Rattle.std.proofs.Common.{◌≡◌, refl, sym, ap, ◌∙◌, ℕ, suc, ◌+◌, ◌-◌, ◌<◌, ◌≤◌, Bool, true, false, ◌||◌, List, [], ◌∷◌, length, take, drop, arith}
+use Rattle.std.proofs.lemmas.List.{take_rest}
+use Rattle.std.specs.List.{list_any}
+use Rattle.std.specs.Cmp.Lexicographic.{pointwise}
 use lib.Dec.{eqb}
-use lib.ListN.{length, take, drop, length-drop}
-use lib.Seq.{slice, drop-drop}
+use lib.Seq.{drop-drop}
 use borrow.Author.Tests.{lt-ltb, le-ltb}
 use Rattle.standard.specs.Base.{◌then◌else◌}
-use Rattle.list_spec.specs.Lines.{LF, before, same, Line, name_of, on_first, names_of, among}
+use Rattle.list_spec.specs.Lines.{TAB, LF, before, same, name_of, on_first, names_of, among}
 use Rattle.list_spec.specs.ListCall.{used_before}
-use Rattle.list_spec.proofs.Parts.{slice_all, slice_front, before_le}
 use Rattle.list_spec.proofs.Turns.{lines_at, lines_end}
 use Rattle.list_spec.proofs.Lies.{low, by_lines, next}
+use Rattle.list.specs.Walking.{line_with, LineAt}
+use Rattle.list.proofs.Characters.{same_is}
 
 -- the known names, the first of them cut off; none, where no line feed closes one
 names_cut : (l : List ℕ) → before LF l < length l → names_of l ≡ take (before LF l) l ∷ names_of (drop (suc (before LF l)) l)
@@ -28,7 +27,7 @@ names_cut (c ∷ cs) h = go (eqb c LF) (names_cut cs) h
     go true r h = refl
     go false r h = ap (on_first c) (r (omega arith))
 
-names_none : (l : List ℕ) → before LF l ≡ length l → names_of l ≡ []
+pub names_none : (l : List ℕ) → before LF l ≡ length l → names_of l ≡ []
 unfolding names_of before
 names_none [] h = refl
 names_none (c ∷ cs) h = go (eqb c LF) (names_none cs) h
@@ -38,47 +37,25 @@ names_none (c ∷ cs) h = go (eqb c LF) (names_none cs) h
     go true r h = absurd (omega arith)
     go false r h = ap (on_first c) (r (omega arith))
 
--- the name that begins at p, whose line feed or end is at q
-module _ (names : List ℕ) (p q : ℕ) (h : p < length names) (e : q ≡ p + before LF (slice p (length names) names)) where
-  to_end : q ≡ p + before LF (drop p names)
-  to_end = e ∙ ap (λ (l : List ℕ). p + before LF l) (slice_all p names)
+-- the first name, as the walk cuts it off
+pub names_turn : (l : List ℕ) (k : ℕ) → k ≡ before LF l → k < length l → (front back : List ℕ) → front ≡ take k l → back ≡ drop k l →
+    names_of l ≡ front ∷ names_of (take (length back - 1) (drop 1 back))
+names_turn l k e h front back f b =
+    let z : k + 1 ≡ suc k = omega arith in
+    let d : take (length back - 1) (drop 1 back) ≡ drop (suc k) l =
+    take_rest back 1 ∙ ap (drop 1) b ∙ drop-drop 1 k l ∙ ap (λ (i : ℕ). drop i l) z in
+    rw (d, f, e) (names_cut l (omega arith))
 
-  pub names_turn : (q ≡ length names → ⊥) → names_of (drop p names) ≡ slice p q names ∷ names_of (drop (q + 1) names)
-  names_turn n =
-      let k = before LF (drop p names) in
-      let f : slice p q names ≡ take k (drop p names) = rw to_end (slice_front p k names (omega arith)) in
-      let z : p + suc k ≡ q + 1 = omega (arith, to_end) in
-      let d : drop (suc k) (drop p names) ≡ drop (q + 1) names = drop-drop (suc k) p names ∙ ap (λ (i : ℕ). drop i names) z in
-      names_cut (drop p names) (omega (arith, to_end, length-drop p names, before_le LF (drop p names), n)) ∙
-      ap (λ (l : List ℕ). l ∷ names_of (drop (suc k) (drop p names))) (sym f) ∙
-      ap (λ (l : List ℕ). slice p q names ∷ names_of l) d
-
-  pub names_last : q ≡ length names → names_of (drop p names) ≡ []
-  names_last n = names_none (drop p names) (omega (arith, to_end, length-drop p names))
-
--- a search among the names, one turn
-module _ (x y : List ℕ) (ys zs : List (List ℕ)) (e : zs ≡ y ∷ ys) where
-  pub among_hit : true ≡ same y x → true ≡ among x zs
-  unfolding among
-  among_hit h = rw e (simp (sym h))
-
-  pub among_on : false ≡ same y x → among x zs ≡ among x ys
-  unfolding among
-  among_on h = rw e (simp (sym h))
-
-pub among_none : (x : List ℕ) (zs : List (List ℕ)) → zs ≡ [] → among x zs ≡ false
+-- among the known names, as the walk asks it
+pub among_any : (x : List ℕ) (ys : List (List ℕ)) → among x ys ≡ list_any (λ y. pointwise eqb y x) ys
 unfolding among
-among_none x zs e = rw e
-
--- used before, one turn
-module _ (text : List ℕ) (to : ℕ) (x : List ℕ) (l : Line) (ls ms : List Line) (e : ms ≡ l ∷ ls) (h : l.start < to) where
-  pub used_hit : true ≡ same (name_of text l) x → true ≡ used_before text to x ms
-  unfolding used_before
-  used_hit g = rw e (simp (lt-ltb l.start to h, sym g))
-
-  pub used_on : false ≡ same (name_of text l) x → used_before text to x ms ≡ used_before text to x ls
-  unfolding used_before
-  used_on g = rw e (simp (lt-ltb l.start to h, sym g))
+among_any x [] = refl
+among_any x (y ∷ ys) = go (pointwise eqb y x) (same y x) (same_is y x) (among_any x ys)
+  where
+    go : (b c : Bool) → b ≡ c → among x ys ≡ list_any (λ y. pointwise eqb y x) ys →
+        (c then true else among x ys) ≡ (b || list_any (λ y. pointwise eqb y x) ys)
+    go true c e r = rw (sym e)
+    go false c e r = rw (sym e, r)
 
 -- no line that begins at a place, or behind it, begins before it
 pub used_end : (text : List ℕ) (to : ℕ) (x : List ℕ) (n a : ℕ) → to ≤ a → used_before text to x (lines_at text n a) ≡ false
@@ -88,3 +65,26 @@ used_end text to x n a =
     (λ n a h o. ap (used_before text to x) (lines_end text n a h))
     (λ n a h r o. ap (used_before text to x) (next text n a h) ∙ simp (le-ltb a to o) (r (omega (arith, low text a h))))
     (length text) n a (omega arith)
+
+pub used_none : (text : List ℕ) (to : ℕ) (x : List ℕ) (n a : ℕ) → length text ≤ a → used_before text to x (lines_at text n a) ≡ false
+unfolding used_before
+used_none text to x n a h = ap (used_before text to x) (lines_end text n a h)
+
+-- the line of a walk, with its characters
+module _ (text : List ℕ) (n a m b : ℕ) (chars : List ℕ) (n' a' : ℕ) (s : LineAt text n a m b chars n' a') where
+  pub line_name : take (before TAB chars) chars ≡ name_of text (line_with m b chars)
+  unfolding name_of
+  line_name = rw (sym s.lies.are)
+
+  -- used before, one turn
+  module _ (to : ℕ) (x name : List ℕ) (d : name ≡ take (before TAB chars) chars) (h : b < to) where
+    named : pointwise eqb name x ≡ same (name_of text (line_with m b chars)) x
+    named = same_is name x ∙ ap (λ (y : List ℕ). same y x) (d ∙ line_name)
+
+    pub used_hit : true ≡ pointwise eqb name x → true ≡ used_before text to x (lines_at text n a)
+    unfolding used_before
+    used_hit g = rw s.turn (simp (lt-ltb b to h, sym (g ∙ named)))
+
+    pub used_on : false ≡ pointwise eqb name x → used_before text to x (lines_at text n a) ≡ used_before text to x (lines_at text n' a')
+    unfolding used_before
+    used_on g = rw s.turn (simp (lt-ltb b to h, sym (g ∙ named)))

@@ -1,10 +1,10 @@
 // The record that walks a list: a text, and a place in it. Its functions are thin: `line` takes the record apart, and `line_at` does the
-// work. `next_line` serves all that have a slice and a number: the list call walks by it.
+// work. `next_line` serves all that have a slice and a number; the list call walks by `Lines` of lines.rt, which holds the record.
 
-ghost use Rattle.std.specs.Prelude.{◌≡◌, ◌≤◌, length};
-ghost use Rattle.list_spec.specs.Spans.{stop_at, span_at};
+ghost use Rattle.std.specs.Prelude.{◌≡◌, length};
+ghost use Rattle.list_spec.specs.Spans.{span_at};
 
-use crate::search::find;
+use crate::search::{CARRIAGE_RETURN, LINE_FEED, find};
 use list_spec::Span;
 
 #[derive(Clone, Copy)]
@@ -13,34 +13,30 @@ pub struct Cursor<'a> {
     pub at: usize,
 }
 
-// Where the line from a on stops whose line feed, or the end of the text, is at e.
-fn stop_at(text: &[u32], a: usize, e: usize) -> usize
-    requires { (a ≤ e) × (e ≤ length text.now) }
-    ensures { result ≡ stop_at text.now a e }
-{
-    if e == text.len() {
-        return e;
-    }
-    if e == a {
-        return e;
-    }
-    if text[e - 1] == 0x0D {
-        return e - 1;
-    }
-    e
-}
-
-// The line at a place of a text.
+// The line at a place of a text. No Option at the end: `line` and `next_line` promise both places there.
 fn line_at(text: &[u32], at: usize) -> Span
     ensures { result ≡ span_at text.now at }
 {
     if at >= text.len() {
         return Span { stop: at, next: at };
     }
-    let end = find(text, at, text.len(), 0x0A);
-    Span {
-        stop: stop_at(text, at, end),
-        next: end + 1,
+    match find(&text[at..], LINE_FEED) {
+        Some(length) => {
+            let end = at + length;
+            let stop = if length > 0 && text[end - 1] == CARRIAGE_RETURN {
+                end - 1
+            } else {
+                end
+            };
+            Span {
+                stop,
+                next: end + 1,
+            }
+        }
+        None => Span {
+            stop: text.len(),
+            next: text.len() + 1,
+        },
     }
 }
 

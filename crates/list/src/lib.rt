@@ -3,7 +3,9 @@
 #![tactic(auto)]
 
 pub mod cursor;
+mod fault;
 mod judge;
+mod lines;
 mod names;
 mod search;
 mod slots;
@@ -16,22 +18,29 @@ use judge::judge;
 use list_spec::Listed;
 use write::write;
 
-// The list call: the characters of a list, the known names, each closed by a line feed, and a room of five cells for each option.
+// The list call. Its answer has numbers and no enum: the C record has them. Lent are the characters of a list, the known names, each closed by a line feed, and a room of five cells for each option.
 pub fn read_list(text: &[u32], names: &[u32], room: &mut [u64]) -> Listed
     ensures { (result ≡ (list_call text.now names.now room.old).answer) ×
         (room.new ≡ (list_call text.now names.now room.old).room) }
 {
-    let judged = judge(text, names);
-    if judged.refusal != 0 {
-        return judged;
-    }
-    if room.len() / 5 < judged.options {
-        return Listed {
+    match judge(text, names) {
+        Ok(options) if options <= room.len() / 5 => {
+            write(text, room);
+            Listed {
+                options,
+                line: 0,
+                refusal: 0,
+            }
+        }
+        Ok(_) => Listed {
             options: 0,
             line: 0,
             refusal: 7,
-        };
+        },
+        Err(at) => Listed {
+            options: 0,
+            line: at.line,
+            refusal: u8::from(at.fault),
+        },
     }
-    write(text, room);
-    judged
 }

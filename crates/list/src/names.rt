@@ -1,60 +1,72 @@
-// Known names and used names, searched for plainly.
+// The known names and the used ones, searched for plainly.
 
-ghost use Rattle.std.specs.Prelude.{◌≡◌, ◌≤◌, length};
-ghost use Rattle.std.proofs.Math.Seq.{slice};
+ghost use Rattle.std.specs.Prelude.{◌≡◌};
+ghost use Rattle.std.specs.Iterator.{YieldsFirstRef, item_count};
 ghost use Rattle.list_spec.specs.Lines.{lines_of, names_of, among};
 ghost use Rattle.list_spec.specs.ListCall.{used_before};
 ghost use Rattle.list.specs.Walking.{name_fault};
+ghost use Rattle.list.specs.Faults.{refusal_of};
 
-use crate::cursor::next_line;
-use crate::search::{find, same};
+use crate::fault::Fault;
+use crate::lines::Lines;
+use crate::search::{LINE_FEED, find};
 
-// Are the characters of the text from a to e a known name?
-fn known(names: &[u32], text: &[u32], a: usize, e: usize) -> bool
-    requires { (a ≤ e) × (e ≤ length text.now) }
-    ensures { result ≡ among (slice a e text.now) (names_of names.now) }
+// Walks known names: each is closed by a line feed, and characters after the last line feed name nothing.
+#[derive(Drop)]
+pub(crate) struct Names<'a>(pub &'a [u32]);
+
+impl<'a> Iterator for Names<'a> {
+    type Item = &'a [u32];
+
+    ghost next_gives = { YieldsFirstRef (λ s. names_of s.0.now) };
+
+    ghost remaining = { item_count (λ s. names_of s.0.now) };
+
+    fn next(&mut self) -> Option<&'a [u32]> {
+        let end = find(self.0, LINE_FEED)?;
+        let (name, rest) = self.0.split_at(end);
+        self.0 = &rest[1..];
+        Some(name)
+    }
+}
+
+// Is this a known name?
+fn is_known(names: &[u32], name: &[u32]) -> bool
+    ensures { result ≡ among name.now (names_of names.now) }
 {
-    let mut p: usize = 0;
-    while p < names.len() {
-        let q = find(names, p, names.len(), 0x0A);
-        if q == names.len() {
+    Names(names).any(|known| known == name)
+}
+
+// Has a line that begins before a place this name?
+fn is_used(text: &[u32], place: usize, name: &[u32]) -> bool
+    ensures { result ≡ used_before text.now place name.now (lines_of text.now) }
+{
+    for line in Lines::new(text) {
+        if line.start >= place {
             return false;
         }
-        if same(names, p, q, text, a, e) {
+        if line.name() == name {
             return true;
         }
-        p = q + 1;
     }
     false
 }
 
-// Has a line that begins before the place `to` the name from a to e?
-fn used(text: &[u32], to: usize, a: usize, e: usize) -> bool
-    requires { (to ≤ length text.now) × (a ≤ e) × (e ≤ length text.now) }
-    ensures { result ≡ used_before text.now to (slice a e text.now) (lines_of text.now) }
+// Judges the name of a line that begins at a place. It is not empty.
+#[tactic(auto, unfolding(crate::specs::Walking::name_fault))]
+pub(crate) fn judge_name(
+    text: &[u32],
+    names: &[u32],
+    place: usize,
+    name: &[u32],
+) -> Result<(), Fault>
+    ensures { refusal_of result ≡ name_fault text.now names.now place name.now }
 {
-    let mut p: usize = 0;
-    while p < to {
-        let l = next_line(text, p);
-        let tab = find(text, p, l.stop, 0x09);
-        if same(text, p, tab, text, a, e) {
-            return true;
-        }
-        p = l.next;
+    if !is_known(names, name) {
+        return Err(Fault::UnknownName);
     }
-    false
-}
-
-// The fault of a line from a on with the name from a to e, which is not empty: 0, 17 or 18.
-pub(crate) fn name_fault(text: &[u32], names: &[u32], a: usize, e: usize) -> u8
-    requires { (a ≤ e) × (e ≤ length text.now) }
-    ensures { result ≡ name_fault text.now names.now a (slice a e text.now) }
-{
-    if known(names, text, a, e) {
-        if used(text, a, a, e) {
-            return 18;
-        }
-        return 0;
+    if is_used(text, place, name) {
+        return Err(Fault::UsedName);
     }
-    17
+    Ok(())
 }

@@ -1,40 +1,20 @@
-// Searching and comparing characters.
+// Searching characters.
 
-ghost use Rattle.std.specs.Prelude.{◌≡◌, ◌+◌, ◌≤◌, length};
-ghost use Rattle.std.proofs.Math.Seq.{slice};
-ghost use Rattle.list_spec.specs.Lines.{before, same as same_as};
+ghost use Rattle.std.specs.Prelude.{◌≡◌, ◌<◌, length, MatchOption};
+ghost use Rattle.list_spec.specs.Lines.{before};
 
-// The place of the first x from a on, or e.
-pub(crate) fn find(s: &[u32], a: usize, e: usize, x: u32) -> usize
-    requires { (a ≤ e) × (e ≤ length s.now) }
-    ensures { (result ≡ a + before x (slice a e s.now)) × (result ≤ e) }
+pub(crate) const TAB: u32 = 0x09;
+
+pub(crate) const LINE_FEED: u32 = 0x0A;
+
+pub(crate) const CARRIAGE_RETURN: u32 = 0x0D;
+
+// The place of the first x.
+pub(crate) fn find(s: &[u32], x: u32) -> Option<usize>
+    ensures { MatchOption
+        result
+        (before x s.now ≡ length s.now)
+        (λ i. (i ≡ before x s.now) × (i < length s.now)) }
 {
-    let mut i = a;
-    while i < e {
-        if s[i] == x {
-            return i;
-        }
-        i += 1;
-    }
-    i
-}
-
-// Are the characters of s from a to b those of t from c to d?
-pub(crate) fn same(s: &[u32], a: usize, b: usize, t: &[u32], c: usize, d: usize) -> bool
-    requires { (a ≤ b) × (b ≤ length s.now) × (c ≤ d) × (d ≤ length t.now) }
-    ensures { result ≡ same_as (slice a b s.now) (slice c d t.now) }
-{
-    if b - a != d - c {
-        return false;
-    }
-    let mut i = a;
-    let mut j = c;
-    while i < b {
-        if s[i] != t[j] {
-            return false;
-        }
-        i += 1;
-        j += 1;
-    }
-    true
+    s.iter().position(|c| *c == x)
 }

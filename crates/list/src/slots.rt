@@ -1,134 +1,106 @@
-// Known names found in little time: slots, each 0 or one plus the place where a known name begins. Nothing is promised of what slots
-// hold: what a slot says is compared with the names, and a name that is in no slot is searched for plainly.
+// Known names found in little time, by slots on the stack. Nothing is promised of what slots hold: what a slot says is compared with the
+// names, and a name that is in no slot is searched for plainly.
 
-ghost use Rattle.std.specs.Prelude.{◌≡◌, ◌<◌, ◌≤◌, length};
-ghost use Rattle.std.proofs.Math.Seq.{slice};
-ghost use Rattle.list.specs.Slots.{slot_of, slot_after, starts_at, name_at, look_of};
+ghost use Rattle.std.specs.Prelude.{◌≡◌, ◌<◌, ◌≤◌, false, length, IfSome};
+ghost use Rattle.list.specs.Slots.{slot_of, starts_at, name_at, look_of};
 
-use crate::search::{find, same};
+use crate::names::Names;
+use crate::search::{LINE_FEED, find};
 
-fn wide(x: u32) -> usize
-    ensures { (result ≡ x) × (result < 4294967296) }
-{
-    x as usize
+// Of the hash of a name.
+const MULTIPLIER: u32 = 1327217885;
+
+// The known names, and N slots: each is 0 or one plus the place where a known name begins, and has a mark, whether a line has had this name.
+// A slot is a number and not an Option, which takes twice the room: the table lies on the stack.
+#[derive(Drop)]
+pub(crate) struct Table<'a, const N: usize> {
+    pub names: &'a [u32],
+    pub slots: [u32; N],
+    pub marks: [bool; N],
+    ghost sized: { (0 < N) × (N ≤ 65536) },
+    ghost whole: { (length slots ≡ N) × (length marks ≡ N) },
 }
 
-// The slot, of so many, at which the search for the characters from a to e begins.
-fn slot_of(s: &[u32], a: usize, e: usize, slots: usize) -> usize
-    requires { (a ≤ e) × (e ≤ length s.now) × (0 < slots) × (slots ≤ 65536) }
-    ensures { (result ≡ slot_of slots (slice a e s.now)) × (result < slots) }
+// Does a known name begin at a place?
+#[tactic(auto, unfolding(crate::specs::Slots::starts_at))]
+fn starts_at(names: &[u32], at: usize) -> bool
+    ensures { result ≡ starts_at names.now at }
 {
-    let mut h: usize = 0;
-    let mut i = a;
-    while i < e {
-        h = (h + wide(s[i])) * 1327217885 % 4294967296;
-        i += 1;
-    }
-    h * slots / 4294967296
+    at < names.len() && (at == 0 || names[at - 1] == LINE_FEED)
 }
 
-// The slot behind j, of so many.
-fn slot_after(j: usize, slots: usize) -> usize
-    requires { (j < slots) × (slots ≤ 65536) }
-    ensures { (result ≡ slot_after slots j) × (result < slots) }
+// Is this the known name that begins at a place?
+fn name_at(names: &[u32], at: usize, name: &[u32]) -> bool
+    ensures { result ≡ name_at names.now at name.now }
 {
-    if j + 1 == slots {
-        return 0;
-    }
-    j + 1
-}
-
-// Does a name begin at p?
-fn starts_at(names: &[u32], p: usize) -> bool
-    requires { p < length names.now }
-    ensures { result ≡ starts_at names.now p }
-{
-    if p == 0 {
-        return true;
-    }
-    if names[p - 1] == 0x0A {
-        return true;
-    }
-    false
-}
-
-// Are the characters of the text from a to e the known name that begins at p?
-fn name_at(names: &[u32], p: usize, text: &[u32], a: usize, e: usize) -> bool
-    requires { (a ≤ e) × (e ≤ length text.now) }
-    ensures { result ≡ name_at names.now p (slice a e text.now) }
-{
-    if p >= names.len() {
+    if !starts_at(names, at) {
         return false;
     }
-    if starts_at(names, p) {
-        let q = find(names, p, names.len(), 0x0A);
-        if q == names.len() {
-            return false;
-        }
-        return same(names, p, q, text, a, e);
-    }
-    false
-}
-
-// The slot of the known name that the characters from a to e are, or the number of slots where none is found.
-pub(crate) fn look(slots: &[u32], names: &[u32], text: &[u32], a: usize, e: usize) -> usize
-    requires { (a ≤ e) × (e ≤ length text.now) × (0 < length slots.now) × (length slots.now ≤ 65536) }
-    ensures { (result ≡ look_of slots.now names.now (slice a e text.now)) ×
-        (result ≤ length slots.now) }
-{
-    let mut j = slot_of(text, a, e, slots.len());
-    let mut left = slots.len();
-    while left > 0 {
-        let p = wide(slots[j]);
-        if p == 0 {
-            return slots.len();
-        }
-        if name_at(names, p - 1, text, a, e) {
-            return j;
-        }
-        j = slot_after(j, slots.len());
-        left -= 1;
-    }
-    slots.len()
-}
-
-// Puts a number into the first empty slot from j on.
-fn put_slot(slots: &mut [u32], from: usize, v: u32)
-    requires { (from < length slots.old) × (length slots.old ≤ 65536) }
-    ensures { length slots.new ≡ length slots.old }
-{
-    let mut j = from;
-    let mut left = slots.len();
-    while left > 0 {
-        if slots[j] == 0 {
-            slots[j] = v;
-            return;
-        }
-        j = slot_after(j, slots.len());
-        left -= 1;
+    match Names(&names[at..]).next() {
+        Some(known) => known == name,
+        None => false,
     }
 }
 
-// Puts known names into the slots, from the first on: as many as leave a quarter of the slots empty, so that a search stays short.
-pub(crate) fn fill(names: &[u32], slots: &mut [u32])
-    requires { (0 < length slots.old) × (length slots.old ≤ 65536) }
-    ensures { length slots.new ≡ length slots.old }
-{
-    let mut p: usize = 0;
-    let mut left = slots.len() - slots.len() / 4;
-    while p < names.len() {
-        if left == 0 {
-            return;
+impl<'a, const N: usize> Table<'a, N> {
+    // The slot at which the search for a name begins.
+    fn slot_of(&self, name: &[u32]) -> usize
+        ensures { (result ≡ slot_of N name.now) × (result < N) }
+    {
+        let hash = name.iter().fold(0u32, |hash, c| {
+            hash.wrapping_add(*c).wrapping_mul(MULTIPLIER)
+        });
+        (hash as usize * N) >> 32
+    }
+
+    // Puts known names into the slots, from the first on: as many as leave a quarter of the slots empty, so that a search stays short.
+    // It walks by itself and not by Names, which tells no places.
+    pub(crate) fn fill(&mut self)
+        ensures { (self.new.names ≡ self.old.names) × (self.new.marks ≡ self.old.marks) }
+    {
+        let names = self.names;
+        let mut start = 0;
+        'names: for _ in 0..N - N / 4 {
+            let Some(length) = find(&names[start..], LINE_FEED) else {
+                break;
+            };
+            let Ok(value) = u32::try_from(start + 1) else {
+                break;
+            };
+            self.put(&names[start..start + length], value);
+            start += length + 1;
         }
-        if p >= 4294967295 {
-            return;
+    }
+
+    // Puts a value for a name into the first empty slot.
+    fn put(&mut self, name: &[u32], value: u32)
+        ensures { (self.new.names ≡ self.old.names) × (self.new.marks ≡ self.old.marks) }
+    {
+        let mut slot = self.slot_of(name);
+        'slots: for _ in 0..N {
+            if self.slots[slot] == 0 {
+                self.slots[slot] = value;
+                return;
+            }
+            slot = (slot + 1) % N;
         }
-        let q = find(names, p, names.len(), 0x0A);
-        if q == names.len() {
-            return;
+    }
+
+    // The slot of the known name that this is.
+    pub(crate) fn look(&self, name: &[u32]) -> Option<usize>
+        ensures { (result ≡ look_of self.now.slots self.now.names.now name.now) × IfSome result (λ j. j < N) }
+    {
+        let mut slot = self.slot_of(name);
+        'slots: for _ in 0..N {
+            let value = self.slots[slot] as usize;
+            if value == 0 {
+                return None;
+            }
+            if name_at(self.names, value - 1, name) {
+                return Some(slot);
+            }
+            slot = (slot + 1) % N;
         }
-        put_slot(slots, slot_of(names, p, q, slots.len()), (p + 1) as u32);
-        p = q + 1;
-        left -= 1;
+        None
     }
 }

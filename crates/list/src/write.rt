@@ -1,29 +1,24 @@
 // The options of a list, written.
 
-ghost use Rattle.std.specs.Prelude.{◌≡◌, ◌++◌, ◌+◌, ◌≤◌, length, take, drop};
-ghost use Rattle.list_spec.specs.Lines.{line as line_of};
+ghost use Rattle.std.specs.Prelude.{◌≡◌, ◌+◌, ◌^◌, ◌<◌, ◌≤◌, length};
 ghost use Rattle.list_spec.specs.ListCall.{options_of, cells};
-ghost use Rattle.list.specs.Walking.{put_at, put};
+ghost use Rattle.list.specs.Walking.{put, line_cells};
 
-use crate::cursor::next_line;
-use crate::search::find;
+use crate::lines::{Line, Lines};
 
-// Writes the option of the line n from a to z, if it is one, at the cell o, and says where the next goes.
-fn put_option(text: &[u32], room: &mut [u64], o: usize, n: usize, a: usize, z: usize) -> usize
-    requires { (a ≤ z) × (z ≤ length text.now) × (o + length (put_at text.now (line_of n a z)) ≤ length room.old) }
-    ensures { (room.new ≡ put room.old o (put_at text.now (line_of n a z))) ×
-        (result ≡ o + length (put_at text.now (line_of n a z))) }
+// The five cells of an option: its line number, and where its name and its value start and end.
+fn cells_of<'a>(line: Line<'a>) -> [u64; 5]
+    requires { line.start + length line.chars.now < 2 ^ 63 }
+    ensures { result ≡ line_cells line.entry.number line.entry.start line.entry.chars.now }
 {
-    if a == z {
-        return o;
-    }
-    let tab = find(text, a, z, 0x09);
-    room[o] = n as u64;
-    room[o + 1] = a as u64;
-    room[o + 2] = tab as u64;
-    room[o + 3] = (tab + 1) as u64;
-    room[o + 4] = z as u64;
-    o + 5
+    let tab = line.start + line.name().len();
+    [
+        line.number as u64,
+        line.start as u64,
+        tab as u64,
+        tab as u64 + 1,
+        (line.start + line.chars.len()) as u64,
+    ]
 }
 
 // Writes the options of a list from the front of the room on.
@@ -31,13 +26,12 @@ pub(crate) fn write(text: &[u32], room: &mut [u64])
     requires { length (cells text.now (options_of text.now)) ≤ length room.old }
     ensures { room.new ≡ put room.old 0 (cells text.now (options_of text.now)) }
 {
-    let mut a: usize = 0;
-    let mut n: usize = 1;
-    let mut o: usize = 0;
-    while a < text.len() {
-        let l = next_line(text, a);
-        o = put_option(text, room, o, n, a, l.stop);
-        a = l.next;
-        n += 1;
+    let mut at = 0;
+    for line in Lines::new(text) {
+        if line.chars.is_empty() {
+            continue;
+        }
+        room[at..at + 5].copy_from_slice(&cells_of(line));
+        at += 5;
     }
 }

@@ -1,21 +1,11 @@
--- Loading a file part by part, and a text at the front of a room. Assumes nothing.
-use Rattle.std.proofs.Common.{◌≡◌, refl, sym, ap, ◌∙◌, subst, ℕ, ◌+◌, ◌≤◌, List, [], ◌∷◌, ◌++◌, length, take, drop, append-nil, zero-add, arith}
-use Rattle.std.proofs.Math.Seq.{take-append_seam}
-use lib.Seq.{sets-eq}
+-- Loading a file part by part. Assumes nothing.
+use Rattle.std.proofs.Common.{◌≡◌, refl, sym, ap, ◌∙◌, subst, ℕ, ◌≤◌, List, [], ◌∷◌, ◌++◌, length, append-nil}
 use borrow.Author.Tests.{le-ltb}
 use Rattle.index_loading.specs.Loading.{loading}
 use Rattle.index_loading.specs.Steps.{Place, on_byte, on_bytes, on_end, loaded_at, placed, most, Stands, GoesOn}
 use Rattle.index_loading.specs.Statements.{fresh, joined, after_parts}
 use Rattle.index_loading.specs.declared.Loading.{Loading}
 use Rattle.index_loading.proofs.Theorems.{loads}
-use Rattle.program_text.specs.Places.{Put}
-
--- The text that was put at the front of a room.
-pub front : {room text after : List ℕ} {n : ℕ} → Put room 0 text n after → length text ≤ length room → take n after ≡ text
-front {room} {text} {after} {n} p h =
-    let size : n ≡ length text = p.behind ∙ zero-add (length text) in
-    let stands = p.stands ∙ sets-eq text room 0 (omega (arith, h)) in
-    rw (size, stands) (take-append_seam text (drop (0 + length text) room))
 
 on_bytes-append : (p : Place) (xs ys : List ℕ) → on_bytes p (xs ++ ys) ≡ on_bytes (on_bytes p xs) ys
 unfolding on_bytes

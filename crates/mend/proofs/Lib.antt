@@ -1,3 +1,4 @@
+pub mod Refusals
 pub mod Begins
 pub mod Wrote
 pub mod Files

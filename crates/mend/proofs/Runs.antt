@@ -1,9 +1,9 @@
 -- The text, buffer after buffer, of an input that is known: what is read, written, and still to be written. Assumes nothing.
-use Rattle.std.proofs.Common.{◌≡◌, refl, sym, ap, ◌∙◌, subst, ℕ, zero, suc, ◌+◌, ◌*◌, ◌-◌, ◌≤◌, ◌<◌, Bool, true, false, List, [], ◌∷◌, ◌++◌, length, take, drop, length-drop, length-take, take_all, append_assoc, append-nil, le_refl, arith, Option, None, Some, IfSome}
+use Rattle.std.proofs.Common.{◌≡◌, refl, sym, ap, ◌∙◌, subst, ℕ, zero, suc, ◌+◌, ◌*◌, ◌-◌, ◌≤◌, ◌<◌, Bool, true, false, List, [], ◌∷◌, ◌++◌, length, take, drop, length-drop, length-take, take_all, append_assoc, append-nil, le_refl, arith, Option, None, Some, IfSome, is_ok}
 use Rattle.std.proofs.Math.Dec.{eqb}
 use Rattle.std.proofs.KnownBytes.{Appends-nil, Appends-trans}
 use Rattle.std.specs.Io.KnownBytes.{Appends, Consumes, IsAtEnd}
-use borrow.Author.Tests.{le-ltb, eq-eqb, ne_eqb, ltb-false, eqb-true, eqb-false}
+use borrow.Author.Tests.{le-ltb, ltb-false, eqb-true, eqb-false}
 use Rattle.std.proofs.lemmas.List.{take-append-drop}
 use Rattle.standard.specs.Base.{◌then◌else◌}
 use Rattle.standard.specs.Encodings.{Tables, family, fits}
@@ -21,7 +21,8 @@ use Rattle.mend_spec.specs.Statements.{Roomy}
 use Rattle.mend_spec.proofs.Theorems.{mends}
 use Rattle.mend.specs.Steps.{Wrote, Few, Written, Suits}
 use Rattle.mend.specs.declared.Mended.{Mended}
-use Rattle.mend.proofs.Files.{front}
+use Rattle.program_text.proofs.Fronts.{front}
+use Rattle.mend.proofs.Refusals.{numbered_ok}
 
 -- Streams joined.
 pub joins_assoc : (a b c : Streams) → joins (joins a b) c ≡ joins a (joins b c)
@@ -55,7 +56,7 @@ pending s out report = record { output = take s.written out; report = take s.tol
 
 -- What the buffers behind it give.
 abbrev pub behind : Tables → Mended → List Piece → List ℕ → List ℕ → Streams
-behind t s ps room spans = eqb s.refusal 0 then text_by t s.decoder ps room spans else nothing
+behind t s ps room spans = is_ok s.outcome then text_by t s.decoder ps room spans else nothing
 
 -- Of a whole text, some is written, what a step gave is not yet, and the buffers that are left give the rest.
 pub record ToMend (t : Tables) (s : Mended) (out report xs : List ℕ) (whole written : Streams) : Type 0 where
@@ -105,9 +106,10 @@ module _ (d : Decoder) (t : Tables) (b room spans : List ℕ) {out report : List
   told = feed_telling d t (fitting d b) room spans
 
   -- A step that is not refused has taken all of its buffer.
-  took : s.refusal ≡ 0 → (s.decoder.taken ≡ d.taken + length b) × (length b ≤ 4294967295 - d.taken)
+  took : is_ok s.outcome ≡ true → (s.decoder.taken ≡ d.taken + length b) × (length b ≤ 4294967295 - d.taken)
   took z =
-      let k = of_step told.answer.answer.refusal (over d b) (sym w.refusal ∙ z) in
+      let zero = eqb-true (step_of told.answer.answer.refusal (over d b)) 0 (sym (numbered_ok s.outcome _ w.refusal) ∙ z) in
+      let k = of_step told.answer.answer.refusal (over d b) zero in
       let few = ltb-false (4294967295 - d.taken) (length b) k.1 in (
         ap (λ (d : Decoder). d.taken) w.decoder ∙ tell_took d t (fitting d b) room spans k.0 ∙
             ap (λ l. d.taken + length l) (take_all (4294967295 - d.taken) b few),
@@ -120,10 +122,10 @@ module _ (d : Decoder) (t : Tables) (b room spans : List ℕ) {out report : List
   module _ (f : Few s out' report') (o : length out' ≡ length out) (p : length report' ≡ length report) where
     unrolled : (ps : List Piece) (room' spans' : List ℕ) → text_by t d (piece ∷ ps) room' spans' ≡ joins (pending s out' report') (behind t s ps room' spans')
     unfolding text_by
-    unrolled ps room' spans' = sym (λ i. joins (given w f o p i) (eqb (w.refusal i) 0 then text_by t (w.decoder i) ps room' spans' else nothing))
+    unrolled ps room' spans' = sym (λ i. joins (given w f o p i) (numbered_ok s.outcome _ w.refusal i then text_by t (w.decoder i) ps room' spans' else nothing))
 
--- The turns that are left are enough for every text that a decoder takes.
-abbrev most : ℕ
+-- The reads that are left are enough for every text that a decoder takes.
+abbrev pub most : ℕ
 most = 0x4_0000_0000_0000
 
 pub record Turns (full : ℕ) (s : Mended) (n turns : ℕ) : Type 0 where
@@ -135,7 +137,8 @@ pub record Turns (full : ℕ) (s : Mended) (n turns : ℕ) : Type 0 where
 pub record Head (t : Tables) (full : ℕ) (s : Mended) (out report : List ℕ) (n turns : ℕ) (xs : List ℕ) (whole written : Streams) : Type 0 where
   pub mend : ToMend t s out report xs whole written
   pub short : n < full → xs ≡ []
-  pub left : s.refusal ≡ 0 → Turns full s n turns
+  pub left : is_ok s.outcome ≡ true → Turns full s n turns
+  pub some : 0 < turns
 
 -- Rooms that keep their lengths.
 pub suits_still : {full : ℕ} {room spans : List ℕ} (room' spans' : List ℕ) → length room' ≡ length room → length spans' ≡ length spans → Suits full room spans → Suits full room' spans'
@@ -172,16 +175,17 @@ module _ (t : Tables) (full : ℕ) {room spans : List ℕ} (r : Suits full room 
         };
         short = short;
         left = λ z. let k = took d t b room spans w z in record { more = omega arith; filled = λ _. omega arith; taken = omega (arith, k.0, k.1, zero) };
+        some = omega arith;
       }
 
   -- A further buffer, behind one that filled the buffer and was not refused.
-  pub next_head : (s₀ : Mended) (out₀ report₀ b xs xs' : List ℕ) (n n' turns : ℕ) (whole written : Streams) →
-      Head t full s₀ out₀ report₀ n turns xs whole written → s₀.refusal ≡ 0 → (turns ≡ 0 → ⊥) → full ≤ n →
+  pub next_head : (s₀ : Mended) (out₀ report₀ b xs xs' : List ℕ) (n n' turns turns' : ℕ) (whole written : Streams) → turns ≡ turns' + 1 →
+      Head t full s₀ out₀ report₀ n turns xs whole written → is_ok s₀.outcome ≡ true → full ≤ n →
       length b ≡ n' → n' ≤ full → xs ≡ b ++ xs' → (n' < full → xs' ≡ []) → let d = s₀.decoder in
       Wrote (feed_telling d t (fitting d b) room spans) (over d b) out report s out' report' → Few s out' report' →
       length out' ≡ length out → length report' ≡ length report →
-      Head t full s out' report' n' (turns - 1) xs' whole (joins written (pending s₀ out₀ report₀))
-  next_head s₀ out₀ report₀ b xs xs' n n' turns whole written head z left k size few x short w f o p =
+      Head t full s out' report' n' turns' xs' whole (joins written (pending s₀ out₀ report₀))
+  next_head s₀ out₀ report₀ b xs xs' n n' turns turns' whole written left head z k size few x short w f o p =
       let d = s₀.decoder in
       let l = head.left z in
       record {
@@ -189,7 +193,7 @@ module _ (t : Tables) (full : ℕ) {room spans : List ℕ} (r : Suits full room 
           still = λ ps room' spans' y j.
               let us = pending s₀ out₀ report₀ in
               let all : joined (piece d t b room spans w ∷ ps) ≡ xs = joined_piece b room spans ps ∙ ap (λ l. b ++ l) j ∙ sym x in
-              let on : behind t s₀ (piece d t b room spans w ∷ ps) room' spans' ≡ text_by t d (piece d t b room spans w ∷ ps) room' spans' = rw (eq-eqb s₀.refusal 0 z) refl in
+              let on : behind t s₀ (piece d t b room spans w ∷ ps) room' spans' ≡ text_by t d (piece d t b room spans w ∷ ps) room' spans' = rw z refl in
               head.mend.still (piece d t b room spans w ∷ ps) room' spans' (with_piece b r (omega (arith, size, few)) ps room' spans' y) all ∙
               ap (λ v. joins written (joins us v)) (on ∙ unrolled d t b room spans w f o p ps room' spans') ∙
               sym (joins_assoc written us (joins (pending s out' report') (behind t s ps room' spans')));
@@ -200,31 +204,32 @@ module _ (t : Tables) (full : ℕ) {room spans : List ℕ} (r : Suits full room 
           filled = λ v. omega (arith, m, left, q.0, size, v, r.low);
           taken = omega (arith, q.0, q.1, l.taken);
         };
+        some = omega (arith, l.more, l.taken);
       }
 
--- No text needs more turns.
+-- No text needs all turns.
 pub enough : {t : Tables} {full : ℕ} {s : Mended} {out report : List ℕ} {n turns : ℕ} {xs : List ℕ} {whole written : Streams} →
-    Head t full s out report n turns xs whole written → s.refusal ≡ 0 → turns ≡ 0 → ⊥
-enough h z e = let l = h.left z in omega (arith, l.more, l.taken, e)
+    Head t full s out report n turns xs whole written → turns ≡ 0 → ⊥
+enough h e = omega (arith, h.some, e)
 
 -- The end of input.
 module _ (t : Tables) (full : ℕ) {room spans : List ℕ} (r : Suits full room spans) where
-  pub at_end : {s₀ : Mended} {out₀ report₀ : List ℕ} {n turns : ℕ} {xs : List ℕ} {whole written : Streams} → Head t full s₀ out₀ report₀ n turns xs whole written → s₀.refusal ≡ 0 → n < full →
+  pub at_end : {s₀ : Mended} {out₀ report₀ : List ℕ} {n turns : ℕ} {xs : List ℕ} {whole written : Streams} → Head t full s₀ out₀ report₀ n turns xs whole written → is_ok s₀.outcome ≡ true → n < full →
       {out report : List ℕ} {s : Mended} {out' report' : List ℕ} → Wrote (finish_telling s₀.decoder t room spans) false out report s out' report' → Few s out' report' →
       length out' ≡ length out → length report' ≡ length report → whole ≡ joins (joins written (pending s₀ out₀ report₀)) (pending s out' report')
   unfolding Roomy joined text_by
   at_end {s₀} {out₀} {report₀} {n} {turns} {xs} {whole} {written} head z k {out} {report} {s} {out'} {report'} w f o p =
       let us = pending s₀ out₀ report₀ in
-      let on : behind t s₀ [] room spans ≡ gives (finish_telling s₀.decoder t room spans) false = rw (eq-eqb s₀.refusal 0 z) refl in
+      let on : behind t s₀ [] room spans ≡ gives (finish_telling s₀.decoder t room spans) false = rw z refl in
       head.mend.still [] room spans (omega (arith, r.scalars), omega (arith, r.told)) (sym (head.short k)) ∙
       ap (λ v. joins written (joins us v)) (on ∙ sym (given w f o p)) ∙ sym (joins_assoc written us (pending s out' report'))
 
   -- A refusal.
   pub at_refusal : {s : Mended} {out report : List ℕ} {n turns : ℕ} {xs : List ℕ} {whole written : Streams} → Head t full s out report n turns xs whole written →
-      (s.refusal ≡ 0 → ⊥) → whole ≡ joins written (pending s out report)
+      is_ok s.outcome ≡ false → whole ≡ joins written (pending s out report)
   at_refusal {s} {out} {report} {n} {turns} {xs} {whole} {written} head z =
       let c = cut full room spans r.low r.high r.scalars r.told xs in
-      let off : behind t s c.0 room spans ≡ nothing = rw (ne_eqb s.refusal 0 z) refl in
+      let off : behind t s c.0 room spans ≡ nothing = rw z refl in
       head.mend.still c.0 room spans c.1 c.2 ∙ ap (λ v. joins written (joins (pending s out report) v)) off ∙
       ap (joins written) (joined_nothing (pending s out report))
 

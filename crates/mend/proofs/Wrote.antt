@@ -1,13 +1,14 @@
 -- What a step writes, from the answers of the calls. Assumes nothing.
 use mathlib.Core.Path.{◌≡◌, refl, sym, ap, ◌∙◌, subst}
 use mathlib.Core.Bool.{Bool, true, false}
-use mathlib.Core.List.{List, [], ◌++◌, append-nil}
-use Prim.Native.Nat.{ℕ, ◌+◌, ◌-◌, ◌*◌, ◌≤◌, ◌<◌}
+use mathlib.Core.List.{List, [], ◌++◌}
+use Prim.Native.Nat.{ℕ, ◌+◌, ◌-◌, ◌*◌, ◌≤◌}
 use native.Mathlib.Omega.{arith}
 use lib.Dec.{ltb, eqb}
 use lib.ListN.{length, take, drop, length-append}
 use lib.Seq.{take_all}
-use borrow.Author.Tests.{ne_eqb, le-ltb, ltb-true, ltb-false}
+use borrow.Author.Tests.{ne_eqb, lt-ltb, le-ltb, ltb-true, ltb-false}
+use Rattle.std.proofs.Common.{Err, min}
 use Rattle.standard.proofs.Tests.{split}
 use Rattle.standard.specs.Base.{◌then◌else◌}
 use Rattle.standard.specs.Encodings.{Tables}
@@ -25,10 +26,12 @@ use Rattle.program_text.specs.Places.{Put}
 use Rattle.program_text.specs.Utf8.{utf8}
 use Rattle.program_text.proofs.Texts.{same, then_put}
 use Rattle.mend_spec.specs.Mended.{span_lines}
-use Rattle.mend_spec.specs.Program.{fitting, over, step_of, last_line}
+use Rattle.mend_spec.specs.Program.{fitting, over, step_of}
 use Rattle.mend.specs.Steps.{Wrote}
 use Rattle.mend.specs.Code.{handed, Told}
+use Rattle.mend.specs.Refusals.{number, Numbered}
 use Rattle.mend.specs.declared.Mended.{Mended}
+use Rattle.mend.specs.declared.Refusal.{Refusal}
 
 -- what was written stands at the front of the room that is left
 Within : Outcome → Type 0
@@ -85,48 +88,34 @@ told_left t k = rw (t.answer, t.scalars, t.told) k
 pub handed_left : {h : Handed} {r : Replacing} {room spans : List ℕ} → Leaves h r room spans → handed r room spans ≡ h
 handed_left t = λ i. record { answer = t.answer i; room = t.scalars i; spans = t.told i }
 
--- the step, without a refusal and with one
-module _ (a : Replacing) (room spans : List ℕ) (more : Bool) {out report out' report' : List ℕ} {n w k : ℕ}
-    (q : n ≡ step_of a.answer.refusal more)
-    (p : Put out 0 (utf8 (take (a.answer.written - 0) room)) w out') (l : Put report 0 (span_lines (take (2 * a.count) spans)) k report') where
-  text_put : Put out 0 (utf8 (take a.answer.written room)) w out'
-  text_put = let z : a.answer.written - 0 ≡ a.answer.written = omega arith in rw z at p
-
-  pub wrote_on : n ≡ 0 → Wrote (handed a room spans) more out report (record { decoder = a.answer.decoder; refusal = n; written = w; told = k }) out' report'
-  wrote_on z = record {
+-- the step with a refusal
+module _ (a : Replacing) (room spans : List ℕ) (more : Bool) {out report out' report' : List ℕ} {w k : ℕ}
+    (p : Put out 0 (utf8 (take a.answer.written room)) w out') (l : Put report 0 (span_lines (take (2 * a.count) spans)) k report') where
+  pub wrote_refused : {r : Refusal} → Numbered {T = Unit {0}} (Err r) (step_of a.answer.refusal more) →
+      {end : ℕ} {last : List ℕ} → Put report' k (refused (number r)) end last →
+      Wrote (handed a room spans) more out report (record { decoder = a.answer.decoder; outcome = Err r; written = w; told = end }) out' last
+  wrote_refused {r} q d = record {
     decoder = refl;
     refusal = q;
-    output = text_put;
-    lines = same (sym (ap (λ (j : ℕ). span_lines (take (2 * a.count) spans) ++ last_line j) (sym q ∙ z) ∙ append-nil _)) l;
-  }
-
-  pub wrote_refused : (n ≡ 0 → ⊥) → {end : ℕ} {last : List ℕ} → Put report' k (refused n) end last →
-      Wrote (handed a room spans) more out report (record { decoder = a.answer.decoder; refusal = n; written = w; told = end }) out' last
-  wrote_refused z r = record {
-    decoder = refl;
-    refusal = q;
-    output = text_put;
+    output = p;
     lines = same (ap (λ (j : List ℕ). span_lines (take (2 * a.count) spans) ++ j)
-        (sym (ap last_line (sym q) ∙ rw (ne_eqb n 0 z)))) (then_put l r);
+        (sym (rw (ne_eqb (step_of a.answer.refusal more) 0 (λ z. omega (arith, q.1, z))) (ap refused q.0)))) (then_put l d);
   }
 
 -- how much of a buffer is fed
-module _ (d : Decoder) (chunk : List ℕ) {n : ℕ} (c : n ≤ length chunk) (f : 4294967295 - d.taken < length chunk → n ≡ 4294967295 - d.taken)
-    (g : length chunk ≤ 4294967295 - d.taken → n ≡ length chunk) where
-  pub part_is : take (n - 0) chunk ≡ fitting d chunk
+module _ (d : Decoder) (chunk : List ℕ) {n : ℕ} (e : n ≡ min (length chunk) (4294967295 - d.taken)) where
+  pub part_is : take n chunk ≡ fitting d chunk
   part_is = split (ltb (4294967295 - d.taken) (length chunk))
-      (λ e. let z : n - 0 ≡ 4294967295 - d.taken = omega (arith, f (ltb-true (4294967295 - d.taken) (length chunk) e)) in ap (λ (k : ℕ). take k chunk) z)
-      (λ e.
-      let l = ltb-false (4294967295 - d.taken) (length chunk) e in
-      let z : length chunk ≤ n - 0 = omega (arith, g l) in
-      take_all (n - 0) chunk z ∙ sym (take_all (4294967295 - d.taken) chunk l))
+      (λ t. let l = ltb-true (4294967295 - d.taken) (length chunk) t in
+      let z : n ≡ 4294967295 - d.taken = omega (arith, l, e) in ap (λ (k : ℕ). take k chunk) z)
+      (λ t. let l = ltb-false (4294967295 - d.taken) (length chunk) t in
+      let z : length chunk ≤ n = omega (arith, l, e) in
+      take_all n chunk z ∙ sym (take_all (4294967295 - d.taken) chunk l))
 
   pub more_is : ltb n (length chunk) ≡ over d chunk
   more_is = split (ltb (4294967295 - d.taken) (length chunk))
-      (λ e. ap (λ (k : ℕ). ltb k (length chunk)) (f (ltb-true (4294967295 - d.taken) (length chunk) e)))
-      (λ e.
-      let l = ltb-false (4294967295 - d.taken) (length chunk) e in
-      le-ltb n (length chunk) (omega (arith, g l)) ∙ sym e)
+      (λ t. let l = ltb-true (4294967295 - d.taken) (length chunk) t in lt-ltb n (length chunk) (omega (arith, l, e)) ∙ sym t)
+      (λ t. let l = ltb-false (4294967295 - d.taken) (length chunk) t in le-ltb n (length chunk) (omega (arith, l, e)) ∙ sym t)
 
 -- the same step, said otherwise
 pub wrote_by : {h h' : Handed} {m m' : Bool} {out report out' report' : List ℕ} {r : Mended} → h ≡ h' → m ≡ m' →

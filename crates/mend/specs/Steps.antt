@@ -1,5 +1,5 @@
 -- What a step of the program leaves. Assumes nothing.
-use Rattle.std.specs.Prelude.{◌≡◌, Bool, true, List, [], ℕ, ◌+◌, ◌*◌, ◌≤◌, ◌<◌, eqb, length, take}
+use Rattle.std.specs.Prelude.{◌≡◌, Bool, true, List, [], ℕ, ◌+◌, ◌*◌, ◌≤◌, ◌<◌, length, take}
 use Rattle.std.specs.Io.KnownBytes.{Appends}
 use Rattle.std.specs.declared.option.Option.{Option}
 use Rattle.standard.specs.Encodings.{family, lent, fits}
@@ -7,12 +7,13 @@ use Rattle.replacements_spec.specs.Calls.{Handed}
 use Rattle.program_text.specs.Places.{Put}
 use Rattle.mend_spec.specs.Mended.{Streams}
 use Rattle.mend_spec.specs.Program.{step_number, gives}
+use Rattle.mend.specs.Refusals.{Numbered}
 use Rattle.mend.specs.declared.Mended.{Mended}
 
 -- A step wrote so: the decoder and the refusal after it, and the texts at the front of both rooms.
 pub record Wrote (h : Handed) (more : Bool) (out report : List ℕ) (r : Mended) (out' report' : List ℕ) : Type 0 where
   pub decoder : r.decoder ≡ h.answer.answer.decoder
-  pub refusal : r.refusal ≡ step_number h more
+  pub refusal : Numbered r.outcome (step_number h more)
   pub output : Put out 0 (gives h more).output r.written out'
   pub lines : Put report 0 (gives h more).report r.told report'
 
@@ -21,9 +22,8 @@ pub record Few (r : Mended) (out report : List ℕ) : Type 0 where
   pub text : r.written ≤ length out
   pub lines : r.told ≤ length report
 
--- What a step gave is written to both streams, and the program goes on where nothing was refused.
-pub record Flushed (output output' errors errors' : Option (List ℕ)) (s : Mended) (out report : List ℕ) (more : Bool) : Type 0 where
-  pub on : more ≡ eqb s.refusal 0
+-- What a step gave is written to both streams.
+pub record Flushed (output output' errors errors' : Option (List ℕ)) (s : Mended) (out report : List ℕ) : Type 0 where
   pub text : Appends output output' (take s.written out)
   pub lines : Appends errors errors' (take s.told report)
 

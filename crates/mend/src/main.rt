@@ -4,22 +4,25 @@
 
 mod lines;
 
-ghost use Rattle.std.specs.Prelude.{◌≡◌, ℕ, ◌⊎◌, true, false, [], ◌+◌, ◌-◌, ◌*◌, ◌≤◌, ◌<◌, ◌^◌, length, take, ◌++◌, IfOk, IfSome, OnOk, OnErr};
-ghost use Rattle.std.specs.Io.KnownBytes.{Appends, Consumes, IsAtEnd};
+ghost use Rattle.std.specs.Prelude.{◌≡◌, ◌⊎◌, false, [], ◌+◌, ◌*◌, ◌≤◌, ◌<◌, length, take, ◌++◌, Err, IfOk, IfSome, OnOk, IsOk};
+ghost use Rattle.std.specs.Io.KnownBytes.{Appends};
 ghost use Rattle.standard.specs.Encodings.{lent};
 ghost use Rattle.labels_spec.specs.Labels.{label};
 ghost use Rattle.replacements_spec.specs.Calls.{feed_telling, finish_telling};
 ghost use Rattle.program_text.specs.Lines.{first_line, after_line, refused};
 ghost use Rattle.mend_spec.specs.Mended.{encoding_refusal, cells_of, begin_refusal, mended_text};
 ghost use Rattle.mend_spec.specs.Program.{fitting, over, step_of};
+ghost use Rattle.mend.specs.declared.Refusal.TheVariants.{Table};
+ghost use Rattle.mend.specs.Refusals.{number, Numbered};
 ghost use Rattle.mend.specs.Steps.{Wrote, Few, Flushed, Written, Suits, Taken};
-ghost use Rattle.mend.specs.Files.{LoadsFile, Fills};
+ghost use Rattle.mend.specs.Files.{Loads, LoadsTable};
 ghost use Rattle.mend.specs.Whole.{Provided, WritesMended};
-ghost use Rattle.mend.specs.Code.{handed, Rooms, Told};
+ghost use Rattle.mend.specs.Code.{handed, Told, Sized};
 
 use decoder::Decoder;
 use index_loading::{Loading, load, load_end};
 use lines::put_spans;
+use program_text::refill::fill;
 use program_text::{after_line, first_label, put_number, put_text};
 use replacements_spec::Replacing;
 use std::fs::File;
@@ -27,186 +30,176 @@ use std::io;
 use std::io::{Read, Write};
 use std::rt::Files;
 
-// What a step leaves: the decoder, the bytes at the front of `out` and of `report`, and the refusal number or 0.
+// More reads than any text that a decoder takes needs, and than any file has.
+const READS: u64 = 0x4_0000_0000_0000;
+
+// Why the program stops before the end of its input.
+#[derive(Clone, Copy)]
+enum Refusal {
+    // no encoding has the label
+    Label,
+    // the encoding is not taken, or its index file cannot be read
+    Table,
+    // the encoding is replacement
+    Replacement,
+    // there are more bytes than a decoder takes
+    Length,
+    // a call refuses with this number
+    Call(u8),
+}
+
+// The number that is printed.
+impl From<Refusal> for u64 {
+    ghost from_gives = { λ r n. n ≡ number r };
+
+    fn from(refusal: Refusal) -> u64 {
+        match refusal {
+            Refusal::Label => 1,
+            Refusal::Table => 4,
+            Refusal::Replacement => 9,
+            Refusal::Length => 14,
+            Refusal::Call(number) => u64::from(number),
+        }
+    }
+}
+
+// The rooms of a step: one for the scalars of a buffer and of what is held, two cells of the spans for each, four bytes of text for each, and
+// 32 bytes of the report for each cell of the spans and for the line of a refusal.
+#[derive(Drop)]
+struct Rooms {
+    room: [u32; 4099],
+    spans: [u32; 8198],
+    out: [u8; 16396],
+    report: [u8; 262368],
+}
+
+// What a step leaves: the decoder, the bytes at the front of `out` and of `report`, and whether the program goes on.
 #[derive(Clone, Copy)]
 struct Mended {
     decoder: Decoder,
-    refusal: u8,
+    outcome: Result<(), Refusal>,
     written: usize,
     told: usize,
 }
 
-// What the first buffer says: the encoding, the cells of its table, and the refusal number or 0.
+// What the first buffer says: the encoding, and the cells of its table.
 #[derive(Clone, Copy)]
 struct Begun {
     cells: usize,
     encoding: u8,
-    refusal: u8,
 }
 
-// The refusal of an encoding, or 0.
-fn encoding_refusal(encoding: u8) -> u8
-    ensures { result ≡ encoding_refusal encoding }
+// The answer of a call by its refusal number, which is 0 where it is not refused.
+fn answered(number: u8) -> Result<(), Refusal>
+    ensures { Numbered result number }
 {
-    if encoding == 36 {
-        return 9;
+    if number == 0 {
+        return Ok(());
     }
-    if encoding == 35 {
-        return 4;
-    }
-    if encoding < 29 {
-        return 0;
-    }
-    if encoding <= 32 {
-        return 4;
-    }
-    0
+    Err(Refusal::Call(number))
 }
 
-// The cells of the one table of an encoding that is taken.
-fn cells(encoding: u8) -> usize
-    ensures { (encoding_refusal encoding ≡ 0 → result ≡ cells_of encoding) × (result ≤ 11280) }
+// The cells of the one table of an encoding that is taken: of ISO-2022-JP's and Shift_JIS's, or of a single-byte encoding's but
+// windows-1252's, which is built in.
+fn cells(encoding: u8) -> Result<usize, Refusal>
+    ensures refusal { Numbered result (encoding_refusal encoding) }
+    ensures cells { IfOk result (λ n. (n ≡ cells_of encoding) × (n ≤ 11280)) }
 {
-    if encoding == 0 {
-        return 0;
+    match encoding {
+        1..=20 | 22..=28 => Ok(128),
+        29..=32 | 35 => Err(Refusal::Table),
+        33 | 34 => Ok(11280),
+        36 => Err(Refusal::Replacement),
+        _ => Ok(0),
     }
-    if encoding == 21 {
-        return 0;
-    }
-    if encoding <= 28 {
-        return 128;
-    }
-    if encoding == 33 {
-        return 11280;
-    }
-    if encoding == 34 {
-        return 11280;
-    }
-    0
 }
 
 // The first buffer: its label, and what its encoding wants.
-fn begin(input: &[u8]) -> Begun
-    ensures { (result.encoding ≡ (label (first_line input.now)).encoding) × (result.refusal ≡ begin_refusal input.now) ×
-        (result.refusal ≡ 0 → result.cells ≡ cells_of result.encoding) × (result.cells ≤ 11280) }
+fn begin(input: &[u8]) -> Result<Begun, Refusal>
+    ensures refusal { Numbered result (begin_refusal input.now) }
+    ensures begun { IfOk result (λ b. (b.encoding ≡ (label (first_line input.now)).encoding) ×
+        (b.cells ≡ cells_of b.encoding) × (b.cells ≤ 11280)) }
 {
     let found = first_label(input);
     if found.refusal != 0 {
-        return Begun {
-            cells: 0,
-            encoding: found.encoding,
-            refusal: 1,
-        };
+        return Err(Refusal::Label);
     }
-    let refusal = encoding_refusal(found.encoding);
-    let n = cells(found.encoding);
-    Begun {
-        cells: n,
-        encoding: found.encoding,
-        refusal,
-    }
+    let encoding = found.encoding;
+    let cells = cells(encoding)?;
+    Ok(Begun { cells, encoding })
 }
 
-// The refusal of a step: that of its call, or 14 where more bytes come.
-fn step_number(refusal: u8, more: bool) -> u8
-    ensures { result ≡ step_of refusal more }
+// The outcome of a step: that of its call, or that more bytes come.
+fn step_outcome(number: u8, more: bool) -> Result<(), Refusal>
+    ensures { Numbered result (step_of number more) }
 {
-    if refusal != 0 {
-        return refusal;
-    }
+    answered(number)?;
     if more {
-        return 14;
+        return Err(Refusal::Length);
     }
-    0
+    Ok(())
 }
 
 // What a call gave: the text, the lines of what was replaced, and the line of a refusal.
-fn write_step(
-    a: Replacing,
-    more: bool,
-    room: &[u32],
-    spans: &[u32],
-    out: &mut [u8],
-    report: &mut [u8],
-) -> Mended
-    requires { Told a room.now spans.now × Rooms room.now spans.now out.old report.old }
-    ensures wrote { Wrote (handed a room.now spans.now) more out.old report.old
-        result out.new report.new }
-    ensures few { Few result out.new report.new }
+fn write_step(a: Replacing, more: bool, rooms: &mut Rooms) -> Mended
+    requires { Told a rooms.old.room rooms.old.spans }
+    ensures wrote { Wrote (handed a rooms.old.room rooms.old.spans) more rooms.old.out rooms.old.report
+        result rooms.new.out rooms.new.report }
+    ensures few { Few result rooms.new.out rooms.new.report }
+    ensures sized { Sized rooms.new }
 {
     let answer = a.answer;
     let decoder = answer.decoder;
     let n = answer.written;
-    let count = a.count;
-    let written = put_text(out, &room[0..n]);
-    let told = put_spans(report, spans, count);
-    let refusal = step_number(answer.refusal, more);
-    if refusal == 0 {
+    let cells = 2 * a.count;
+    let written = put_text(&mut rooms.out, &rooms.room[..n]);
+    let told = put_spans(&mut rooms.report, &rooms.spans[..cells]);
+    let outcome = step_outcome(answer.refusal, more);
+    if let Err(refusal) = outcome {
+        let end = put_number(&mut rooms.report, told, b"refused", u64::from(refusal));
         return Mended {
             decoder,
-            refusal,
+            outcome,
             written,
-            told,
+            told: end,
         };
     }
-    let end = put_number(report, told, b"refused", refusal as u64);
     Mended {
         decoder,
-        refusal,
+        outcome,
         written,
-        told: end,
+        told,
     }
 }
 
-// How many of so many bytes a decoder still takes.
-fn fit(taken: u32, bytes: usize) -> usize
-    ensures { (result ≤ bytes) × (4294967295 - taken < bytes → result ≡ 4294967295 - taken) × (bytes ≤ 4294967295 - taken → result ≡ bytes) }
+// A further buffer, of which a decoder takes no more bytes than it has numbers for.
+fn mend_chunk(d: Decoder, chunk: &[u8], table: &[u32], rooms: &mut Rooms) -> Mended
+    ensures wrote { Wrote (feed_telling d (lent table.now []) (fitting d chunk.now) rooms.old.room rooms.old.spans)
+        (over d chunk.now) rooms.old.out rooms.old.report result rooms.new.out rooms.new.report }
+    ensures few { Few result rooms.new.out rooms.new.report }
+    ensures sized { Sized rooms.new }
 {
-    let left = (4294967295 - taken) as usize;
-    if left < bytes {
-        return left;
-    }
-    bytes
-}
-
-// A further buffer.
-fn mend_chunk(
-    d: Decoder,
-    chunk: &[u8],
-    table: &[u32],
-    room: &mut [u32],
-    spans: &mut [u32],
-    out: &mut [u8],
-    report: &mut [u8],
-) -> Mended
-    requires { Rooms room.old spans.old out.old report.old }
-    ensures wrote { Wrote (feed_telling d (lent table.now []) (fitting d chunk.now) room.old spans.old)
-        (over d chunk.now) out.old report.old result out.new report.new }
-    ensures few { Few result out.new report.new }
-{
-    let n = fit(d.taken, chunk.len());
-    let none = [0u32; 1];
-    let a = replacements::feed(d, &chunk[0..n], table, &none[0..0], room, spans);
-    write_step(a, n < chunk.len(), room, spans, out, report)
+    let n = chunk.len().min((u32::MAX - d.taken) as usize);
+    let a = replacements::feed(
+        d,
+        &chunk[..n],
+        table,
+        &[],
+        &mut rooms.room,
+        &mut rooms.spans,
+    );
+    write_step(a, n < chunk.len(), rooms)
 }
 
 // The end of input.
-fn mend_end(
-    d: Decoder,
-    table: &[u32],
-    room: &mut [u32],
-    spans: &mut [u32],
-    out: &mut [u8],
-    report: &mut [u8],
-) -> Mended
-    requires { Rooms room.old spans.old out.old report.old }
-    ensures wrote { Wrote (finish_telling d (lent table.now []) room.old spans.old)
-        false out.old report.old result out.new report.new }
-    ensures few { Few result out.new report.new }
+fn mend_end(d: Decoder, table: &[u32], rooms: &mut Rooms) -> Mended
+    ensures wrote { Wrote (finish_telling d (lent table.now []) rooms.old.room rooms.old.spans)
+        false rooms.old.out rooms.old.report result rooms.new.out rooms.new.report }
+    ensures few { Few result rooms.new.out rooms.new.report }
+    ensures sized { Sized rooms.new }
 {
-    let none = [0u32; 1];
-    let a = replacements::finish(d, table, &none[0..0], room, spans);
-    write_step(a, false, room, spans, out, report)
+    let a = replacements::finish(d, table, &[], &mut rooms.room, &mut rooms.spans);
+    write_step(a, false, rooms)
 }
 
 // Where the program reads the list, and where it writes the text and the report.
@@ -217,127 +210,81 @@ struct Console<R, W, E> {
     errors: E,
 }
 
-// Reads until the buffer is full or the end comes; how many bytes there are.
-fn fill<R: Read>(from: &mut R, buffer: &mut [u8]) -> io::Result<usize>
-    requires { length buffer.old < 2 ^ 32 }
-    ensures few { IfOk result (λ n. n ≤ length buffer.old) }
-    ensures bytes { IfOk result (λ n. Consumes (R.remaining from.old) (R.remaining from.new) (take n buffer.new)) }
-    ensures end { IfOk result (λ n. n < length buffer.old → IsAtEnd (R.remaining from.new)) }
-    ensures err { OnErr result ((n : ℕ) × (n ≤ length buffer.old) × Consumes (R.remaining from.old) (R.remaining from.new) (take n buffer.new)) }
-{
-    let mut n: usize = 0;
-    while n < buffer.len() {
-        let more = from.read(&mut buffer[n..])?;
-        if more == 0 {
-            return Ok(n);
-        }
-        n += more;
-    }
-    Ok(n)
-}
-
-// Writes the first bytes of a text; has it as many?
-fn print<W: Write>(to: &mut W, text: &[u8], bytes: usize) -> io::Result<bool>
-    ensures { IfOk result (λ whole. bytes ≤ length text.now →
-        (whole ≡ true) × Appends (W.contents to.old) (W.contents to.new) (take bytes text.now)) }
-{
-    if text.len() < bytes {
-        return Ok(false);
-    }
-    to.write_all(&text[0..bytes])?;
-    Ok(true)
-}
-
-// Writes what a step gave to both streams; does the program go on?
+// Writes what a step gave to both streams.
 fn flush<R, W: Write, E: Write>(
     console: &mut Console<R, W, E>,
     s: Mended,
-    out: &[u8],
-    report: &[u8],
-) -> io::Result<bool>
+    rooms: &Rooms,
+) -> io::Result<()>
+    requires { Few s rooms.now.out rooms.now.report }
     ensures input { console.new.input ≡ console.old.input }
-    ensures streams { IfOk result (λ on. s.written ≤ length out.now → s.told ≤ length report.now →
-        Flushed (W.contents console.old.output) (W.contents console.new.output) (E.contents console.old.errors) (E.contents console.new.errors)
-        s out.now report.now on) }
+    ensures streams { OnOk result (Flushed (W.contents console.old.output) (W.contents console.new.output)
+        (E.contents console.old.errors) (E.contents console.new.errors) s rooms.now.out rooms.now.report) }
 {
-    if s.told != 0 {
-        if !print(&mut console.errors, report, s.told)? {
-            return Ok(false);
-        }
-    }
-    if s.written != 0 {
-        if !print(&mut console.output, out, s.written)? {
-            return Ok(false);
-        }
-    }
-    Ok(s.refusal == 0)
+    console.errors.write_all(&rooms.report[..s.told])?;
+    console.output.write_all(&rooms.out[..s.written])
 }
 
 // The report of a program that is refused before the text.
-fn refuse<W: Write>(to: &mut W, number: u8, report: &mut [u8]) -> io::Result<()>
-    ensures { OnOk result (32 ≤ length report.old → Appends (W.contents to.old) (W.contents to.new) (refused number)) }
+fn refuse<W: Write>(to: &mut W, refusal: Refusal, report: &mut [u8]) -> io::Result<()>
+    requires { 32 ≤ length report.old }
+    ensures { OnOk result (Appends (W.contents to.old) (W.contents to.new) (refused (number refusal))) }
 {
-    let n = put_number(report, 0, b"refused", number as u64);
-    print(to, report, n)?;
-    Ok(())
+    let n = put_number(report, 0, b"refused", u64::from(refusal));
+    to.write_all(&report[..n])
 }
 
 // Opens the published index file of an encoding's table, if it can be opened.
 fn open_index<F: Files>(files: &F, encoding: u8) -> Option<F::File> {
     let mut name = [0u8; 32];
     let named = index_files::first_index_name(encoding, &mut name);
-    let n = named.length;
-    if 32 < n {
-        return None;
-    }
-    let path = str::from_utf8(&name[0..n]).ok()?;
+    let path = str::from_utf8(name.get(..named.length)?).ok()?;
     File::open(files, path).ok()
 }
 
-// Fills the table from an open file: 4 where it cannot be read, 8, 12 or 13 by its first line at fault, or 0. The turns are more than any
-// file takes.
-fn load_file<R: Read>(file: &mut R, buffer: &mut [u8], line: &mut [u8], table: &mut [u32]) -> u8
-    requires { length buffer.old < 2 ^ 32 }
-    ensures { (result ≡ 4) ⊎ LoadsFile (R.remaining file.old) (R.remaining file.new) line.old table.old result table.new }
+// Fills the table from an open file, which may be one that cannot be read, or has a line at fault.
+fn load_file<R: Read>(
+    file: &mut R,
+    buffer: &mut [u8],
+    line: &mut [u8],
+    table: &mut [u32],
+) -> Result<(), Refusal>
+    ensures { (result ≡ Err Table) ⊎ Loads (R.remaining file.old) (R.remaining file.new) line.old table.old result table.new }
 {
     let mut s = Loading {
         length: 0,
         refusal: 0,
     };
-    let mut turns: u64 = 0x4_0000_0000_0000;
-    while turns > 0 {
-        turns -= 1;
-        let n = match fill(file, buffer) {
-            Ok(n) => n,
-            Err(_) => return 4,
+    for _ in 0..READS {
+        let Ok(n) = fill(file, buffer) else {
+            return Err(Refusal::Table);
         };
-        s = load(s, &buffer[0..n], line, table);
+        s = load(s, &buffer[..n], line, table);
         if n < buffer.len() {
             let end = load_end(s, line, table);
-            return end.refusal;
+            return answered(end.refusal);
         }
     }
-    4
+    Err(Refusal::Table)
 }
 
-// The one table of an encoding, if it has cells; the refusal number or 0.
+// The one table of an encoding, if it has cells.
 fn load_table<F: Files>(
     files: &F,
     encoding: u8,
     buffer: &mut [u8],
     line: &mut [u8],
     table: &mut [u32],
-) -> u8
-    requires { length buffer.old < 2 ^ 32 }
-    ensures none { length table.old ≡ 0 → (result ≡ 0) × (table.new ≡ table.old) }
-    ensures file { 0 < length table.old → (result ≡ 4) ⊎ Fills line.old table.old result table.new }
+) -> Result<(), Refusal>
+    ensures none { length table.old ≡ 0 → IsOk result × (table.new ≡ table.old) }
+    ensures file { 0 < length table.old → (result ≡ Err Table) ⊎ LoadsTable line.old table.old result table.new }
 {
-    if table.len() == 0 {
-        return 0;
+    if table.is_empty() {
+        return Ok(());
     }
     match open_index(files, encoding) {
         Some(mut file) => load_file(&mut file, buffer, line, table),
-        None => 4,
+        None => Err(Refusal::Table),
     }
 }
 
@@ -348,34 +295,29 @@ fn mend_text<R: Read, W: Write, E: Write>(
     read: usize,
     buffer: &mut [u8],
     table: &[u32],
-    room: &mut [u32],
-    spans: &mut [u32],
-    out: &mut [u8],
-    report: &mut [u8],
+    rooms: &mut Rooms,
 ) -> io::Result<()>
-    requires { (read ≤ length buffer.old) × (length buffer.old < 2 ^ 32) × Rooms room.old spans.old out.old report.old }
+    requires { read ≤ length buffer.old }
     ensures { OnOk result (IfSome (R.remaining console.old.input) (λ rest.
-        Taken encoding table.now × Suits (length buffer.old) room.old spans.old × (read < length buffer.old → rest ≡ []) →
+        Taken encoding table.now × Suits (length buffer.old) rooms.old.room rooms.old.spans × (read < length buffer.old → rest ≡ []) →
         Written (W.contents console.old.output) (W.contents console.new.output) (E.contents console.old.errors) (E.contents console.new.errors)
         (mended_text (lent table.now []) encoding (after_line (take read buffer.old) ++ rest)))) }
 {
     let opened = Decoder::open(encoding, 0, 0);
-    let first = after_line(&buffer[0..read]);
-    let mut s = mend_chunk(opened.decoder, first, table, room, spans, out, report);
+    let first = after_line(&buffer[..read]);
+    let mut s = mend_chunk(opened.decoder, first, table, rooms);
     let mut n = read;
-    let mut turns: u64 = 0x4_0000_0000_0000;
-    while flush(console, s, out, report)? {
-        if turns == 0 {
+    for _ in 0..READS {
+        flush(console, s, rooms)?;
+        if s.outcome.is_err() {
             return Ok(());
         }
-        turns -= 1;
         if n < buffer.len() {
-            let last = mend_end(s.decoder, table, room, spans, out, report);
-            flush(console, last, out, report)?;
-            return Ok(());
+            let last = mend_end(s.decoder, table, rooms);
+            return flush(console, last, rooms);
         }
         n = fill(&mut console.input, buffer)?;
-        s = mend_chunk(s.decoder, &buffer[0..n], table, room, spans, out, report);
+        s = mend_chunk(s.decoder, &buffer[..n], table, rooms);
     }
     Ok(())
 }
@@ -387,48 +329,41 @@ fn run<F: Files, R: Read, W: Write, E: Write>(
     buffer: &mut [u8],
     line: &mut [u8],
     table: &mut [u32],
-    room: &mut [u32],
-    spans: &mut [u32],
-    out: &mut [u8],
-    report: &mut [u8],
+    rooms: &mut Rooms,
 ) -> io::Result<()>
-    requires { (length buffer.old < 2 ^ 32) × (length out.old < 2 ^ 32) × (11280 ≤ length table.old) ×
-        Rooms room.old spans.old out.old report.old }
+    requires { 11280 ≤ length table.old }
     ensures { OnOk result (IfSome (R.remaining console.old.input) (λ input.
-        Provided (length buffer.old) line.old table.old room.old spans.old →
+        Provided (length buffer.old) line.old table.old rooms.old.room rooms.old.spans →
         WritesMended (W.contents console.old.output) (W.contents console.new.output) (E.contents console.old.errors) (E.contents console.new.errors) input)) }
 {
     let n = fill(&mut console.input, buffer)?;
-    let begun = begin(&buffer[0..n]);
-    if begun.refusal != 0 {
-        return refuse(&mut console.errors, begun.refusal, report);
-    }
+    let begun = match begin(&buffer[..n]) {
+        Ok(begun) => begun,
+        Err(refusal) => return refuse(&mut console.errors, refusal, &mut rooms.report),
+    };
     let cells = begun.cells;
-    let number = load_table(files, begun.encoding, out, line, &mut table[0..cells]);
-    if number != 0 {
-        return refuse(&mut console.errors, number, report);
-    }
-    mend_text(
-        console,
+    if let Err(refusal) = load_table(
+        files,
         begun.encoding,
-        n,
-        buffer,
-        &table[0..cells],
-        room,
-        spans,
-        out,
-        report,
-    )
+        &mut rooms.out,
+        line,
+        &mut table[..cells],
+    ) {
+        return refuse(&mut console.errors, refusal, &mut rooms.report);
+    }
+    mend_text(console, begun.encoding, n, buffer, &table[..cells], rooms)
 }
 
 fn main(rt: HostRuntime) -> io::Result<()> {
     let mut buffer = [0u8; 4096];
     let mut line = [0u8; 1025];
     let mut table = [0u32; 11280];
-    let mut room = [0u32; 4099];
-    let mut spans = [0u32; 8198];
-    let mut out = [0u8; 16396];
-    let mut report = [0u8; 262368];
+    let mut rooms = Rooms {
+        room: [0; 4099],
+        spans: [0; 8198],
+        out: [0; 16396],
+        report: [0; 262368],
+    };
     let mut console = Console {
         input: rt.stdin(),
         output: rt.stdout(),
@@ -440,9 +375,6 @@ fn main(rt: HostRuntime) -> io::Result<()> {
         &mut buffer,
         &mut line,
         &mut table,
-        &mut room,
-        &mut spans,
-        &mut out,
-        &mut report,
+        &mut rooms,
     )
 }

@@ -7,6 +7,7 @@ use native.Mathlib.Omega.{arith}
 use lib.Dec.{ltb, leb, eqb}
 use lib.ListN.{length}
 use borrow.Author.Tests.{lt-ltb, le-ltb, lt-leb, le-leb, ltb-true, ltb-false, leb-true, leb-false, ne_eqb, eqb-true, eqb-false}
+use Rattle.std.specs.Prelude.{Option, Some, None, IfSome, MatchOption}
 use Rattle.standard.specs.Base.{◌then◌else◌, within}
 use Rattle.standard.specs.Encodings.{family, lent}
 use Rattle.standard.specs.Layouts.{number, Layout, leads, trails, pointer_of, pair_code, gb18030_layout, big5_layout, euc_jp_layout, shift_jis_layout, euc_kr_layout}
@@ -196,3 +197,8 @@ module _ (t1 t2 : List ℕ) (b : ℕ) (xs : List ℕ) where
       is_shift_jis t1 t2 34 plain (b ∷ c ∷ xs) refl ∙
       shift_jis-led (lent t1 []) b (c ∷ xs) (led shift_jis_layout b (column_in shift_jis_layout c) (omega (arith, e, k))) ∙
       ap (pair c) (sym (code_private t1 b c p e h k)) ∙ trailed_some 1 2 c (0xE000 - 8836 + p) (λ z. omega arith)
+
+-- what is said of none, and of a scalar
+pub told_both : {N : Type 0} (r : Option ℕ) {P Q : ℕ → Type 0} → N → IfSome r P → ((c : ℕ) → P c → Q c) → MatchOption r N Q
+told_both None n p f = n
+told_both (Some c) n p f = f c p

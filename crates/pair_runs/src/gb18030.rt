@@ -1,6 +1,6 @@
 // The sequences of four bytes of gb18030 and GBK.
 
-ghost use Rattle.std.specs.Prelude.{◌≡◌, true, false, List, ℕ, ◌+◌, ◌-◌, ◌*◌, ◌/◌, ◌≤◌, ◌<◌, length, drop, get_or};
+ghost use Rattle.std.specs.Prelude.{◌≡◌, true, false, List, ℕ, ◌+◌, ◌-◌, ◌*◌, ◌/◌, ◌≤◌, ◌<◌, length, drop, get_or, IfSome};
 ghost use Rattle.standard.specs.Base.{mapped};
 ghost use Rattle.standard.specs.Encodings.{GB18030, lent};
 ghost use Rattle.standard.specs.Sequence.{scalar, plain};
@@ -12,46 +12,45 @@ use index::mapped;
 use layouts::gb18030::{four_pointer, gap};
 use layouts::ranges::search;
 
-// The scalar of the four bytes at a place; 0 for none, and where the ranges are not in order.
-pub(crate) fn four_at(
+// The scalar of the four bytes at a place; none too where the ranges are not in order.
+pub(crate) fn four_at<const N: usize>(
     ranges: &[u32],
     ordered: bool,
-    last: &mut [u16],
+    last: &mut [u16; N],
     chunk: &[u8],
     i: usize,
-) -> u32
-    requires { (i ≤ length chunk.now) × (ordered ≡ true → Ascending false ranges.now) }
-    ensures { (result ≡ 0 → ⊥) → (ordered ≡ true) × (i + 4 ≤ length chunk.now)
-        × ((first : List ℕ) → next (lent first ranges.now) GB18030 plain (drop i chunk.now) ≡ scalar 4 result) }
+) -> Option<u32>
+    requires { (1 ≤ N) × (i ≤ length chunk.now) × (ordered ≡ true → Ascending false ranges.now) }
+    ensures size { length last.new ≡ N }
+    ensures scalar { IfSome result (λ c. (ordered ≡ true) × (i + 4 ≤ length chunk.now)
+        × ((first : List ℕ) → next (lent first ranges.now) GB18030 plain (drop i chunk.now) ≡ scalar 4 c)) }
 {
     if !ordered {
-        return 0;
+        return None;
     }
     if chunk.len() - i < 4 {
-        return 0;
+        return None;
     }
     let p = four_pointer(chunk[i], chunk[i + 1], chunk[i + 2], chunk[i + 3]);
     if p == 7457 {
-        return 0;
+        return None;
     }
     if gap(p) {
-        return 0;
+        return None;
     }
     four_scalar(&*ranges, last, p)
 }
 
-// The scalar of a pointer by the ranges, 0 for none: by the pair last used, or by a search.
-fn four_scalar(ranges: &[u32], last: &mut [u16], p: u32) -> u32
-    requires { Ascending false ranges.now }
-    ensures { (result ≡ 0 → ⊥) → (result ≡ gb18030_range ranges.now p 0) × (mapped result ≡ true) }
+// The scalar of a pointer by the ranges: by the pair last used for it, or by a search.
+fn four_scalar<const N: usize>(ranges: &[u32], last: &mut [u16; N], p: u32) -> Option<u32>
+    requires { (1 ≤ N) × Ascending false ranges.now }
+    ensures size { length last.new ≡ N }
+    ensures scalar { IfSome result (λ c. (c ≡ gb18030_range ranges.now p 0) × (mapped c ≡ true)) }
 {
-    if last.len() < 1024 {
-        return 0;
-    }
-    let h = (p / 32 % 1024) as usize;
-    let u = range_scalar(&*ranges, number(last[h]), p);
-    if u != 0 {
-        return u;
+    let h = (p / 32) as usize % N;
+    let told = range_scalar(&*ranges, number(last[h]), p);
+    if told.is_some() {
+        return told;
     }
     let k = search(&*ranges, false, p);
     last[h] = k as u16;
@@ -65,16 +64,16 @@ fn number(k: u16) -> usize
     k as usize
 }
 
-// The scalar of a pointer by a pair; 0 for none, and where the pair is not the last one that is not above the pointer.
-fn range_scalar(ranges: &[u32], k: usize, p: u32) -> u32
+// The scalar of a pointer by a pair; none too where the pair is not the last one that is not above the pointer.
+fn range_scalar(ranges: &[u32], k: usize, p: u32) -> Option<u32>
     requires { Ascending false ranges.now }
-    ensures { (result ≡ 0 → ⊥) → (result ≡ gb18030_range ranges.now p 0) × (mapped result ≡ true) }
+    ensures { IfSome result (λ c. (c ≡ gb18030_range ranges.now p 0) × (mapped c ≡ true)) }
 {
     if ranges.len() / 2 <= k {
-        return 0;
+        return None;
     }
     if pointer_after(&*ranges, k) <= p as u64 {
-        return 0;
+        return None;
     }
     pair_scalar(ranges[k * 2], ranges[k * 2 + 1], p)
 }
@@ -88,7 +87,7 @@ fn pointer_after(ranges: &[u32], k: usize) -> u64
     wide(ranges[(k + 1 - z) * 2]) + (z as u64) * 0x100000000
 }
 
-// 1 for the last of n pairs, else 0.
+// 1 for the last of n pairs, else 0. A number and not a bool: it is reckoned with, and no test is compiled.
 fn at_end(n: usize, k: usize) -> usize
     requires { (n ≤ 32768) × (k < n) }
     ensures { (result ≤ 1) × (k + 1 < n + result) × (k + 1 < n → result ≡ 0) }
@@ -103,17 +102,17 @@ fn wide(q: u32) -> u64
     q as u64
 }
 
-// The scalar that a pair gives for a pointer, 0 for none.
-fn pair_scalar(q: u32, c: u32, p: u32) -> u32
-    ensures { (result ≡ 0 → ⊥) → (q ≤ p) × (result ≡ c + (p - q)) × (mapped result ≡ true) }
+// The scalar that a pair gives for a pointer.
+fn pair_scalar(q: u32, c: u32, p: u32) -> Option<u32>
+    ensures { IfSome result (λ u. (q ≤ p) × (u ≡ c + (p - q)) × (mapped u ≡ true)) }
 {
     if p < q {
-        return 0;
+        return None;
     }
     let u = (c as u64) + ((p - q) as u64);
     if 0x10FFFF < u {
-        return 0;
+        return None;
     }
     let v = u as u32;
-    if mapped(v) { v } else { 0 }
+    if mapped(v) { Some(v) } else { None }
 }

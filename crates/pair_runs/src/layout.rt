@@ -1,6 +1,6 @@
 // The rows and columns of the pairs that a run reads, by bytes and as a table. 32768 is none.
 
-ghost use Rattle.std.specs.Prelude.{◌≡◌, ℕ, ◌+◌, ◌≤◌, ◌<◌, length, get_or};
+ghost use Rattle.std.specs.Prelude.{◌≡◌, ℕ, ◌+◌, ◌≤◌, get_or};
 ghost use Rattle.layouts.specs.Rows.{no_cell};
 ghost use Rattle.pair_runs.specs.Layout.{left_out, row, column, stepped, Holds, Laid};
 ghost use Rattle.pair_runs.specs.Paired.{Paired};
@@ -45,10 +45,8 @@ fn lay(layout: &mut [u16; 512], at: usize, n: usize, first: usize, step: u16)
     requires { (at + n ≤ 512) × (first + n ≤ 190) × (step ≤ 190) }
     ensures { (f : ℕ → ℕ) → Holds layout.old f → Holds layout.new (stepped at n first step f) }
 {
-    let mut k: usize = 0;
-    while k < n {
+    for k in 0..n {
         layout[at + k] = ((first + k) as u16) * step;
-        k += 1;
     }
 }
 
@@ -127,24 +125,16 @@ pub(crate) fn lay_out(encoding: u8, layout: &mut [u16; 512])
     lay_euc_kr(layout);
 }
 
-fn number(b: u8) -> usize
-    ensures { (result ≡ b) × (b < 256) }
-{
-    b as usize
-}
-
 // The row of a lead by the table.
-pub(crate) fn row_laid(layout: &[u16], lead: u8) -> u16
-    requires { length layout.now ≡ 512 }
-    ensures { (result ≡ get_or layout.now lead 0) × (lead < 256) }
+pub(crate) fn row_laid(layout: &[u16; 512], lead: u8) -> u16
+    ensures { result ≡ get_or layout.now lead 0 }
 {
-    layout[number(lead)]
+    layout[lead as usize]
 }
 
 // The pointer of a pair by the table.
-pub(crate) fn pointer_laid(layout: &[u16], lead: u8, trail: u8) -> usize
-    requires { length layout.now ≡ 512 }
-    ensures { (result ≡ get_or layout.now lead 0 + get_or layout.now (256 + trail) 0) × (lead < 256) × (trail < 256) }
+pub(crate) fn pointer_laid(layout: &[u16; 512], lead: u8, trail: u8) -> usize
+    ensures { result ≡ get_or layout.now lead 0 + get_or layout.now (256 + trail) 0 }
 {
-    sum(layout[number(lead)], layout[256 + number(trail)])
+    sum(layout[lead as usize], layout[256 + trail as usize])
 }

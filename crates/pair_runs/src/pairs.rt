@@ -1,6 +1,6 @@
 // The encodings of one and two bytes, and of four in gb18030: GBK, gb18030, Big5, EUC-JP, Shift_JIS and EUC-KR.
 
-ghost use Rattle.std.specs.Prelude.{◌≡◌, true, false, List, ◌∷◌, ℕ, ◌+◌, ◌≤◌, ◌<◌, ltb, length};
+ghost use Rattle.std.specs.Prelude.{◌≡◌, true, false, List, ◌∷◌, ℕ, ◌+◌, ◌≤◌, ◌<◌, ltb, length, IfSome, MatchOption};
 ghost use Rattle.standard.specs.Base.{◌then◌else◌, within};
 ghost use Rattle.standard.specs.Encodings.{family, lent};
 ghost use Rattle.standard.specs.Sequence.{plain, scalar, cell};
@@ -18,76 +18,78 @@ use layouts::{pointer, within};
 use runs::ascii::copy_ascii;
 use runs::{Place, next_at, plain_scalar_of, ready_plain, wide};
 
-// The cell of a pair, by the table of rows and columns if there is one.
-fn cell_of(encoding: u8, layout: &[u16], t1: &[u32], lead: u8, trail: u8) -> u32
-    requires { length layout.now ≡ 512 → Laid encoding layout.now }
-    ensures { result ≡ cell t1.now (row encoding lead + column encoding trail) }
+// The pointer of a pair, by the table of rows and columns if there is one.
+#[inline(always)]
+fn pointer_of(encoding: u8, layout: Option<&[u16; 512]>, lead: u8, trail: u8) -> usize
+    requires { IfSome layout (λ l. Laid encoding l.now) }
+    ensures { result ≡ row encoding lead + column encoding trail }
 {
-    if layout.len() == 512 {
-        return cell(&*t1, pointer_laid(&*layout, lead, trail));
+    match layout {
+        Some(laid) => pointer_laid(laid, lead, trail),
+        None => pair_pointer(encoding, lead, trail),
     }
-    cell(&*t1, pair_pointer(encoding, lead, trail))
 }
 
-// The scalar of a pair of the user rows of Shift_JIS, 0 for none.
-fn user_pair(lead: u8, trail: u8) -> u32
-    ensures { (result ≡ 0 → ⊥) → (t1 t2 xs : List ℕ) → next (lent t1 t2) (family 34) plain (lead ∷ trail ∷ xs) ≡ scalar 2 result }
+// The scalar of a pair of the user rows of Shift_JIS.
+fn user_pair(lead: u8, trail: u8) -> Option<u32>
+    ensures { IfSome result (λ c. (t1 t2 xs : List ℕ) → next (lent t1 t2) (family 34) plain (lead ∷ trail ∷ xs) ≡ scalar 2 c) }
 {
     let p = pointer(34, lead, trail);
     if p < 8836 {
-        return 0;
+        return None;
     }
     if 10715 < p {
-        return 0;
+        return None;
     }
-    0xE000 - 8836 + (p as u32)
+    Some(0xE000 - 8836 + (p as u32))
 }
 
-// The scalar of a pair, 0 for none. EUC-JP has half-width katakana after 8E.
-fn pair(encoding: u8, layout: &[u16], t1: &[u32], lead: u8, trail: u8) -> u32
-    requires { (Paired encoding) × (length t1.now ≤ 32768) × (length layout.now ≡ 512 → Laid encoding layout.now) }
-    ensures { ((result ≡ 0 → ⊥) → (second xs : List ℕ) → next (lent t1.now second) (family encoding) plain (lead ∷ trail ∷ xs) ≡ scalar 2 result)
-        × (result ≡ 0 → cell t1.now (row encoding lead + column encoding trail) ≡ 0) }
+// The scalar of a pair. EUC-JP has half-width katakana after 8E. Part of each loop over items.
+#[inline(always)]
+fn pair(encoding: u8, layout: Option<&[u16; 512]>, t1: &[u32], lead: u8, trail: u8) -> Option<u32>
+    requires { (Paired encoding) × (length t1.now ≤ 32768) × (IfSome layout (λ l. Laid encoding l.now)) }
+    ensures { MatchOption result (cell t1.now (row encoding lead + column encoding trail) ≡ 0)
+        (λ c. (second xs : List ℕ) → next (lent t1.now second) (family encoding) plain (lead ∷ trail ∷ xs) ≡ scalar 2 c) }
 {
-    let c = cell_of(encoding, &*layout, &*t1, lead, trail);
+    let c = cell(&*t1, pointer_of(encoding, layout, lead, trail));
     if c != 0 {
-        return c;
+        return Some(c);
     }
     if encoding == 34 {
         return user_pair(lead, trail);
     }
     if lead != 0x8E {
-        return 0;
+        return None;
     }
     if encoding != 32 {
-        return 0;
+        return None;
     }
     if within(0xA1, trail, 0xDF) {
-        return (0xFF61 - 0xA1) + (trail as u32);
+        return Some((0xFF61 - 0xA1) + (trail as u32));
     }
-    0
+    None
 }
 
-// What an error gives: U+FFFD, and 0 in mode 1.
-fn replaced(mode: u8) -> u32
-    ensures { (result ≡ 0 → ⊥) → (result ≡ 0xFFFD) × (mode ≡ 1 → ⊥) }
+// What an error gives: U+FFFD, and nothing in mode 1.
+fn replaced(mode: u8) -> Option<u32>
+    ensures { IfSome result (λ c. (c ≡ 0xFFFD) × (mode ≡ 1 → ⊥)) }
 {
     if mode == 1 {
-        return 0;
+        return None;
     }
-    0xFFFD
+    Some(0xFFFD)
 }
 
-// The scalar of a single byte of Shift_JIS, 0 for none: a lead, or an error in mode 1.
-fn shift_jis_single(mode: u8, b: u8) -> u32
+// The scalar of a single byte of Shift_JIS; none for a lead, and for an error in mode 1.
+fn shift_jis_single(mode: u8, b: u8) -> Option<u32>
     requires { 0x80 ≤ b }
-    ensures { (result ≡ 0 → ⊥) → (t1 t2 xs : List ℕ) → Gives mode (next (lent t1 t2) (family 34) plain (b ∷ xs)) 1 plain result }
+    ensures { IfSome result (λ c. (t1 t2 xs : List ℕ) → Gives mode (next (lent t1 t2) (family 34) plain (b ∷ xs)) 1 plain c) }
 {
     if within(0xA1, b, 0xDF) {
-        return (0xFF61 - 0xA1) + (b as u32);
+        return Some((0xFF61 - 0xA1) + (b as u32));
     }
     if b == 0x80 {
-        return 0x80;
+        return Some(0x80);
     }
     if b == 0xA0 {
         return replaced(mode);
@@ -95,30 +97,30 @@ fn shift_jis_single(mode: u8, b: u8) -> u32
     if 0xFC < b {
         return replaced(mode);
     }
-    0
+    None
 }
 
 // Of EUC-JP, where every single byte is an error.
-fn euc_jp_single(mode: u8, b: u8) -> u32
+fn euc_jp_single(mode: u8, b: u8) -> Option<u32>
     requires { 0x80 ≤ b }
-    ensures { (result ≡ 0 → ⊥) → (t1 t2 xs : List ℕ) → Gives mode (next (lent t1 t2) (family 32) plain (b ∷ xs)) 1 plain result }
+    ensures { IfSome result (λ c. (t1 t2 xs : List ℕ) → Gives mode (next (lent t1 t2) (family 32) plain (b ∷ xs)) 1 plain c) }
 {
     if within(0xA1, b, 0xFE) {
-        return 0;
+        return None;
     }
     if b == 0x8E {
-        return 0;
+        return None;
     }
     if b == 0x8F {
-        return 0;
+        return None;
     }
     replaced(mode)
 }
 
 // Of any encoding with pairs.
-fn single(encoding: u8, mode: u8, b: u8) -> u32
+fn single(encoding: u8, mode: u8, b: u8) -> Option<u32>
     requires { (Paired encoding) × (0x80 ≤ b) }
-    ensures { (result ≡ 0 → ⊥) → (t1 t2 xs : List ℕ) → Gives mode (next (lent t1 t2) (family encoding) plain (b ∷ xs)) 1 plain result }
+    ensures { IfSome result (λ c. (t1 t2 xs : List ℕ) → Gives mode (next (lent t1 t2) (family encoding) plain (b ∷ xs)) 1 plain c) }
 {
     if encoding == 34 {
         return shift_jis_single(mode, b);
@@ -127,46 +129,52 @@ fn single(encoding: u8, mode: u8, b: u8) -> u32
         return euc_jp_single(mode, b);
     }
     if within(0x81, b, 0xFE) {
-        return 0;
+        return None;
     }
     if b == 0xFF {
         return replaced(mode);
     }
     if encoding <= 30 {
-        return 0x20AC;
+        return Some(0x20AC);
     }
     replaced(mode)
 }
 
-// The width of a pair that is an error if it has no code point; 0 in mode 1, and where four bytes may begin.
-fn bad_width(encoding: u8, mode: u8, layout: &[u16], lead: u8, trail: u8) -> usize
-    requires { length layout.now ≡ 512 → Laid encoding layout.now }
-    ensures { (result ≡ 0 → ⊥) → (mode ≡ 1 → ⊥) × (row encoding lead < 32768) × (within 0x30 trail 0x39 ≡ false) × (result ≡ (ltb trail 0x80 then 1 else 2)) }
+// The width of a pair that is an error if it has no code point; none in mode 1, and where four bytes may begin.
+fn bad_width(
+    encoding: u8,
+    mode: u8,
+    layout: Option<&[u16; 512]>,
+    lead: u8,
+    trail: u8,
+) -> Option<usize>
+    requires { IfSome layout (λ l. Laid encoding l.now) }
+    ensures { IfSome result (λ w. (mode ≡ 1 → ⊥) × (row encoding lead < 32768) × (within 0x30 trail 0x39 ≡ false) × (w ≡ (ltb trail 0x80 then 1 else 2))) }
 {
     if mode == 1 {
-        return 0;
+        return None;
     }
     if within(0x30, trail, 0x39) {
-        return 0;
+        return None;
     }
-    if 32768 <= row_of(encoding, &*layout, lead) {
-        return 0;
+    if 32768 <= row_of(encoding, layout, lead) {
+        return None;
     }
     if trail < 0x80 {
-        return 1;
+        return Some(1);
     }
-    2
+    Some(2)
 }
 
 // The row of a lead, by the table of rows and columns if there is one.
-fn row_of(encoding: u8, layout: &[u16], lead: u8) -> u16
-    requires { length layout.now ≡ 512 → Laid encoding layout.now }
+fn row_of(encoding: u8, layout: Option<&[u16; 512]>, lead: u8) -> u16
+    requires { IfSome layout (λ l. Laid encoding l.now) }
     ensures { result ≡ row encoding lead }
 {
-    if layout.len() == 512 {
-        return row_laid(&*layout, lead);
+    match layout {
+        Some(laid) => row_laid(laid, lead),
+        None => pair_row(encoding, lead),
     }
-    pair_row(encoding, lead)
 }
 
 // May the ranges be searched?
@@ -202,10 +210,9 @@ fn text(
     ensures { Run (lent t1.now t2.now) (family encoding) mode chunk.now (placed from place 0 0) result room.old room.new }
 {
     if chunk.len() - from < 32 {
-        let layout = [0u16; 1];
         let mut last = [0u16; 1];
         return items(
-            encoding, mode, &*chunk, &*t1, &*t2, &layout, false, &mut last, from, room, place,
+            encoding, mode, &*chunk, &*t1, &*t2, None, false, &mut last, from, room, place,
         );
     }
     let mut layout = [32768u16; 512];
@@ -213,7 +220,17 @@ fn text(
     if chunk.len() - from < many(encoding) {
         let mut last = [0u16; 1];
         return items(
-            encoding, mode, &*chunk, &*t1, &*t2, &layout, false, &mut last, from, room, place,
+            encoding,
+            mode,
+            &*chunk,
+            &*t1,
+            &*t2,
+            Some(&layout),
+            false,
+            &mut last,
+            from,
+            room,
+            place,
         );
     }
     let mut last = [0u16; 1024];
@@ -223,7 +240,7 @@ fn text(
         &*chunk,
         &*t1,
         &*t2,
-        &layout,
+        Some(&layout),
         searched(encoding, &*t2),
         &mut last,
         from,
@@ -272,21 +289,23 @@ fn paired(encoding: u8) -> bool
     encoding <= 35
 }
 
-// Item after item, while two bytes are left. `layout` may have the rows and columns, `last` the range last used, by pointer.
-fn items(
+// Item after item, while two bytes are left. `last` has the pairs of ranges last used, by pointer. A function of its own, so that its
+// places stay in registers.
+#[inline(never)]
+fn items<const N: usize>(
     encoding: u8,
     mode: u8,
     chunk: &[u8],
     t1: &[u32],
     t2: &[u32],
-    layout: &[u16],
+    layout: Option<&[u16; 512]>,
     ordered: bool,
-    last: &mut [u16],
+    last: &mut [u16; N],
     from: usize,
     room: &mut [u32],
     place: usize,
 ) -> Place
-    requires { (Paired encoding) × (length t1.now ≤ 32768) × (length layout.now ≡ 512 → Laid encoding layout.now)
+    requires { (1 ≤ N) × (Paired encoding) × (length t1.now ≤ 32768) × (IfSome layout (λ l. Laid encoding l.now))
         × (ordered ≡ true → (encoding ≤ 30) × Ascending false t2.now) × (Ready chunk.now from room.old place) }
     ensures { Run (lent t1.now t2.now) (family encoding) mode chunk.now (placed from place 0 0) result room.old room.new }
 {
@@ -307,45 +326,36 @@ fn items(
             o += k;
             continue;
         }
-        let c = pair(encoding, &*layout, &*t1, lead, trail);
-        if c != 0 {
+        if let Some(c) = pair(encoding, layout, &*t1, lead, trail) {
             room[o] = c;
             i += 2;
             o += 1;
             continue;
         }
-        let f = four_at(&*t2, ordered, last, &*chunk, i);
-        if f != 0 {
-            room[o] = f;
+        if let Some(c) = four_at(&*t2, ordered, last, &*chunk, i) {
+            room[o] = c;
             i += 4;
             o += 1;
             continue;
         }
-        let s = single(encoding, mode, lead);
-        if s != 0 {
-            room[o] = s;
+        if let Some(c) = single(encoding, mode, lead) {
+            room[o] = c;
             i += 1;
             o += 1;
             continue;
         }
-        let w = bad_width(encoding, mode, &*layout, lead, trail);
-        if w == 1 {
+        if let Some(width) = bad_width(encoding, mode, layout, lead, trail) {
             room[o] = 0xFFFD;
-            i += 1;
+            i += width;
             o += 1;
             continue;
         }
-        if w == 2 {
-            room[o] = 0xFFFD;
-            i += 2;
-            o += 1;
-            continue;
-        }
-        let q = next_at(&*t1, &*t2, encoding, 0, 0, &*chunk, i);
-        let u = plain_scalar_of(mode, q);
-        if u == 0 {
+        let Some(q) = next_at(&*t1, &*t2, encoding, 0, 0, &*chunk, i) else {
             break;
-        }
+        };
+        let Some(u) = plain_scalar_of(mode, q) else {
+            break;
+        };
         room[o] = u;
         o += 1;
         i += q.width as usize;

@@ -1,38 +1,36 @@
 -- The encoders by their tests, and the rows that their pointers stand in. Assumes nothing.
 use mathlib.Core.Path.{◌≡◌, refl, sym, ap, ◌∙◌}
-use mathlib.Core.Bool.{Bool, true, false, not, ◌&&◌, ◌||◌, and-false}
+use mathlib.Core.Bool.{Bool, true, false, ◌||◌}
 use mathlib.Core.List.{List, [], ◌∷◌}
 use mathlib.Core.Option.{Option, some, none}
 use Prim.Native.Nat.{ℕ, ◌+◌, ◌-◌, ◌≤◌, ◌<◌}
 use native.Mathlib.Omega.{arith}
-use lib.Dec.{leb, eqb}
+use lib.Dec.{eqb}
 use lib.ListN.{length}
 use borrow.Author.Tests.{lt-ltb, le-ltb, le-leb, lt-leb, eqb-true, eqb-false, eq-eqb, ne_eqb}
 use Rattle.standard.specs.Base.{◌then◌else◌, within}
-use Rattle.standard.specs.Machine.{Result, tokens, error_with}
+use Rattle.standard.specs.Machine.{tokens, error_with}
 use Rattle.standard.specs.Layouts.{Layout}
-use Rattle.standard.specs.Search.{PassedOver, pass_over, Side, first, last, search, Lookup}
+use Rattle.standard.specs.Search.{pass_over, Side, first, last, Lookup}
 use Rattle.standard.specs.Encoders.Pairs.{pair_or_error_with, minus}
 use Rattle.standard.specs.Encoders.Gb18030.{gb18030_encode}
 use Rattle.standard.specs.Encoders.Big5.{big5_over, big5_encode}
 use Rattle.standard.specs.Encoders.EucKr.{euc_kr_encode}
 use Rattle.standard.specs.Encoders.EucJp.{jis0208_over, euc_jp_encode}
 use Rattle.standard.specs.Encoders.ShiftJis.{shift_jis_over, shift_jis_encode}
-use Rattle.standard.specs.Encoders.Iso2022Jp.{control, roman_lacks, changed}
+use Rattle.standard.specs.Encoders.Iso2022Jp.{control, changed}
 use Rattle.standard.specs.Ones.{changed_pair, iso2022_jp_encode}
 use Rattle.standard.specs.Sequence.{cell}
 use Rattle.standard.proofs.AgreementsLeaves.{index_null}
 use Rattle.standard.proofs.ReadsBackPairs.{jis0208_row}
-use Rattle.standard.proofs.Tests.{split, choose, within_low}
-use Rattle.layouts.specs.Rows.{cells, layout_of, TheBytes}
-use Rattle.layouts.specs.declared.Pair.{Pair}
+use Rattle.standard.proofs.Tests.{split, within_low}
+use Rattle.layouts.specs.Rows.{layout_of}
 use Rattle.layouts.proofs.Rows.{layout_gb18030, layout_big5, layout_euc_jp, layout_iso_2022_jp, layout_shift_jis}
 use Rattle.index.specs.IndexCode.{pointer_of}
-use Rattle.index.specs.declared.Found.{Found}
-use Rattle.index.specs.declared.Found.TheVariants.{At, Missing}
+use Rattle.std.specs.Prelude.{Option as Found}
 use Rattle.reverse_index_spec.specs.ReverseIndex.{look_up}
-use Rattle.reverse_index_spec.proofs.LookUp.{look_up-sound, no_cells, none_passed}
-use Rattle.pair_writers.specs.Pairs.{or_none, pair_encode, Plain, cells_of, InRows, Inside}
+use Rattle.reverse_index_spec.proofs.LookUp.{look_up-sound, none_passed}
+use Rattle.pair_writers.specs.Pairs.{pair_encode, InRows, Inside}
 
 -- past 0x80
 module _ (c : ℕ) where
@@ -97,7 +95,7 @@ module _ (look : Lookup) (katakana : List ℕ) (c : ℕ) where
   unfolding iso2022_jp_encode
   iso_2022_jp_overline e = rw e
 
-  module _ (l : 0x80 ≤ c) (yen : c ≡ 0xA5 → ⊥) (overline : c ≡ 0x203E → ⊥) (d : ℕ) (k : or_none d ≡ changed katakana c) where
+  module _ (l : 0x80 ≤ c) (yen : c ≡ 0xA5 → ⊥) (overline : c ≡ 0x203E → ⊥) where
     no_control : control c ≡ false
     no_control = rw (ne_eqb c 0x0E (λ z. omega arith), ne_eqb c 0x0F (λ z. omega arith), ne_eqb c 0x1B (λ z. omega arith))
 
@@ -105,47 +103,29 @@ module _ (look : Lookup) (katakana : List ℕ) (c : ℕ) where
     unfolding iso2022_jp_encode
     others = rw (no_control, le-ltb c 0x80 l, ne_eqb c 0xA5 yen, ne_eqb c 0x203E overline)
 
-    pub iso_2022_jp_unmapped : d ≡ 0 → error_with c ≡ iso2022_jp_encode look katakana c
-    iso_2022_jp_unmapped z =
-        let q : changed katakana c ≡ none = sym k ∙ rw (eq-eqb d 0 z) in
-        ap (λ (o : Option ℕ). changed_pair look o c) (sym q) ∙ others
+    pub iso_2022_jp_unmapped : none ≡ changed katakana c → error_with c ≡ iso2022_jp_encode look katakana c
+    iso_2022_jp_unmapped q = ap (λ (o : Option ℕ). changed_pair look o c) q ∙ others
 
-    pub iso_2022_jp_pair : (d ≡ 0 → ⊥) → pair_or_error_with (layout_of 33) (look first jis0208_over d) d ≡ iso2022_jp_encode look katakana c
-    iso_2022_jp_pair z =
-        let q : changed katakana c ≡ some d = sym k ∙ rw (ne_eqb d 0 z) in
-        rw (layout_iso_2022_jp 33 refl) (ap (λ (o : Option ℕ). changed_pair look o c) (sym q) ∙ others)
+    pub iso_2022_jp_pair : (d : ℕ) → some d ≡ changed katakana c →
+        pair_or_error_with (layout_of 33) (look first jis0208_over d) d ≡ iso2022_jp_encode look katakana c
+    iso_2022_jp_pair d q = rw (layout_iso_2022_jp 33 refl) (ap (λ (o : Option ℕ). changed_pair look o c) q ∙ others)
 
--- What U+2212, a katakana of half width and any other is changed to; 0 for an unmapped katakana cell.
+-- What U+2212, a katakana of half width and any other is changed to.
 module _ (katakana : List ℕ) (c : ℕ) where
-  pub changed_cell : within 0xFF61 c 0xFF9F ≡ true → or_none (cell katakana (c - 0xFF61)) ≡ changed katakana c
-  changed_cell h =
-      let large : 0xFF61 ≤ c = within_low 0xFF61 c 0xFF9F h in
-      rw (ne_eqb c 0x2212 (λ z. omega arith), h) (sym (index_null katakana (c - 0xFF61)))
+  module _ (h : within 0xFF61 c 0xFF9F ≡ true) where
+    mapped_cell : (eqb (cell katakana (c - 0xFF61)) 0 then none else some (cell katakana (c - 0xFF61))) ≡ changed katakana c
+    mapped_cell =
+        let large : 0xFF61 ≤ c = within_low 0xFF61 c 0xFF9F h in
+        rw (ne_eqb c 0x2212 (λ z. omega arith), h) (sym (index_null katakana (c - 0xFF61)))
 
-  pub changed_other : within 0xFF61 c 0xFF9F ≡ false → (c ≡ 0 → ⊥) → or_none (minus c) ≡ changed katakana c
-  changed_other h z = split (eqb c 0x2212) (λ e. rw e) (λ e. rw (e, h, ne_eqb c 0 z))
+    pub changed_none : cell katakana (c - 0xFF61) ≡ 0 → none ≡ changed katakana c
+    changed_none z = sym (rw (eq-eqb _ 0 z)) ∙ mapped_cell
 
--- The state after a scalar: Roman has ASCII but for two.
-module _ (s c : ℕ) where
-  pub not_roman : (s ≡ 1 → ⊥) → ◌≡◌ {A = ℕ} 0 (eqb s 1 && not (roman_lacks c) then 1 else 0)
-  not_roman h = rw (ne_eqb s 1 h)
+    pub changed_cell : (d : ℕ) → d ≡ cell katakana (c - 0xFF61) → (d ≡ 0 → ⊥) → some d ≡ changed katakana c
+    changed_cell d e n = rw e (sym (rw (ne_eqb (cell katakana (c - 0xFF61)) 0 (λ z. n (e ∙ z)))) ∙ mapped_cell)
 
-  pub roman_5c : c ≡ 0x5C → ◌≡◌ {A = ℕ} 0 (eqb s 1 && not (roman_lacks c) then 1 else 0)
-  roman_5c e = rw (e, and-false (eqb s 1))
-
-  pub roman_7e : c ≡ 0x7E → ◌≡◌ {A = ℕ} 0 (eqb s 1 && not (roman_lacks c) then 1 else 0)
-  roman_7e e = rw (e, and-false (eqb s 1))
-
-  pub roman_has : s ≡ 1 → (c ≡ 0x5C → ⊥) → (c ≡ 0x7E → ⊥) → ◌≡◌ {A = ℕ} 1 (eqb s 1 && not (roman_lacks c) then 1 else 0)
-  roman_has e h g = rw (eq-eqb s 1 e, ne_eqb c 0x5C h, ne_eqb c 0x7E g)
-
--- ASCII that leaves the state as it is.
-module _ (e s c : ℕ) (l : c < 0x80) where
-  pub plain_other : (e ≡ 33 → ⊥) → Plain e s c
-  plain_other h = record { is_ascii = l; no_control = rw (ne_eqb e 33 h); stays = rw (ne_eqb e 33 h) }
-
-  pub plain_ascii : e ≡ 33 → s ≡ 0 → control c ≡ false → Plain e s c
-  plain_ascii h z k = record { is_ascii = l; no_control = rw k (and-false (eqb e 33)); stays = rw (h, z, lt-ltb c 0x80 l) }
+  pub changed_other : within 0xFF61 c 0xFF9F ≡ false → some (minus c) ≡ changed katakana c
+  changed_other h = split (eqb c 0x2212) (λ e. rw e) (λ e. rw (e, h))
 
 -- The rows that are searched: all 60 of Shift_JIS, and what stands below 8,836 of EUC-JP and ISO-2022-JP.
 pub shift_jis-rows : (table : List ℕ) → length table ≡ 11280 → InRows 8272 10715 table (layout_of 34)
@@ -168,28 +148,12 @@ pub euc_kr-rows : (table : List ℕ) → length table ≡ 23940 → InRows 1 0 t
 unfolding layout_of
 euc_kr-rows table e p h s = omega arith
 
--- The pointer of the search is that of the look-up where there is no reverse index.
-pub without_index : (table links : List ℕ) (side : Side) (over : PassedOver) (c : ℕ) → links ≡ [] →
-    search side over table c ≡ look_up table links side over c
-without_index table links side over c e = rw e (sym (no_cells table side over c))
-
 -- A pointer that is looked up stands in the rows.
 pub in_rows : (side : Side) (y : Layout) (low high : ℕ) (table links : List ℕ) (c : ℕ) → InRows low high table y →
-    (f : Found) → pointer_of f ≡ look_up table links side (pass_over low high) c → Inside y f
+    (f : Found ℕ) → pointer_of f ≡ look_up table links side (pass_over low high) c → Inside y f
 in_rows side y low high table links c i f e p q =
     let k = look_up-sound table links side (pass_over low high) c p (sym e ∙ q) in
     i p k.inside k.searched
-
--- By the pointer of a code point.
-module _ (y : Layout) (c : ℕ) where
-  pub by_pointer_lem : (f : Found) (p : ℕ) → f ≡ At p → Inside y f → (r : Pair) → (p < cells y → TheBytes y p r) →
-      {o : Result} → o ≡ tokens (r.lead ∷ r.trail ∷ []) → o ≡ pair_or_error_with y (pointer_of f) c
-  by_pointer_lem f p e i r b q =
-      let t = b (i p (ap pointer_of e)) in
-      rw e (rw (t.lead, t.trail) at q)
-
-  pub by_none : (f : Found) → f ≡ Missing → error_with c ≡ pair_or_error_with y (pointer_of f) c
-  by_none f e = rw e
 
 -- the encoders of Ask 7
 module _ (c : ℕ) where
@@ -247,8 +211,3 @@ module _ (e : ℕ) (look : Lookup) (second : List ℕ) (c : ℕ) where
       )
 
 -- its table is not long
-pub cells_few : (e : ℕ) → cells_of e ≤ 23940
-cells_few e =
-    choose (λ n. n ≤ 23940) (leb e 30) (λ _. omega arith) (λ _.
-    choose (λ n. n ≤ 23940) (eqb e 31) (λ _. omega arith) (λ _.
-    choose (λ n. n ≤ 23940) (leb e 34) (λ _. omega arith) (λ _. omega arith)))

@@ -7,8 +7,8 @@ use Prim.Native.Nat.{ℕ, suc, ◌+◌, ◌-◌, ◌*◌, ◌/◌, ◌≤◌, �
 use native.Mathlib.Nat.{suc-mul}
 use native.Mathlib.Omega.{arith}
 use lib.Dec.{ltb, eqb}
-use lib.ListN.{length, get_or, set, replicate, length-set, length-replicate, get_or-eq_default}
-use lib.Seq.{get_or-set_same, get_or-set_other}
+use lib.ListN.{length, get_or, set, take, drop, replicate, length-set, length-take, length-replicate, get_or-eq_default}
+use lib.Seq.{get_or-take, get_or-drop, get_or-set_same, get_or-set_other}
 use borrow.Author.Tests.{ltb-true, ltb-false, lt-ltb, le-ltb, eqb-true, eqb-false}
 use Rattle.standard.specs.Base.{◌then◌else◌, within, mapped}
 use Rattle.standard.specs.Indexes.{index_code_point}
@@ -21,8 +21,8 @@ use Rattle.layouts.specs.Rows.{cells, layout_of, TheBytes}
 use Rattle.layouts.specs.declared.Pair.{Pair}
 use Rattle.reverse_index_spec.specs.ReverseIndex.{look_up}
 use Rattle.reverse_index_spec.proofs.LookUp.{look_up-sound}
-use Rattle.pair_writers.specs.Pairs.{cells_of, over_of, slot_of, Has, pair_number, entered, Slot, nothing, only, several, Filled, Row, Trails, Laid, Plainly, Usual, Excepted, Marked, Aids, Helped, Ready}
-use Rattle.pair_writers.proofs.Shapes.{number_least, floor_real, trail_below, same_row, same_column, row_alike, row_inside, rows_few, rows_all, row_led, divisor_small}
+use Rattle.pair_writers.specs.Pairs.{cells_of, over_of, slot_of, Has, pair_number, entered, Slot, nothing, only, several, Filled, Row, Trails, Laid, Usual, Excepted, Marked, Aids, Helped, Ready}
+use Rattle.pair_writers.proofs.Shapes.{number_least, floor_real, trail_below, same_row, same_column, row_alike, row_inside, rows_all, row_led, divisor_small}
 
 -- behind the slots there is nothing
 pub beyond_none : (slots : List ℕ) → length slots ≡ 0x10000 → (k : ℕ) → 0x10000 ≤ k → get_or slots k 0 ≡ 0
@@ -52,19 +52,6 @@ module _ (over : PassedOver) (table : List ℕ) (c : ℕ) where
       go : (o : Option ℕ) → look_up table links side over c ≡ o → none ≡ o
       go none e = refl
       go (some p) e = absurd (a l (slot_of c) (slot_below c) z p (counts_has p (look_up-sound table links side over c p e)))
-
-pub marked_start : (slots : List ℕ) (k : ℕ) → Marked slots k k slots
-marked_start slots k = record { inside = λ j l h. omega arith; front = λ j h. refl; behind = λ j h. refl }
-
-pub marked_on : (before after : List ℕ) (from k : ℕ) → from ≤ k → k < length after → Marked before from k after →
-    Marked before from (k + 1) (set after k 1)
-marked_on before after from k l h m = record {
-  inside = λ j g i. split (eqb j k)
-      (λ e. ap (λ (n : ℕ). get_or (set after k 1) n 0) (eqb-true j k e) ∙ get_or-set_same after k 1 0 h)
-      (λ e. get_or-set_other after k j 1 0 (eqb-false j k e) ∙ m.inside j g (omega (arith, eqb-false j k e)));
-  front = λ j g. get_or-set_other after k j 1 0 (λ z. omega arith) ∙ m.front j g;
-  behind = λ j g. get_or-set_other after k j 1 0 (λ z. omega arith) ∙ m.behind j (omega arith);
-}
 
 -- An entry of slot 0 tells of code points above U+FFFF, one of another slot of its code point.
 slot_low : (c : ℕ) → c < 0x10000 → slot_of c ≡ c
@@ -179,35 +166,39 @@ row_of e r lead trails l t s = record {
   searched = λ j h. row_alike e r j h ∙ s;
 }
 
--- trails, column after column
-pub trails_on : (e k v : ℕ) (trails : List ℕ) → k < length trails → v ≡ trail_of (layout_of e) k → Trails e k trails → Trails e (k + 1) (set trails k v)
-trails_on e k v trails l h t j g = split (eqb j k)
+-- one cell of a row more, taken from the row beside its trail
+module _ (e : ℕ) (table : List ℕ) (at width lead : ℕ) (trails slots : List ℕ) (n x t : ℕ) where
+  abbrev row : List ℕ
+  row = take (at + width - at) (drop at table)
+
+  pub row_on : at + width ≤ length table → n < length row → ((d : ℕ) → x ≡ get_or row n d) → ((d : ℕ) → t ≡ get_or trails n d) →
+      Row e at width lead trails → Filled e table (at + n) slots →
+      (m : ℕ) (after : List ℕ) → m ≡ n + 1 → after ≡ entered slots x (lead + t) → Filled e table (at + m) after
+  row_on h l a b r f m after z q =
+      let w : at + width - at ≡ width = omega arith in
+      let below : n < width = omega (arith, l, length-take (at + width - at) (drop at table)) in
+      let cell : x ≡ get_or table (at + n) 0 =
+      a 0 ∙ get_or-take (at + width - at) (drop at table) n 0 (omega arith) ∙ get_or-drop at table n 0 in
+      let next : at + n + 1 ≡ at + m = omega arith in
+      rw (q, cell, b 0) (subst (λ (p : ℕ). Filled e table p (entered slots (get_or table (at + n) 0) (lead + get_or trails n 0))) next
+      (filled_on e table (at + n) (lead + get_or trails n 0) slots f (omega arith) (r.searched n below) (r.number n below)))
+
+-- trails, column after column, as far as the row goes
+pub trails_on : (e k v n : ℕ) (trails : List ℕ) → k < length trails → (k < n → v ≡ trail_of (layout_of e) k) →
+    ((j : ℕ) → j < k → j < n → get_or trails j 0 ≡ trail_of (layout_of e) j) →
+    (j : ℕ) → j < k + 1 → j < n → get_or (set trails k v) j 0 ≡ trail_of (layout_of e) j
+trails_on e k v n trails l h t j g m = split (eqb j k)
     (λ z. let q = eqb-true j k z in
-    ap (λ (n : ℕ). get_or (set trails k v) n 0) q ∙ get_or-set_same trails k v 0 l ∙ h ∙ ap (trail_of (layout_of e)) (sym q))
-    (λ z. get_or-set_other trails k j v 0 (eqb-false j k z) ∙ t j (omega (arith, eqb-false j k z)))
+    ap (λ (i : ℕ). get_or (set trails k v) i 0) q ∙ get_or-set_same trails k v 0 l ∙ h (omega (arith, q)) ∙ ap (trail_of (layout_of e)) (sym q))
+    (λ z. get_or-set_other trails k j v 0 (eqb-false j k z) ∙ t j (omega (arith, eqb-false j k z)) m)
 
 -- the rows of an encoding
 pub next_row : (r w : ℕ) → (r + 1) * w ≡ r * w + w
 next_row r w = let z : r + 1 ≡ suc r = omega arith in rw z (suc-mul r w)
 
-module _ (e : ℕ) (table : List ℕ) (low high width : ℕ) (trails slots : List ℕ) (a : Laid e table low high width trails slots) where
-  -- with other slots
-  pub laid_other : (after : List ℕ) → length after ≡ 0x10000 → Laid e table low high width trails after
-  laid_other after l = record {
-    cells = a.cells;
-    is_low = a.is_low;
-    is_high = a.is_high;
-    is_width = a.is_width;
-    columns = a.columns;
-    trail = a.trail;
-    size = l;
-  }
-
+module _ (e : ℕ) (table : List ℕ) (low high width : ℕ) (trails : List ℕ) (a : Laid e table low high width trails) where
   pub laid_real : 0 < width
   laid_real = omega (arith, a.is_width, (divisor_small e).0)
-
-  pub laid_few : length table / width ≤ 126
-  laid_few = rw (a.cells, a.is_width) (rows_few e)
 
   pub laid_all : length table / width * width ≡ length table
   laid_all = rw (a.cells, a.is_width) (rows_all e)
@@ -246,25 +237,6 @@ pub record PlainTo (before : List ℕ) (n : ℕ) (after : List ℕ) : Type 0 whe
   pub inside : (k : ℕ) → 0 < k → k < n → get_or after k 0 ≡ k * 256
   pub null : get_or after 0 0 ≡ get_or before 0 0
   pub behind : (k : ℕ) → n ≤ k → get_or after k 0 ≡ get_or before k 0
-
-pub plain_start : (slots : List ℕ) → PlainTo slots 1 slots
-plain_start slots = record { inside = λ k l h. omega arith; null = refl; behind = λ k h. refl }
-
-pub plain_on : (before after : List ℕ) (k : ℕ) → 0 < k → k < length after → PlainTo before k after → PlainTo before (k + 1) (set after k (k * 256))
-plain_on before after k l h m = record {
-  inside = λ j g i. split (eqb j k)
-      (λ z. let q = eqb-true j k z in
-      ap (λ (n : ℕ). get_or (set after k (k * 256)) n 0) q ∙ get_or-set_same after k (k * 256) 0 h ∙ ap (λ (n : ℕ). n * 256) (sym q))
-      (λ z. get_or-set_other after k j (k * 256) 0 (eqb-false j k z) ∙ m.inside j g (omega (arith, eqb-false j k z)));
-  null = get_or-set_other after k 0 (k * 256) 0 (λ z. omega arith) ∙ m.null;
-  behind = λ j g. get_or-set_other after k j (k * 256) 0 (λ z. omega arith) ∙ m.behind j (omega arith);
-}
-
-pub plainly_none : (e : ℕ) (slots : List ℕ) → e ≡ 33 → Plainly e slots slots
-plainly_none e slots h = record { ascii = λ n. absurd (n h); others = λ k l. refl; null = refl; shifting = λ z k. refl }
-
-pub plainly_all : (e : ℕ) (before after : List ℕ) → (e ≡ 33 → ⊥) → PlainTo before 0x80 after → Plainly e before after
-plainly_all e before after n p = record { ascii = λ h. p.inside; others = p.behind; null = p.null; shifting = λ z. absurd (n z) }
 
 -- slots that are marked
 module _ (before after : List ℕ) (from to : ℕ) (m : Marked before from to after) (k : ℕ) where

@@ -1,7 +1,8 @@
 -- gb18030's fallback: the last pair, the reading of a pointer, and the four bytes. Assumes nothing.
 use mathlib.Core.Path.{◌≡◌, refl, sym, ap, ◌∙◌}
 use mathlib.Core.Bool.{Bool, true, false, ◌&&◌, ◌||◌, or-true}
-use mathlib.Core.List.{List, [], ◌∷◌}
+use mathlib.Core.List.{List, [], ◌∷◌, ◌++◌}
+use lib.ListN.{length, get_or}
 use mathlib.Core.Option.{Option, some, none}
 use Prim.Native.Nat.{ℕ, ◌≤◌, ◌<◌}
 use native.Mathlib.Omega.{arith}
@@ -10,7 +11,7 @@ use borrow.Author.Tests.{lt-ltb, le-ltb, eqb-true, eqb-false, eq-eqb, ne_eqb}
 use Rattle.standard.specs.Base.{◌then◌else◌, within, mapped}
 use Rattle.standard.specs.Indexes.{Range, last_pair, last_range, range_sum, ranges_code_point, last_code_point, pointer_sum, ranges_pointer}
 use Rattle.standard.specs.Machine.{Result, tokens, error_with}
-use Rattle.standard.specs.Layouts.{Layout, two_bytes}
+use Rattle.standard.specs.Layouts.{Layout}
 use Rattle.standard.specs.Search.{pass_over, first}
 use Rattle.standard.specs.Encoders.Pairs.{pair_or, pair_or_error_with}
 use Rattle.standard.specs.Encoders.Gb18030.{four_bytes, gives_back, four_or_error_with, gb18030_encode}
@@ -18,8 +19,9 @@ use Rattle.standard.proofs.Tests.{split}
 use Rattle.layouts.specs.Rows.{layout_of}
 use Rattle.layouts.specs.Ranges.{Ascending, not_above, total, onward, last_sum}
 use Rattle.layouts.proofs.Rows.{layout_gb18030}
-use Rattle.pair_writers.specs.Pairs.{bytes_of, told}
+use Rattle.pair_writers.specs.Pairs.{told}
 use Rattle.pair_writers.specs.declared.One.{One}
+use Rattle.pair_writers.specs.declared.One.TheVariants.{Unwritable, Byte, Two, Four}
 use Rattle.reverse_index_spec.specs.ReverseIndex.{look_up}
 use Rattle.reverse_index_spec.proofs.LookUp.{none_passed}
 
@@ -27,6 +29,22 @@ use Rattle.reverse_index_spec.proofs.LookUp.{none_passed}
 pub column_of : (back : Bool) (ranges : List ℕ) → Ascending false ranges × Ascending true ranges → Ascending back ranges
 column_of false ranges h = h.0
 column_of true ranges h = h.1
+
+-- One pair less at the front, and none left.
+module _ (back : Bool) (x found : ℕ) where
+  pub sum_pair : (pair rest : List ℕ) {ranges : List ℕ} → ranges ≡ pair ++ rest → length pair ≡ 2 →
+      last_sum back ranges x found ≡ last_sum back rest x (onward back (get_or pair 0 0) (get_or pair 1 0) x found)
+  unfolding last_sum
+  sum_pair [] rest e l = absurd (omega arith)
+  sum_pair (p ∷ []) rest e l = absurd (omega arith)
+  sum_pair (p ∷ c ∷ []) rest e l = rw e
+  sum_pair (p ∷ c ∷ d ∷ more) rest e l = absurd (omega arith)
+
+  pub sum_short : (ranges : List ℕ) → length ranges < 2 → last_sum back ranges x found ≡ found
+  unfolding last_sum
+  sum_short [] l = refl
+  sum_short (p ∷ []) l = refl
+  sum_short (p ∷ c ∷ ranges) l = absurd (omega arith)
 
 -- The last pair: the code keeps the answer so far, the standard searches from the end.
 abbrev sum_or : Bool → ℕ → ℕ → Option Range → ℕ
@@ -109,19 +127,18 @@ module _ (ranges : List ℕ) (c : ℕ) where
         (t then tokens (four_bytes p) else error_with c) ≡ four_or_error_with ranges (ranges_pointer ranges c) c
     four_read t q = rw q by_sum
 
--- What the table answers: two bytes, or an error that something else takes the place of.
-module _ (o : One) (y : Layout) (c : ℕ) (other : Result) where
-  from_table : (p : Option ℕ) → told o ≡ pair_or_error_with y p c → (o.count ≡ 0 → ⊥) → told o ≡ pair_or y p other
-  from_table (some p) t n = t
-  from_table none t n =
-      let b : tokens (bytes_of o) ≡ error_with c = rw (ne_eqb o.count 0 n) at t in
-      let z : ◌≡◌ {A = ℕ} 0 1 = cc in absurd (omega arith)
+-- What the table answers: bytes, or an error that something else takes the place of.
+module _ (y : Layout) (c : ℕ) (other : Result) where
+  from_table : (o : One) → ((n : ℕ) → o ≡ Unwritable n → ⊥) → (p : Option ℕ) → told o ≡ pair_or_error_with y p c → told o ≡ pair_or y p other
+  from_table o n (some p) t = t
+  from_table (Unwritable k) n none t = absurd (n k refl)
+  from_table (Byte b) n none t = let z : ◌≡◌ {A = ℕ} 0 1 = cc in absurd (omega arith)
+  from_table (Two bs) n none t = let z : ◌≡◌ {A = ℕ} 0 1 = cc in absurd (omega arith)
+  from_table (Four bs) n none t = let z : ◌≡◌ {A = ℕ} 0 1 = cc in absurd (omega arith)
 
-  not_in_table : (p : Option ℕ) → told o ≡ pair_or_error_with y p c → o.count ≡ 0 → other ≡ pair_or y p other
-  not_in_table none t z = refl
-  not_in_table (some p) t e =
-      let b : error_with o.named ≡ tokens (two_bytes y p) = rw (eq-eqb o.count 0 e) at t in
-      let z : ◌≡◌ {A = ℕ} 0 1 = cc in absurd (omega arith)
+  not_in_table : (n : ℕ) (p : Option ℕ) → error_with n ≡ pair_or_error_with y p c → other ≡ pair_or y p other
+  not_in_table n none t = refl
+  not_in_table n (some p) t = let z : ◌≡◌ {A = ℕ} 0 1 = cc in absurd (omega arith)
 
 -- The encoder of GBK and gb18030, by its tests.
 module _ (gbk : Bool) (table links ranges : List ℕ) (c : ℕ) where
@@ -150,8 +167,8 @@ module _ (gbk : Bool) (table links ranges : List ℕ) (c : ℕ) where
       unfolding gb18030_encode behind
       by_table_lem = rw (layout_gb18030 30 (omega arith), le-ltb c 0x80 l, ne_eqb c 0xE5E5 n, m, none_passed table links first c)
 
-      pub gb_pair : (o.count ≡ 0 → ⊥) → Encoded (told o)
-      gb_pair h = from_table o (layout_of 30) c behind (look_up table links first (pass_over 1 0) c) t h ∙ by_table_lem
+      pub gb_pair : ((n : ℕ) → o ≡ Unwritable n → ⊥) → Encoded (told o)
+      gb_pair h = from_table (layout_of 30) c behind o h (look_up table links first (pass_over 1 0) c) t ∙ by_table_lem
 
       pub gb_gbk : gbk ≡ true → Encoded (told o)
       unfolding behind
@@ -159,8 +176,8 @@ module _ (gbk : Bool) (table links ranges : List ℕ) (c : ℕ) where
           let b : behind ≡ error_with c = rw h in
           t ∙ ap (pair_or (layout_of 30) (look_up table links first (pass_over 1 0) c)) (sym b) ∙ by_table_lem
 
-      pub gb_four : o.count ≡ 0 → gbk ≡ false → Encoded (four_or_error_with ranges (ranges_pointer ranges c) c)
+      pub gb_four : (n : ℕ) → o ≡ Unwritable n → gbk ≡ false → Encoded (four_or_error_with ranges (ranges_pointer ranges c) c)
       unfolding behind
-      gb_four z h =
+      gb_four n z h =
           let b : behind ≡ four_or_error_with ranges (ranges_pointer ranges c) c = rw h in
-          sym b ∙ not_in_table o (layout_of 30) c behind (look_up table links first (pass_over 1 0) c) t z ∙ by_table_lem
+          sym b ∙ not_in_table (layout_of 30) c behind n (look_up table links first (pass_over 1 0) c) (rw z at t) ∙ by_table_lem

@@ -1,7 +1,7 @@
 -- What the code's values stand for: the answer for one scalar, slots, and what a look-up is given. Contracts of functions inside the
 -- library cite this. Assumes nothing.
-use Rattle.std.specs.Prelude.{◌≡◌, true, false, ◌&&◌, List, [], ◌∷◌, ℕ, ◌+◌, ◌*◌, ◌/◌, ◌%◌, ◌≤◌, ◌<◌, ltb, leb, eqb, length, get_or, set, replicate}
-use Rattle.std.proofs.Math.Option.{Option, some, none}
+use Rattle.std.specs.Prelude.{◌≡◌, true, false, ◌&&◌, List, [], ◌∷◌, ℕ, ◌+◌, ◌*◌, ◌/◌, ◌%◌, ◌≤◌, ◌<◌, ltb, leb, eqb, length, get_or, set, replicate, Option, Some, None}
+use Rattle.std.proofs.Math.Option.{Option as Optional, some, none}
 use Rattle.standard.specs.Base.{◌then◌else◌, within, mapped}
 use Rattle.standard.specs.Machine.{Result, tokens, error_with}
 use Rattle.standard.specs.Layouts.{Layout, lead_of, trail_of}
@@ -14,28 +14,28 @@ use Rattle.standard.specs.Encoders.EucKr.{euc_kr_encode}
 use Rattle.standard.specs.Encoders.Iso2022Jp.{control}
 use Rattle.standard.specs.Ones.{iso2022_jp_encode, state_for}
 use Rattle.index.specs.IndexCode.{pointer_of}
-use Rattle.index.specs.declared.Found.{Found}
 use Rattle.layouts.specs.Rows.{cells, layout_of}
 use Rattle.reverse_index_spec.specs.ReverseIndex.{look_up}
 use Rattle.pair_writers.specs.declared.One.{One}
+use Rattle.pair_writers.specs.declared.One.TheVariants.{Unwritable, Byte, Two, Four}
 
 -- The bytes of the code's answer, and the encoder's word for it.
 abbrev pub bytes_of : One → List ℕ
-bytes_of o =
-    eqb o.count 1 then o.first ∷ [] else
-    eqb o.count 2 then o.first ∷ o.second ∷ [] else
-    o.first ∷ o.second ∷ o.third ∷ o.fourth ∷ []
+bytes_of (Unwritable n) = []
+bytes_of (Byte b) = b ∷ []
+bytes_of (Two bs) = bs
+bytes_of (Four bs) = bs
 
 abbrev pub told : One → Result
-told o = eqb o.count 0 then error_with o.named else tokens (bytes_of o)
+told (Unwritable n) = error_with n
+told (Byte b) = tokens (b ∷ [])
+told (Two bs) = tokens bs
+told (Four bs) = tokens bs
 
--- What an answer of so many bytes is, as far as the state after it goes.
-abbrev pub by_count : ℕ → Result
-by_count n = eqb n 0 then error_with 0 else tokens []
-
--- A code point, or null where the code has 0.
-abbrev pub or_none : ℕ → Option ℕ
-or_none d = eqb d 0 then none else some d
+-- A code point, or null where the code has none.
+abbrev pub optional : Option ℕ → Optional ℕ
+optional (Some d) = some d
+optional None = none
 
 -- The encoder of an encoding number, of those that write pairs, with a look-up in its first table, and its second table.
 unfoldable pub pair_encode : ℕ → Lookup → List ℕ → ℕ → Result
@@ -118,14 +118,13 @@ abbrev pub Trails : ℕ → ℕ → List ℕ → Type 0
 Trails e n trails = (j : ℕ) → j < n → get_or trails j 0 ≡ trail_of (layout_of e) j
 
 -- What the rows of an encoding are filled by.
-pub record Laid (e : ℕ) (table : List ℕ) (low high width : ℕ) (trails slots : List ℕ) : Type 0 where
+pub record Laid (e : ℕ) (table : List ℕ) (low high width : ℕ) (trails : List ℕ) : Type 0 where
   pub cells : length table ≡ cells_of e
   pub is_low : low ≡ low_of e
   pub is_high : high ≡ high_of e
   pub is_width : width ≡ (layout_of e).divisor
   pub columns : width ≤ length trails
   pub trail : Trails e width trails
-  pub size : length slots ≡ 0x10000
 
 -- ASCII in its slots, but in ISO-2022-JP.
 pub record Plainly (e : ℕ) (before after : List ℕ) : Type 0 where
@@ -183,5 +182,5 @@ abbrev pub InRows : ℕ → ℕ → List ℕ → Layout → Type 0
 InRows low high table y = (p : ℕ) → p < length table → passed (pass_over low high) p ≡ false → p < cells y
 
 -- A pointer that is found stands in them.
-abbrev pub Inside : Layout → Found → Type 0
+abbrev pub Inside : Layout → Option ℕ → Type 0
 Inside y found = (p : ℕ) → pointer_of found ≡ some p → p < cells y

@@ -11,22 +11,7 @@ use crate::{One, pairs};
 fn by_last(c: u32) -> bool
     ensures { result ≡ (eqb c 0x2550 || eqb c 0x255E || eqb c 0x2561 || eqb c 0x256A || eqb c 0x5341 || eqb c 0x5345) }
 {
-    if c == 0x2550 {
-        return true;
-    }
-    if c == 0x255E {
-        return true;
-    }
-    if c == 0x2561 {
-        return true;
-    }
-    if c == 0x256A {
-        return true;
-    }
-    if c == 0x5341 {
-        return true;
-    }
-    c == 0x5345
+    matches!(c, 0x2550 | 0x255E | 0x2561 | 0x256A | 0x5341 | 0x5345)
 }
 
 // The pointers below 5,024 are passed over.
@@ -35,7 +20,7 @@ pub(crate) fn bytes_of(table: &[u32], links: &[u32], slots: &[u16], c: u32) -> O
         told result ≡ big5_encode (look_up table.now links.now) c }
 {
     if c < 0x80 {
-        return pairs::one_byte(c as u8);
+        return One::Byte(c as u8);
     }
     if by_last(c) {
         return pairs::at(31, reverse_index::last_outside(table, links, 0, 5023, c), c);

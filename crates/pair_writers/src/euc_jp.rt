@@ -13,16 +13,16 @@ pub(crate) fn bytes_of(table: &[u32], links: &[u32], slots: &[u16], c: u32) -> O
         told result ≡ euc_jp_encode (look_up table.now links.now) c }
 {
     if c < 0x80 {
-        return pairs::one_byte(c as u8);
+        return One::Byte(c as u8);
     }
     if c == 0xA5 {
-        return pairs::one_byte(0x5C);
+        return One::Byte(0x5C);
     }
     if c == 0x203E {
-        return pairs::one_byte(0x7E);
+        return One::Byte(0x7E);
     }
     if pairs::katakana(c) {
-        return pairs::two_bytes(0x8E, (c - 0xFF61 + 0xA1) as u8);
+        return One::Two([0x8E, (c - 0xFF61 + 0xA1) as u8]);
     }
     pairs::pair(32, table, links, slots, 8836, 11279, pairs::minus(c))
 }

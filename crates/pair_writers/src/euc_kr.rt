@@ -14,7 +14,7 @@ pub(crate) fn bytes_of(table: &[u32], links: &[u32], slots: &[u16], c: u32) -> O
         told result ≡ euc_kr_encode (look_up table.now links.now) c }
 {
     if c < 0x80 {
-        return pairs::one_byte(c as u8);
+        return One::Byte(c as u8);
     }
     pairs::pair(35, table, links, slots, 1, 0, c)
 }

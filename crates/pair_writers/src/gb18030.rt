@@ -21,9 +21,10 @@ fn sum(number: u32, other: u32, x: u32, found: u64) -> u64
     ensures { result ≡ (leb number x then other + (x - number) else found) }
 {
     if x < number {
-        return found;
+        found
+    } else {
+        u64::from(other) + u64::from(x - number)
     }
-    (other as u64) + ((x - number) as u64)
 }
 
 // One pair more, by its pointer; or back, by its code point.
@@ -31,9 +32,10 @@ fn onward(back: bool, p: u32, c: u32, x: u32, found: u64) -> u64
     ensures { result ≡ onward back p c x found }
 {
     if back {
-        return sum(c, p, x, found);
+        sum(c, p, x, found)
+    } else {
+        sum(p, c, x, found)
     }
-    sum(p, c, x, found)
 }
 
 // By the last pair in list order that is not above x; `none` where there is none.
@@ -41,11 +43,8 @@ fn by_all(ranges: &[u32], back: bool, x: u32, none: u64) -> u64
     ensures { result ≡ last_sum back ranges.now x none }
 {
     let mut found = none;
-    let mut i = 0;
-    let n = ranges.len() / 2;
-    while i < n {
-        found = onward(back, ranges[i * 2], ranges[i * 2 + 1], x, found);
-        i += 1;
+    for pair in ranges.chunks_exact(2) {
+        found = onward(back, pair[0], pair[1], x, found);
     }
     found
 }
@@ -66,19 +65,17 @@ fn last_sum(ranges: &[u32], ordered: bool, back: bool, x: u32, none: u64) -> u64
     ensures { Ordered ordered ranges.now → result ≡ last_sum back ranges.now x none }
 {
     if ordered {
-        return by_halves(ranges, back, x, none);
+        by_halves(ranges, back, x, none)
+    } else {
+        by_all(ranges, back, x, none)
     }
-    by_all(ranges, back, x, none)
 }
 
 // Are the pairs in order, by pointer and by code point?
 pub(crate) fn ordered(ranges: &[u32]) -> bool
     ensures { Ordered result ranges.now }
 {
-    if !in_order(ranges, false) {
-        return false;
-    }
-    in_order(ranges, true)
+    in_order(ranges, false) && in_order(ranges, true)
 }
 
 // Do the four bytes of a pointer read as a code point?
@@ -91,10 +88,7 @@ fn reads(ranges: &[u32], ordered: bool, p: u32, c: u32) -> bool
     if p == 7457 {
         return c == 0xE7C7;
     }
-    if last_sum(ranges, ordered, false, p, 0) != c as u64 {
-        return false;
-    }
-    mapped(c)
+    last_sum(ranges, ordered, false, p, 0) == u64::from(c) && mapped(c)
 }
 
 // The four bytes of a pointer.
@@ -102,14 +96,12 @@ fn four_bytes(p: u32) -> One
     requires { p ≤ 1237575 }
     ensures { told result ≡ tokens (four_bytes p) }
 {
-    One {
-        named: 0,
-        count: 4,
-        first: (p / 12600 + 0x81) as u8,
-        second: (p % 12600 / 1260 + 0x30) as u8,
-        third: (p % 12600 % 1260 / 10 + 0x81) as u8,
-        fourth: (p % 12600 % 1260 % 10 + 0x30) as u8,
-    }
+    One::Four([
+        (p / 12600 + 0x81) as u8,
+        (p % 12600 / 1260 + 0x30) as u8,
+        (p % 12600 % 1260 / 10 + 0x81) as u8,
+        (p % 12600 % 1260 % 10 + 0x30) as u8,
+    ])
 }
 
 // The four bytes of a code point's pointer by the ranges, where they read as it.
@@ -122,22 +114,19 @@ fn four(ranges: &[u32], ordered: bool, c: u32) -> One
     }
     let p = last_sum(ranges, ordered, true, c, 1237576);
     if 1237575 < p {
-        return pairs::unwritable(c);
+        return One::Unwritable(c);
     }
     if reads(ranges, ordered, p as u32, c) {
         return four_bytes(p as u32);
     }
-    pairs::unwritable(c)
+    One::Unwritable(c)
 }
 
 // U+20AC has one byte in GBK.
 fn euro(gbk: bool, c: u32) -> bool
     ensures { result ≡ (gbk && eqb c 0x20AC) }
 {
-    if gbk {
-        return c == 0x20AC;
-    }
-    false
+    gbk && c == 0x20AC
 }
 
 // The table goes first; what it has not goes by the ranges in gb18030.
@@ -155,20 +144,17 @@ pub(crate) fn bytes_of(
         told result ≡ gb18030_encode gbk (look_up table.now links.now) ranges.now c }
 {
     if c < 0x80 {
-        return pairs::one_byte(c as u8);
+        return One::Byte(c as u8);
     }
     if c == 0xE5E5 {
-        return pairs::unwritable(c);
+        return One::Unwritable(c);
     }
     if euro(gbk, c) {
-        return pairs::one_byte(0x80);
+        return One::Byte(0x80);
     }
     let one = pairs::pair(30, table, links, slots, 1, 0, c);
-    if one.count != 0 {
-        return one;
+    match one {
+        One::Unwritable(_) => if gbk { one } else { four(ranges, ordered, c) },
+        _ => one,
     }
-    if gbk {
-        return one;
-    }
-    four(ranges, ordered, c)
 }

@@ -16,28 +16,23 @@ ghost use Rattle.standard.specs.Base.{◌then◌else◌};
 ghost use Rattle.standard.specs.Machine.{tokens, error_with};
 ghost use Rattle.standard.specs.Encoders.Iso2022Jp.{control};
 ghost use Rattle.reverse_index_spec.specs.ReverseIndex.{look_up};
-ghost use Rattle.pair_writers.specs.Pairs.{told, by_count, pair_encode, pair_state, Plain, low_of, high_of, cells_of, Ready, Fillable};
+ghost use Rattle.pair_writers.specs.Pairs.{told, pair_encode, pair_state, Plain, low_of, high_of, cells_of, Ready, Fillable};
 ghost use Rattle.pair_writers.specs.Fours.{Ordered};
 
-// One, two or four bytes; or none, where the scalar is unwritable and an error names a code point.
+// What is written of one scalar: one, two or four bytes. An unwritable one has an error that names a code point.
 #[derive(Clone, Copy)]
-pub struct One {
-    pub named: u32,
-    pub count: u32,
-    pub first: u8,
-    pub second: u8,
-    pub third: u8,
-    pub fourth: u8,
+pub enum One {
+    Unwritable(u32),
+    Byte(u8),
+    Two([u8; 2]),
+    Four([u8; 4]),
 }
 
 // Are gb18030's ranges in order? Told once for many scalars.
 pub fn ordered(encoding: u8, second: &[u32]) -> bool
     ensures { Ordered result second.now }
 {
-    if encoding != 30 {
-        return false;
-    }
-    gb18030::ordered(second)
+    encoding == 30 && gb18030::ordered(second)
 }
 
 // GBK (29) and gb18030, Big5 (31), EUC-JP (32), ISO-2022-JP (33) in the state that it is written in, Shift_JIS (34) and EUC-KR; by a
@@ -55,111 +50,66 @@ pub fn bytes_of(
         Ordered ordered second.now →
         told result ≡ pair_encode encoding (look_up table.now links.now) second.now c }
 {
-    if encoding <= 30 {
-        return gb18030::bytes_of(encoding == 29, table, links, second, ordered, slots, c);
+    match encoding {
+        0..=30 => gb18030::bytes_of(encoding == 29, table, links, second, ordered, slots, c),
+        31 => big5::bytes_of(table, links, slots, c),
+        32 => euc_jp::bytes_of(table, links, slots, c),
+        33 => iso_2022_jp::bytes_of(table, links, second, slots, c),
+        34 => shift_jis::bytes_of(table, links, slots, c),
+        _ => euc_kr::bytes_of(table, links, slots, c),
     }
-    if encoding == 31 {
-        return big5::bytes_of(table, links, slots, c);
-    }
-    if encoding == 32 {
-        return euc_jp::bytes_of(table, links, slots, c);
-    }
-    if encoding == 33 {
-        return iso_2022_jp::bytes_of(table, links, second, slots, c);
-    }
-    if encoding == 34 {
-        return shift_jis::bytes_of(table, links, slots, c);
-    }
-    euc_kr::bytes_of(table, links, slots, c)
 }
 
 // ASCII: its own byte, but for the controls of ISO-2022-JP.
 pub fn ascii(encoding: u8, c: u8) -> One
     ensures { told result ≡ (eqb encoding 33 && control c then error_with 0xFFFD else tokens (c ∷ [])) }
 {
-    if encoding != 33 {
-        return pairs::one_byte(c);
+    if encoding == 33 {
+        iso_2022_jp::ascii(c)
+    } else {
+        One::Byte(c)
     }
-    iso_2022_jp::ascii(c)
 }
 
 // Is it an ASCII scalar whose one byte leaves the state as it is? In ISO-2022-JP only in ASCII.
 pub fn plain(encoding: u8, state: u8, c: u32) -> bool
     ensures { result ≡ true → Plain encoding state c }
 {
-    if 0x80 <= c {
-        return false;
-    }
-    if encoding != 33 {
-        return true;
-    }
-    if state != 0 {
-        return false;
-    }
-    !iso_2022_jp::control(c)
+    c < 0x80 && (encoding != 33 || state == 0 && !iso_2022_jp::control(c))
 }
 
-// The state after a scalar, by the count of its bytes: it stays but in ISO-2022-JP.
-pub fn state_for(encoding: u8, state: u8, c: u32, count: u32) -> u8
-    ensures { result ≡ pair_state encoding state c (by_count count) }
+// The state after a scalar, by what is written of it: it stays but in ISO-2022-JP.
+pub fn state_for(encoding: u8, state: u8, c: u32, one: One) -> u8
+    ensures { result ≡ pair_state encoding state c (told one) }
 {
-    if encoding != 33 {
-        return state;
+    if encoding == 33 {
+        iso_2022_jp::state_for(state, c, one)
+    } else {
+        state
     }
-    iso_2022_jp::state_for(state, c, count)
 }
 
-// The pointers that are passed over: from low to high.
-fn low(encoding: u8) -> usize
-    ensures { result ≡ low_of encoding }
-{
-    if encoding <= 30 {
-        return 1;
-    }
-    if encoding == 31 {
-        return 0;
-    }
-    if encoding <= 33 {
-        return 8836;
-    }
-    if encoding == 34 {
-        return 8272;
-    }
-    1
+// The first table of an encoding: how many cells it has, and the pointers that are passed over, from low to high.
+#[derive(Clone, Copy)]
+pub(crate) struct Shape {
+    pub(crate) cells: usize,
+    pub(crate) low: usize,
+    pub(crate) high: usize,
 }
 
-fn high(encoding: u8) -> usize
-    ensures { result ≡ high_of encoding }
+fn shape_of(encoding: u8) -> Shape
+    ensures cells { result.cells ≡ cells_of encoding }
+    ensures low { result.low ≡ low_of encoding }
+    ensures high { result.high ≡ high_of encoding }
 {
-    if encoding <= 30 {
-        return 0;
-    }
-    if encoding == 31 {
-        return 5023;
-    }
-    if encoding <= 33 {
-        return 11279;
-    }
-    if encoding == 34 {
-        return 10715;
-    }
-    0
-}
-
-// The cells of its first table.
-fn cells(encoding: u8) -> usize
-    ensures { result ≡ cells_of encoding }
-{
-    if encoding <= 30 {
-        return 23940;
-    }
-    if encoding == 31 {
-        return 19782;
-    }
-    if encoding <= 34 {
-        return 11280;
-    }
-    23940
+    let (cells, low, high) = match encoding {
+        0..=30 => (23940, 1, 0),
+        31 => (19782, 0, 5023),
+        32 | 33 => (11280, 8836, 11279),
+        34 => (11280, 8272, 10715),
+        _ => (23940, 1, 0),
+    };
+    Shape { cells, low, high }
 }
 
 // Slots, from empty ones: right by any reverse index and any second table.
@@ -167,11 +117,8 @@ pub fn fill(encoding: u8, table: &[u32], slots: &mut [u16])
     ensures { Fillable encoding table.now slots.old →
         (links second : List ℕ) → Ready encoding table.now links second slots.new }
 {
-    if table.len() != cells(encoding) {
-        return;
+    let shape = shape_of(encoding);
+    if table.len() == shape.cells && slots.len() == 65536 {
+        slots::fill(encoding, table, shape, slots);
     }
-    if slots.len() != 65536 {
-        return;
-    }
-    slots::fill(encoding, table, low(encoding), high(encoding), slots);
 }

@@ -1,8 +1,7 @@
 // What the writers of pairs share.
 
-ghost use Rattle.std.specs.Prelude.{◌≡◌, [], ◌∷◌};
+ghost use Rattle.std.specs.Prelude.{◌≡◌};
 ghost use Rattle.standard.specs.Base.{within};
-ghost use Rattle.standard.specs.Machine.{tokens, error_with};
 ghost use Rattle.standard.specs.Search.{pass_over, first};
 ghost use Rattle.standard.specs.Encoders.Pairs.{pair_or_error_with, minus};
 ghost use Rattle.index.specs.IndexCode.{pointer_of};
@@ -11,77 +10,31 @@ ghost use Rattle.reverse_index_spec.specs.ReverseIndex.{look_up};
 ghost use Rattle.pair_writers.specs.Pairs.{told, Aids, InRows, Inside};
 
 use crate::{One, slots};
-use index::Found;
-
-pub(crate) fn one_byte(b: u8) -> One
-    ensures { told result ≡ tokens (b ∷ []) }
-{
-    One {
-        named: 0,
-        count: 1,
-        first: b,
-        second: 0,
-        third: 0,
-        fourth: 0,
-    }
-}
-
-pub(crate) fn two_bytes(u: u8, v: u8) -> One
-    ensures { told result ≡ tokens (u ∷ v ∷ []) }
-{
-    One {
-        named: 0,
-        count: 2,
-        first: u,
-        second: v,
-        third: 0,
-        fourth: 0,
-    }
-}
-
-pub(crate) fn unwritable(c: u32) -> One
-    ensures { told result ≡ error_with c }
-{
-    One {
-        named: c,
-        count: 0,
-        first: 0,
-        second: 0,
-        third: 0,
-        fourth: 0,
-    }
-}
 
 // Is it a katakana of half width?
 pub(crate) fn katakana(c: u32) -> bool
     ensures { result ≡ within 0xFF61 c 0xFF9F }
 {
-    if c < 0xFF61 {
-        return false;
-    }
-    c <= 0xFF9F
+    (0xFF61..=0xFF9F).contains(&c)
 }
 
 // U+2212 is looked up, and named in an error, as U+FF0D.
 pub(crate) fn minus(c: u32) -> u32
     ensures { result ≡ minus c }
 {
-    if c == 0x2212 {
-        return 0xFF0D;
-    }
-    c
+    if c == 0x2212 { 0xFF0D } else { c }
 }
 
 // The two bytes of a pointer that is found; or an error that names the code point.
-pub(crate) fn at(encoding: u8, found: Found, c: u32) -> One
+pub(crate) fn at(encoding: u8, found: Option<usize>, c: u32) -> One
     ensures { Inside (layout_of encoding) found → told result ≡ pair_or_error_with (layout_of encoding) (pointer_of found) c }
 {
     match found {
-        Found::At(p) => {
+        Some(p) => {
             let pair = layouts::two_bytes(encoding, p);
-            two_bytes(pair.lead, pair.trail)
+            One::Two([pair.lead, pair.trail])
         }
-        Found::Missing => unwritable(c),
+        None => One::Unwritable(c),
     }
 }
 

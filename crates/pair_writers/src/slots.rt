@@ -9,16 +9,13 @@ ghost use Rattle.index.specs.IndexCode.{pointer_of};
 ghost use Rattle.reverse_index_spec.specs.ReverseIndex.{look_up};
 ghost use Rattle.pair_writers.specs.Pairs.{low_of, high_of, cells_of, slot_of, entered, Filled, Row, Trails, Laid, Plainly, Excepted, Marked, Right, Aids};
 
-use index::Found;
+use crate::Shape;
 
 // The slot of a code point.
 fn slot_of(c: u32) -> usize
     ensures { (result ≡ slot_of c) × (result < 0x10000) }
 {
-    if c < 0x10000 {
-        return c as usize;
-    }
-    0
+    if c < 0x10000 { c as usize } else { 0 }
 }
 
 // Slots that tell nothing, from one up to another.
@@ -26,21 +23,14 @@ fn mark(slots: &mut [u16], from: usize, to: usize)
     requires { (from ≤ to) × (to ≤ length slots.old) }
     ensures { Marked slots.old from to slots.new }
 {
-    let mut k = from;
-    while k < to {
-        slots[k] = 1;
-        k += 1;
-    }
+    slots[from..to].fill(1);
 }
 
 // A number for an empty slot, else 1.
 fn only(before: u16, v: u16) -> u16
     ensures { result ≡ (eqb before 0 then v else 1) }
 {
-    if before == 0 {
-        return v;
-    }
-    1
+    if before == 0 { v } else { 1 }
 }
 
 // A cell put into its slot.
@@ -59,90 +49,86 @@ fn enter(slots: &mut [u16], c: u32, v: u16)
 }
 
 // The cells of a row.
-fn fill_row(table: &[u32], at: usize, width: usize, lead: u16, trails: &[u16], slots: &mut [u16])
+fn fill_row(
+    table: &[u32],
+    at: usize,
+    width: usize,
+    lead: u16,
+    trails: &[u16; 190],
+    slots: &mut [u16],
+)
     requires { (at + width ≤ length table.now) × (width ≤ length trails.now) × (length slots.old ≡ 0x10000) ×
         ((j : ℕ) → j < width → lead + get_or trails.now j 0 < 0x10000) }
     ensures { (e : ℕ) → Row e at width lead trails.now → Filled e table.now at slots.old →
         Filled e table.now (at + width) slots.new }
 {
-    let mut k: usize = 0;
-    while k < width {
-        enter(slots, table[at + k], lead + trails[k]);
-        k += 1;
+    for (c, trail) in table[at..at + width].iter().zip(trails) {
+        enter(slots, *c, lead + *trail);
     }
 }
 
 fn passed(low: usize, high: usize, p: usize) -> bool
     ensures { result ≡ passed (pass_over low high) p }
 {
-    if p < low {
-        return false;
-    }
-    p <= high
+    (low..=high).contains(&p)
 }
 
 // A lead in the upper half of a number.
 fn upper(b: u8) -> u16
     ensures { (result ≡ b * 256) × (b < 256) }
 {
-    (b as u16) * 256
+    u16::from(b) * 256
+}
+
+// What the rows of an encoding are filled from: its table and the shape of it, the cells of a row, and the trails of the columns.
+#[derive(Clone, Copy)]
+struct Rows<'a> {
+    encoding: u8,
+    table: &'a [u32],
+    shape: Shape,
+    width: usize,
+    trails: &'a [u16; 190],
+    ghost laid: { Laid encoding table.now shape.low shape.high width trails.now },
 }
 
 // The cells of a row, by its number, unless its pointers are passed over: all of them are, or none.
-fn fill_searched(
-    encoding: u8,
-    table: &[u32],
-    low: usize,
-    high: usize,
-    row: usize,
-    width: usize,
-    trails: &[u16],
-    slots: &mut [u16],
-)
-    requires { Laid encoding table.now low high width trails.now slots.old × (row < length table.now / width) }
-    ensures { Filled encoding table.now (row * width) slots.old →
-        Filled encoding table.now (row * width + width) slots.new }
+fn fill_searched(rows: Rows<'_>, row: usize, slots: &mut [u16])
+    requires { (row < length rows.table.now / rows.width) × (length slots.old ≡ 0x10000) }
+    ensures { Filled rows.entry.encoding rows.entry.table.now (row * rows.entry.width) slots.old →
+        Filled rows.entry.encoding rows.entry.table.now (row * rows.entry.width + rows.entry.width) slots.new }
 {
-    let at = row * width;
-    if passed(low, high, at) {
+    let at = row * rows.width;
+    if passed(rows.shape.low, rows.shape.high, at) {
         return;
     }
-    let pair = layouts::two_bytes(encoding, at);
-    fill_row(table, at, width, upper(pair.lead), trails, slots);
+    let pair = layouts::two_bytes(rows.encoding, at);
+    fill_row(
+        rows.table,
+        at,
+        rows.width,
+        upper(pair.lead),
+        rows.trails,
+        slots,
+    );
 }
 
 // The cells of all rows.
-fn fill_rows(
-    encoding: u8,
-    table: &[u32],
-    low: usize,
-    high: usize,
-    width: usize,
-    trails: &[u16],
-    slots: &mut [u16],
-)
-    requires { Laid encoding table.now low high width trails.now slots.old }
-    ensures { Filled encoding table.now 0 slots.old →
-        Filled encoding table.now (length table.now) slots.new }
+fn fill_rows(rows: Rows<'_>, slots: &mut [u16])
+    requires { length slots.old ≡ 0x10000 }
+    ensures { Filled rows.entry.encoding rows.entry.table.now 0 slots.old →
+        Filled rows.entry.encoding rows.entry.table.now (length rows.entry.table.now) slots.new }
 {
-    let n = table.len() / width;
-    let mut row: usize = 0;
-    while row < n {
-        fill_searched(encoding, table, low, high, row, width, trails, slots);
-        row += 1;
+    for row in 0..rows.table.len() / rows.width {
+        fill_searched(rows, row, slots);
     }
 }
 
 // The trails of the columns.
-fn fill_trails(encoding: u8, width: usize, trails: &mut [u16])
-    requires { (width ≡ (layout_of encoding).divisor) × (width ≤ length trails.old) }
-    ensures { Trails encoding width trails.new }
+fn fill_trails(encoding: u8, trails: &mut [u16; 190])
+    ensures { Trails encoding (layout_of encoding).divisor trails.new }
 {
-    let mut k: usize = 0;
-    while k < width {
-        let pair = layouts::two_bytes(encoding, k);
-        trails[k] = pair.trail as u16;
-        k += 1;
+    for (k, trail) in trails.iter_mut().enumerate() {
+        *trail = u16::from(layouts::two_bytes(encoding, k).trail);
     }
 }
 
@@ -154,10 +140,8 @@ fn fill_ascii(encoding: u8, slots: &mut [u16])
     if encoding == 33 {
         return;
     }
-    let mut k: u16 = 1;
-    while k < 0x80 {
-        slots[k as usize] = k * 256;
-        k += 1;
+    for k in 1..0x80_u16 {
+        slots[usize::from(k)] = k * 256;
     }
 }
 
@@ -176,20 +160,28 @@ fn except(slots: &mut [u16])
 }
 
 // The slots of an encoding, from empty ones: right by any reverse index and any second table.
-pub(crate) fn fill(encoding: u8, table: &[u32], low: usize, high: usize, slots: &mut [u16])
-    requires { (length table.now ≡ cells_of encoding) × (low ≡ low_of encoding) × (high ≡ high_of encoding) × (length slots.old ≡ 0x10000) }
+pub(crate) fn fill(encoding: u8, table: &[u32], shape: Shape, slots: &mut [u16])
+    requires { (length table.now ≡ cells_of encoding) × (shape.low ≡ low_of encoding) × (shape.high ≡ high_of encoding) ×
+        (length slots.old ≡ 0x10000) }
     ensures { slots.old ≡ replicate 0x10000 0 →
         (links second : List ℕ) → Right encoding table.now links second slots.new }
 {
     let mut trails = [0u16; 190];
-    let width = layouts::divisor(encoding);
-    fill_trails(encoding, width, &mut trails);
-    fill_rows(encoding, table, low, high, width, &trails, slots);
+    fill_trails(encoding, &mut trails);
+    let rows = Rows {
+        encoding,
+        table,
+        shape,
+        width: layouts::divisor(encoding),
+        trails: &trails,
+    };
+    fill_rows(rows, slots);
     fill_ascii(encoding, slots);
     except(slots);
 }
 
-// Do slots tell that no pointer has the slot of a code point?
+// Do slots tell that no pointer has the slot of a code point? A slice of any other length than 65,536 is no slots: an `Option` of an array
+// is no plainer, since a loop that fills slots would lend it anew for each scalar.
 fn missing(slots: &[u16], c: u32) -> bool
     ensures { result ≡ true → (length slots.now ≡ 0x10000) × (get_or slots.now (slot_of c) 0 ≡ 0) }
 {
@@ -207,12 +199,12 @@ pub(crate) fn pointer(
     low: u32,
     high: u32,
     c: u32,
-) -> Found
+) -> Option<usize>
     ensures { Aids (pass_over low high) table.now slots.now →
         pointer_of result ≡ look_up table.now links.now first (pass_over low high) c }
 {
     if missing(slots, c) {
-        return Found::Missing;
+        return None;
     }
     reverse_index::pointer_outside(table, links, low, high, c)
 }

@@ -5,20 +5,20 @@ use mathlib.Core.List.{List, [], ◌∷◌, ◌++◌, append-nil, map}
 use mathlib.Core.Option.{Option, some, none}
 use Prim.Native.Nat.{ℕ, suc, ◌+◌, ◌-◌, ◌≤◌, ◌<◌}
 use Prim.Native.String.{String}
-use native.Mathlib.Numerals.{add-one}
+use native.Mathlib.Numerals.{add-one, one-add}
 use native.Mathlib.Omega.{arith}
 use lib.Dec.{ltb, eqb}
-use lib.ListN.{length, get_or, take, drop, drop_of_length-le}
-use lib.Seq.{drop-cons, take-suc, length-take-le, append_snoc}
-use borrow.Author.Tests.{eq-eqb, ne_eqb, lt-ltb, le-ltb, ltb-true, ltb-false}
+use lib.ListN.{length, take, drop, drop_of_length-le}
+use borrow.Author.Tests.{ltb-true, ltb-false}
 use Rattle.standard.proofs.Tests.{split}
-use Rattle.labels.proofs.Ends.{rest}
+use Rattle.std.proofs.Common.{Option as Maybe, Some, None}
+use Rattle.std.specs.List.{position, position_or_len}
+use Rattle.std.specs.Option.{unwrap_or}
+use Rattle.std.proofs.lemmas.List.{take_rest}
 use Rattle.standard.specs.Base.{◌then◌else◌}
 use Rattle.labels_spec.specs.Labels.{table, trimmed, fold, among, find, answer, label}
 use Rattle.labels_spec.proofs.Known.{encodings}
-use Rattle.labels_spec.specs.declared.Found.{Found}
 use Rattle.program_text.specs.Lines.{first_line, after_line}
-use Rattle.program_text.specs.Lines.{label_refusal}
 
 pub first_few : (xs : List ℕ) → length (first_line xs) ≤ length xs
 unfolding first_line
@@ -31,60 +31,40 @@ unfolding first_line after_line
 after_is [] = refl
 after_is (b ∷ xs) = split (eqb b 0x0A) (λ e. rw e) (λ e. rw e (after_is xs))
 
-module _ (xs : List ℕ) (n : ℕ) (p : n ≡ length (first_line xs)) where
-  pub after_more : take (length xs - (n + 1)) (drop (n + 1) xs) ≡ after_line xs
-  after_more = rest xs (n + 1) ∙ rw (p, add-one) (after_is xs)
-
-  pub after_none : length xs ≤ n → take (length xs - n) (drop n xs) ≡ after_line xs
-  after_none h = let g : length xs ≤ n + 1 = omega arith in
-      rest xs n ∙ drop_of_length-le xs h ∙ sym (drop_of_length-le xs g) ∙ rw (p, add-one) (after_is xs)
-
--- No line feed among the first i bytes.
-module _ (xs : List ℕ) (i : ℕ) where
-  pub record Passed : Type 0 where
-    pub inside : i ≤ length xs
-    pub split : first_line xs ≡ take i xs ++ first_line (drop i xs)
-
-  whole : Passed → first_line (drop i xs) ≡ [] → (i ≡ length (first_line xs)) × (i ≤ length xs) × (take i xs ≡ first_line xs)
-  whole s e =
-      let z : first_line xs ≡ take i xs = s.split ∙ rw e (append-nil (take i xs)) in
-      (sym (ap length z ∙ length-take-le i xs s.inside), s.inside, sym z)
-
-  pub passed_all : Passed → length xs ≤ i → (i ≡ length (first_line xs)) × (i ≤ length xs) × (take i xs ≡ first_line xs)
-  unfolding first_line
-  passed_all s h = whole s (rw (drop_of_length-le xs h))
-
-  module _ (s : Passed) (h : i < length xs) where
-    pub passed_end : get_or xs i 0 ≡ 0x0A → (i ≡ length (first_line xs)) × (i ≤ length xs) × (take i xs ≡ first_line xs)
-    unfolding first_line
-    passed_end e = whole s (rw (drop-cons xs i 0 h, eq-eqb (get_or xs i 0) 0x0A e))
-
-pub passed_none : (xs : List ℕ) → Passed xs 0
-passed_none xs = record { inside = omega arith; split = refl }
-
-pub passed_on : (xs : List ℕ) (i : ℕ) → Passed xs i → i < length xs → (get_or xs i 0 ≡ 0x0A → ⊥) → Passed xs (i + 1)
+-- Where the first line feed stands, or where the input ends.
+line_len : (xs : List ℕ) → length (first_line xs) ≡ position_or_len (λ (b : ℕ). eqb b 10) xs
 unfolding first_line
-passed_on xs i s h e = record {
-  inside = omega arith;
-  split = s.split ∙ rw (add-one, drop-cons xs i 0 h, take-suc xs i 0 h, ne_eqb (get_or xs i 0) 0x0A e)
-      (sym (append_snoc (take i xs) (get_or xs i 0) (first_line (drop (suc i) xs)) ∙ refl));
-}
+line_len [] = refl
+line_len (b ∷ xs) = split (eqb b 10) (λ e. rw e) (λ e. rw (e, one-add) (ap suc (line_len xs)))
 
--- What the label call answers for the first line, as first_label does.
-module _ (input : List ℕ) {n : ℕ} {f : Found} (p : n ≡ length (first_line input)) (t : take n input ≡ first_line input)
-    (q : f ≡ label (take (n - 0) input)) where
-  label_is : f ≡ label (first_line input)
-  label_is = let z : n - 0 ≡ n = omega arith in q ∙ rw (z, t)
+take_line : (xs : List ℕ) → take (length (first_line xs)) xs ≡ first_line xs
+unfolding first_line
+take_line [] = refl
+take_line (b ∷ xs) = split (eqb b 10) (λ e. rw e) (λ e. rw e (ap (λ (l : List ℕ). b ∷ l) (take_line xs)))
 
-  pub label_long : 255 < n → (f.encoding ≡ (label (first_line input)).encoding) × (1 ≡ label_refusal input)
-  label_long h = (ap (λ (f : Found). f.encoding) label_is, rw (lt-ltb 255 (length (first_line input)) (omega (arith, p, h))))
+module _ (xs : List ℕ) where
+  feed : ℕ
+  feed = position_or_len (λ (b : ℕ). eqb b 10) xs
 
-  pub label_short : n ≤ 255 → (f.encoding ≡ (label (first_line input)).encoding) × (f.refusal ≡ label_refusal input)
-  label_short h = (
-    ap (λ (f : Found). f.encoding) label_is,
-    rw (le-ltb 255 (length (first_line input)) (omega (arith, p, h)))
-        (ap (λ (f : Found). f.refusal) label_is),
-  )
+  -- The first line by the place of the line feed, or without one.
+  pub line_is : (r : Maybe ℕ) {n : ℕ} → r ≡ position (λ (b : ℕ). eqb b 10) xs → n ≡ unwrap_or r (length xs) →
+      (n ≡ length (first_line xs)) × (n ≤ length xs) × (take n xs ≡ first_line xs)
+  unfolding feed
+  line_is r e q =
+      let p = q ∙ rw e (split (ltb feed (length xs))
+      (λ t. rw t (sym (line_len xs)))
+      (λ t. let h = ltb-false feed (length xs) t in rw t (omega (arith, line_len xs, h, first_few xs)))) in
+      (p, rw p (first_few xs), rw p (take_line xs))
+
+  -- What stands behind it.
+  pub after_feed : (i : ℕ) → Some i ≡ position (λ (b : ℕ). eqb b 10) xs → take (length xs - (i + 1)) (drop (i + 1) xs) ≡ after_line xs
+  after_feed i e = let p = (line_is (Some i) e refl).0 in take_rest xs (i + 1) ∙ rw (p, add-one) (after_is xs)
+
+  pub after_none : None ≡ position (λ (b : ℕ). eqb b 10) xs → [] ≡ after_line xs
+  after_none e =
+      let p = (line_is None e refl).0 in
+      let l : length xs ≤ length xs + 1 = omega arith in
+      sym (drop_of_length-le xs l) ∙ rw (p, add-one) (after_is xs)
 
 -- The first line of a longer input.
 pub line_closed : (xs ys : List ℕ) → length (first_line xs) < length xs → (first_line (xs ++ ys) ≡ first_line xs) × (after_line (xs ++ ys) ≡ after_line xs ++ ys)

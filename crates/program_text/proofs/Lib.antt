@@ -3,3 +3,4 @@ pub mod Numbers
 pub mod Texts
 pub mod Utf8Texts
 pub mod Refills
+pub mod Fronts

@@ -1,15 +1,18 @@
 -- What is written into a room of bytes, from a place on. Assumes nothing.
 use mathlib.Core.Path.{◌≡◌, refl, sym, ap, ◌∙◌}
 use mathlib.Core.List.{List, [], ◌∷◌, ◌++◌, append_assoc}
-use Prim.Native.Nat.{ℕ, suc, ◌+◌, ◌-◌, ◌/◌, ◌%◌, ◌≤◌, ◌<◌}
+use Prim.Native.Nat.{ℕ, zero, suc, ◌+◌, ◌-◌, ◌/◌, ◌%◌, ◌≤◌, ◌<◌}
 use native.Mathlib.Nat.{add-zero}
-use native.Mathlib.Numerals.{add-one}
 use native.Mathlib.Omega.{arith}
-use lib.ListN.{length, get_or, take, set, length-append}
-use lib.Seq.{sets, take-suc, take_all}
+use lib.ListN.{length, take, set, length-append}
+use lib.Seq.{sets, sets-eq, take_all}
+use lib.ListN.{drop}
+use Rattle.std.proofs.lemmas.List.{drop-drop, take_rest}
+use mathlib.Core.Logic.{◌⊎◌}
+use borrow.Rule.Slice.PartMut.{put_mid}
 use Rattle.program_text.specs.Lines.{digit, digits, count, line}
 use Rattle.program_text.specs.Places.{Put}
-use Rattle.program_text.proofs.Numbers.{last, count_few}
+use Rattle.program_text.proofs.Numbers.{no_digit, last, count_few}
 
 -- Stores one after the other.
 pub sets_append : (l : List ℕ) (i : ℕ) (us vs : List ℕ) → sets l i (us ++ vs) ≡ sets (sets l i us) (i + length us) vs
@@ -35,53 +38,56 @@ module _ {room : List ℕ} {at : ℕ} where
   pub nothing : Put room at [] at room
   nothing = record { behind = sym (add-zero at); stands = refl }
 
--- Digits.
-module _ (b most extra n : ℕ) where
-  pub put_none_of : {room : List ℕ} {at : ℕ} → digits b most (most - extra) n ≡ [] → Put room at (digits b most (most - extra) n) at room
-  put_none_of e = same (sym e) nothing
+drop_set : (l : List ℕ) (i v : ℕ) → i < length l → drop i (set l i v) ≡ v ∷ drop (suc i) l
+drop_set [] i v h = absurd (omega arith)
+drop_set (x ∷ l) zero v h = refl
+drop_set (x ∷ l) (suc i) v h = drop_set l i v (omega arith)
 
-  module _ (p : 0 < most) (h : most ≤ extra → n ≡ 0 → ⊥) {m : ℕ} (e : m ≡ n / b) where
-    pub last_length : length (digits b most (most - extra) n) ≡ length (digits b (most - 1) (most - 1 - extra) m) + 1
-    last_length = rw e (ap length (last b most extra n p h) ∙ length-append (digits b (most - 1) (most - 1 - extra) (n / b)) (digit (n % b) ∷ []))
+-- Digits made from the last to the first: those from `start` on stand in a text, and those in front of them belong to the number that is left.
+module _ (b : ℕ) (all text : List ℕ) (start owed left : ℕ) (made : all ≡ digits b start owed left ++ drop start text) where
+  -- one digit more
+  pub made_more : (rest v : ℕ) → 0 < start → start ≤ length text → (owed ≡ 0 → left ≡ 0 → ⊥) → rest ≡ owed - 1 → v ≡ digit (left % b) →
+      all ≡ digits b (start - 1) rest (left / b) ++ drop (start - 1) (set text (start - 1) v)
+  made_more rest v p h g e d =
+      let k : suc (start - 1) ≡ start = omega arith in
+      let q = drop_set text (start - 1) v (omega arith) in
+      made ∙ rw (last b start owed left p g, e, q, k, d) (append_assoc (digits b (start - 1) (owed - 1) (left / b)) (digit (left % b) ∷ []) (drop start text))
 
-    pub put_last : {room : List ℕ} {at place v : ℕ} {after : List ℕ} → Put room at (digits b (most - 1) (most - 1 - extra) m) place after → v ≡ digit (n % b) →
-        Put room at (digits b most (most - extra) n) (place + 1) (set after place v)
-    put_last q v = same (sym (last b most extra n p h)) (rw v (then_byte (digit (n % b)) (rw e at q)))
+  -- all of them
+  pub made_all : (start ≡ 0) ⊎ ((owed ≡ 0) × (left ≡ 0)) → take (length text - start) (drop start text) ≡ all
+  made_all h = take_rest text start ∙ sym (made ∙ rw (no_digit b start owed left h))
 
 -- the digits of a code point below 0x10000
-module _ (c : ℕ) (h : c < 0x10000) where
-  four : digits 16 8 4 c ≡ digit (c / 16 / 16 / 16 % 16) ∷ digit (c / 16 / 16 % 16) ∷ digit (c / 16 % 16) ∷ digit (c % 16) ∷ []
-  unfolding digits
-  four = let z : c / 16 / 16 / 16 / 16 ≡ 0 = omega arith in rw z
-
-  pub put_four : {room : List ℕ} {at u v x y : ℕ} → u ≡ digit (c / 16 / 16 / 16 % 16) → v ≡ digit (c / 16 / 16 % 16) →
-      x ≡ digit (c / 16 % 16) → y ≡ digit (c % 16) →
-      Put room at (digits 16 8 4 c) (at + 4) (set (set (set (set room at u) (at + 1) v) (at + 2) x) (at + 3) y)
-  put_four {room} {at} p q r s =
-      let two : at + 2 ≡ suc (suc at) = omega arith in
-      let three : at + 3 ≡ suc (suc (suc at)) = omega arith in
-      same (sym four) (record { behind = refl; stands = rw (p, q, r, s, three, two, add-one) refl })
+pub four : (c : ℕ) → c < 0x10000 → {u v x y : ℕ} → u ≡ digit (c / 0x1000) → v ≡ digit (c / 0x100 % 16) → x ≡ digit (c / 16 % 16) → y ≡ digit (c % 16) →
+    u ∷ v ∷ x ∷ y ∷ [] ≡ digits 16 8 4 c
+unfolding digits
+four c h p q r s =
+    let z : c / 16 / 16 / 16 / 16 ≡ 0 = omega arith in
+    let i : c / 16 / 16 / 16 % 16 ≡ c / 0x1000 = omega arith in
+    let j : c / 16 / 16 % 16 ≡ c / 0x100 % 16 = omega arith in
+    rw (p, q, r, s, z, i, j)
 
 -- A line.
 module _ (room : List ℕ) (at : ℕ) where
   pub put_line : (us vs : List ℕ) {tab end : ℕ} {a b : List ℕ} → Put room at us tab a → Put (set a tab 0x09) (tab + 1) vs end b → Put room at (line us vs) (end + 1) (set b end 0x0A)
   put_line us vs p q = same (simp append_assoc) (then_byte 0x0A (then_put (then_byte 0x09 p) q))
 
+-- The same, of four texts one behind the other.
+pub put_four : {room : List ℕ} {at : ℕ} (us vs : List ℕ) {tab number end next : ℕ} {a b c d : List ℕ} → Put room at us tab a → Put a tab (0x09 ∷ []) number b →
+    Put b number vs end c → Put c end (0x0A ∷ []) next d → Put room at (line us vs) next d
+put_four us vs p q r s = same (simp append_assoc) (then_put (then_put (then_put p q) r) s)
+
 pub number_few : (word : List ℕ) (n : ℕ) → length (line word (count n)) ≤ length word + 22
 number_few word n = omega (arith, count_few n, length-append word (0x09 ∷ count n ++ (0x0A ∷ [])), length-append (count n) (0x0A ∷ []))
-
--- one byte more
-module _ (bs : List ℕ) (i : ℕ) (h : i < length bs) where
-  pub put_byte : {room : List ℕ} {at : ℕ} {a : List ℕ} → Put room at (take i bs) (at + i) a → Put room at (take (i + 1) bs) (at + (i + 1)) (set a (at + i) (get_or bs i 0))
-  put_byte {room} {at} {a} p =
-      let z : at + i + 1 ≡ at + (i + 1) = omega arith in
-      let q : take i bs ++ (get_or bs i 0 ∷ []) ≡ take (i + 1) bs = rw add-one (sym (take-suc bs i 0 h)) in
-      rw z at (same q (then_byte (get_or bs i 0) p))
 
 -- the whole of a list
 pub put_all : {room : List ℕ} {at : ℕ} (f : List ℕ → List ℕ) (cs : List ℕ) (i : ℕ) → length cs ≤ i → {o : ℕ} {a : List ℕ} → Put room at (f (take i cs)) o a → Put room at (f cs) o a
 put_all f cs i h p = same (ap f (take_all i cs h)) p
 
--- nothing yet
-pub put_none : {room : List ℕ} {at : ℕ} → Put room at [] (at + 0) room
-put_none = record { behind = refl; stands = refl }
+-- a copy into a part of the room
+pub put_copy : (room bs : List ℕ) (at : ℕ) {new : List ℕ} → at + length bs ≤ length room → new ≡ bs →
+    Put room at bs (at + length bs) (put_mid at (at + length bs - at) room new)
+put_copy room bs at h e =
+    let k : at + length bs - at ≡ length bs = omega arith in
+    let d : drop (length bs) (drop at room) ≡ drop (at + length bs) room = drop-drop (length bs) at room in
+    record { behind = refl; stands = rw (e, k, d) (sym (sets-eq bs room at h ∙ append_assoc (take at room) bs (drop (at + length bs) room))) }

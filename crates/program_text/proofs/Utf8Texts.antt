@@ -1,11 +1,11 @@
 -- The bytes of scalars in UTF-8, written one after another. Assumes nothing.
 use mathlib.Core.Path.{◌≡◌, refl, sym, ap, ◌∙◌}
 use mathlib.Core.List.{List, [], ◌∷◌, ◌++◌, append_assoc, append-nil}
-use Prim.Native.Nat.{ℕ, suc, ◌+◌, ◌*◌, ◌/◌, ◌%◌, ◌≤◌, ◌<◌}
+use Prim.Native.Nat.{ℕ, ◌+◌, ◌*◌, ◌/◌, ◌%◌, ◌≤◌, ◌<◌}
 use native.Mathlib.Numerals.{add-one}
 use native.Mathlib.Omega.{arith}
 use lib.Dec.{ltb, leb}
-use lib.ListN.{length, take, set, get_or, length-append}
+use lib.ListN.{length, take, get_or, length-append}
 use lib.Seq.{take-suc}
 use borrow.Author.Tests.{lt-ltb, le-ltb, le-leb, lt-leb, ltb-true, ltb-false, leb-true, leb-false}
 use Rattle.standard.specs.Encoders.Utf8.{utf8_following, utf8_bytes, utf8_encode}
@@ -35,7 +35,7 @@ module _ (c : ℕ) where
   four h g s t u e d k = let f : u ≡ 0x80 + c / 1 % 64 = omega arith in
       rw (le-leb c 0x10FFFF g, le-ltb c 0x80 (omega arith), lt-leb c 0x7FF (omega arith), lt-leb c 0xFFFF h, e, d, f)
 
-  pub above : 0x10FFFF < c → utf8_one c ≡ []
+  above : 0x10FFFF < c → utf8_one c ≡ []
   above h = rw (lt-leb c 0x10FFFF h)
 
   -- at most four bytes
@@ -74,15 +74,3 @@ put_scalar cs i h p q =
     sym (ap (λ (n : ℕ). utf8 (take n cs)) (add-one i) ∙ ap utf8 (take-suc cs i 0 h) ∙ utf8_append (take i cs) (c ∷ []) ∙
     ap (λ (l : List ℕ). utf8 (take i cs) ++ l) (append-nil (utf8_one c))) in
     same e (then_put p q)
-
--- bytes stored one after the other
-module _ (room : List ℕ) (at : ℕ) where
-  pub put_two : (u v : ℕ) → Put room at (u ∷ v ∷ []) (at + 2) (set (set room at u) (at + 1) v)
-  put_two u v = record { behind = refl; stands = rw add-one refl }
-
-  pub put_three : (u v w : ℕ) → Put room at (u ∷ v ∷ w ∷ []) (at + 3) (set (set (set room at u) (at + 1) v) (at + 2) w)
-  put_three u v w = let two : at + 2 ≡ suc (suc at) = omega arith in record { behind = refl; stands = rw (two, add-one) refl }
-
-  pub put_four : (u v w x : ℕ) → Put room at (u ∷ v ∷ w ∷ x ∷ []) (at + 4) (set (set (set (set room at u) (at + 1) v) (at + 2) w) (at + 3) x)
-  put_four u v w x = let two : at + 2 ≡ suc (suc at) = omega arith in let three : at + 3 ≡ suc (suc (suc at)) = omega arith in
-      record { behind = refl; stands = rw (three, two, add-one) refl }

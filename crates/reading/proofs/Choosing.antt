@@ -1,15 +1,13 @@
 -- What the first bytes choose, by tests of their number and their values. Assumes nothing.
 use mathlib.Core.Path.{◌≡◌, refl}
 use mathlib.Core.List.{List, [], ◌∷◌}
-use Prim.Native.Nat.{ℕ, zero, suc, ◌-◌, ◌≤◌}
+use Prim.Native.Nat.{ℕ, zero, suc, ◌-◌}
 use native.Mathlib.Omega.{arith}
 use lib.Dec.{ltb, eqb}
 use lib.ListN.{length, take, get_or}
 use borrow.Author.Tests.{le-ltb, ne_eqb}
 use Rattle.standard.specs.Base.{◌then◌else◌}
-use Rattle.standard.specs.Choice.{Choice, waiting, label, marked, mark2, mark_ef, choose}
-use Rattle.standard.proofs.Stages.{at_mark}
-use Rattle.reading.specs.Reading.{chosen_of}
+use Rattle.standard.specs.Choice.{waiting, label, marked, mark2, mark_ef, choose}
 
 -- behind FE or FF, and behind EF
 pub two_is : (n b x g : ℕ) → mark2 x g (take (n - 1) (b ∷ [])) ≡ (ltb n 2 then waiting else eqb b x then marked 2 g else label)
@@ -53,20 +51,3 @@ choose_at xs h p q r = rw (h, p, q, r) (go xs)
     go (a ∷ []) = refl
     go (a ∷ b ∷ []) = refl
     go (a ∷ b ∷ c ∷ xs) = refl
-
--- Bytes wait by the number of their stage; and the bytes of a mark are there.
-pub waits_when : (xs : List ℕ) → (chosen_of (choose xs)).stage ≡ 1 → choose xs ≡ waiting
-waits_when xs h = go (choose xs) refl h
-  where
-    go : (c : Choice) → choose xs ≡ c → (chosen_of c).stage ≡ 1 → c ≡ waiting
-    go waiting q h = refl
-    go label q h = absurd (omega arith)
-    go (marked w g) q h = absurd (omega (arith, (at_mark xs q).low))
-
-pub mark_there : (xs : List ℕ) → (chosen_of (choose xs)).width ≤ length xs
-mark_there xs = go (choose xs) refl
-  where
-    go : (c : Choice) → choose xs ≡ c → (chosen_of c).width ≤ length xs
-    go waiting q = omega arith
-    go label q = omega arith
-    go (marked w g) q = (at_mark xs q).there

@@ -7,7 +7,8 @@ use native.Mathlib.Omega.{arith}
 use native.Mathlib.Nat.{add-zero}
 use lib.Dec.{leb, eqb}
 use lib.ListN.{length, take}
-use borrow.Author.Tests.{ne_eqb, eq-eqb}
+use borrow.Author.Tests.{ne_eqb}
+use Rattle.std.specs.Prelude.{Ok, Err}
 use Rattle.standard.specs.Base.{◌then◌else◌, line_feeds}
 use Rattle.standard.specs.Encodings.{Family, ISO-2022-JP, family, Tables, no_tables}
 use Rattle.standard.specs.Sequence.{Shift, Out, text, error, Next, more, item, shift, plain}
@@ -18,13 +19,15 @@ use Rattle.standard.specs.Choice.{spot}
 use Rattle.standard.proofs.Items.{shown_cons}
 use Rattle.standard.proofs.Reading.{either_end, no_bytes}
 use Rattle.standard.proofs.Families.{by_family}
-use Rattle.sequences.specs.Code.{next_of, out_of, front}
+use Rattle.sequences.specs.Code.{item_of, out_of, front}
+use Rattle.sequences.specs.declared.Out.{Out as CodeOut}
+use Rattle.sequences.specs.declared.Out.TheVariants.{Error, Nothing, One, Two}
 use Rattle.sequences.specs.declared.Sequence.{Sequence}
 use Rattle.runs.specs.Run.{patch}
-use Rattle.reading.specs.Reading.{bytes_of, leaves, Result, behind}
+use Rattle.reading.specs.Reading.{bytes_of, leaves, ReadOutcome, behind}
 use Rattle.reading.specs.declared.Held.{Held}
+use Rattle.reading.specs.declared.Stop.TheVariants.{Report}
 use Rattle.reading.proofs.Handing.{last, emit_stop, emit_report, emit_last}
-use Rattle.reading.proofs.Loop.{item_of}
 
 -- the byte after 1B at the end of input gives exactly one scalar, or an error
 one_out : (t : Tables) (s : Shift) (b : ℕ) → length (given (last_out (next t ISO-2022-JP s (b ∷ [])))) ≡ 1
@@ -59,34 +62,27 @@ pub iso_end-any : (t : Tables) (s : Shift) (b : ℕ) → next t ISO-2022-JP s (b
 unfolding next iso2022_jp
 iso_end-any t s b = refl
 
--- the sequence that the code finds there
-module _ (t : Tables) (s : Shift) (b : ℕ) (q : Sequence) (e : next_of q ≡ next t ISO-2022-JP s (front 1 b 0 0 0)) where
-  found : next_of q ≡ next no_tables ISO-2022-JP s (b ∷ [])
-  found = e ∙ iso_end-any t s b
+-- what the code finds there
+module _ (t : Tables) (s : Shift) (b : ℕ) where
+  pub last_more : more ≡ next t ISO-2022-JP s (front 1 b 0 0 0) → (0xFFFD ∷ []) ≡ given (last_out (next no_tables ISO-2022-JP s (b ∷ [])))
+  last_more e = ap (λ (a : Next). given (last_out a)) (e ∙ iso_end-any t s b)
 
-  pub last_more : q.width ≡ 0 → (0xFFFD ∷ []) ≡ given (last_out (next no_tables ISO-2022-JP s (b ∷ [])))
-  last_more z = let k : next_of q ≡ more = rw (eq-eqb q.width 0 z) in ap (λ (a : Next). given (last_out a)) (sym k ∙ found)
+  module _ (q : Sequence) (e : item_of q ≡ next t ISO-2022-JP s (front 1 b 0 0 0)) where
+    last_item : given (out_of q.out) ≡ given (last_out (next no_tables ISO-2022-JP s (b ∷ [])))
+    last_item = ap (λ (a : Next). given (last_out a)) (e ∙ iso_end-any t s b)
 
-  last_item : (q.width ≡ 0 → ⊥) → given (out_of q) ≡ given (last_out (next no_tables ISO-2022-JP s (b ∷ [])))
-  last_item z = ap (λ (a : Next). given (last_out a)) (sym (item_of q z) ∙ found)
+    pub last_one : (c : ℕ) → q.out ≡ One c → (c ∷ []) ≡ given (last_out (next no_tables ISO-2022-JP s (b ∷ [])))
+    last_one c h = let g : given (out_of q.out) ≡ c ∷ [] = rw h in sym g ∙ last_item
 
-  pub last_error : (q.width ≡ 0 → ⊥) → q.count ≡ 3 → (0xFFFD ∷ []) ≡ given (last_out (next no_tables ISO-2022-JP s (b ∷ [])))
-  last_error z k = let g : given (out_of q) ≡ 0xFFFD ∷ [] = rw (eq-eqb q.count 3 k) in sym g ∙ last_item z
-
-  pub last_one : (q.width ≡ 0 → ⊥) → (q.count ≡ 3 → ⊥) → (q.first ∷ []) ≡ given (last_out (next no_tables ISO-2022-JP s (b ∷ [])))
-  last_one z k = one_of q.count k (ap length (last_item z) ∙ one_out no_tables s b) ∙ last_item z
-    where
-      given_is : (n : ℕ) → Out
-      given_is n = eqb n 3 then error else text (take n (q.first ∷ q.second ∷ []))
-
-      one_of : (n : ℕ) → (n ≡ 3 → ⊥) → length (given (given_is n)) ≡ 1 → (q.first ∷ []) ≡ given (given_is n)
-      one_of zero h l = absurd (omega arith)
-      one_of (suc zero) h l = refl
-      one_of (suc (suc zero)) h l = absurd (omega arith)
-      one_of (suc (suc (suc zero))) h l = absurd (h refl)
-      one_of (suc (suc (suc (suc n)))) h l =
-          let k = rw (ne_eqb (suc (suc (suc (suc n)))) 3 (λ z. omega arith)) at l in
-          absurd (omega (arith, k))
+    -- it is an error, if it is not one scalar
+    pub last_error : ((c : ℕ) → q.out ≡ One c → ⊥) → (0xFFFD ∷ []) ≡ given (last_out (next no_tables ISO-2022-JP s (b ∷ [])))
+    last_error n = alone q.out n (ap length last_item ∙ one_out no_tables s b) ∙ last_item
+      where
+        alone : (o : CodeOut) → ((c : ℕ) → o ≡ One c → ⊥) → length (given (out_of o)) ≡ 1 → (0xFFFD ∷ []) ≡ given (out_of o)
+        alone Error n l = refl
+        alone Nothing n l = absurd (omega arith)
+        alone (One c) n l = absurd (n c refl)
+        alone (Two c d) n l = absurd (omega arith)
 
 -- one byte held; bytes held in an encoding other than ISO-2022-JP; bytes held in any
 pub one_byte : (t : Tables) (f : Family) (s : Shift) (b : ℕ) → ending t f s (b ∷ []) ≡ span 1 error ∷ []
@@ -134,40 +130,40 @@ held_two (suc zero) a b c h g = absurd (g refl)
 held_two (suc (suc n)) a b c h g = (take n (c ∷ []), refl)
 
 -- What the end gives, in the order of the code's tests, behind w scalars with k line feeds among them, and `at` bytes.
-abbrev pub ended : ℕ → ℕ → ℕ → ℕ → List ℕ → Result
-ended n w place k room = record { left = leaves n w place k (spot 0 plain) []; room = room }
+abbrev pub ended : ℕ → ℕ → List ℕ → ReadOutcome
+ended w k room = record { left = Ok (leaves w k (spot 0 plain) []); room = room }
 
 module _ (e m at w k state flag : ℕ) (held : Held) (room : List ℕ) where
   abbrev s : Shift
   s = shift state (eqb flag 1)
 
-  abbrev given_last : Result
+  abbrev given_last : ReadOutcome
   given_last = behind m at w k (ending no_tables (family e) s (bytes_of held)) room
 
-  pub end_none : held.count ≡ 0 → given_last ≡ ended 0 w 0 k room
+  pub end_none : held.count ≡ 0 → given_last ≡ ended w k room
   end_none h = rw (h, no_bytes no_tables (family e) s) (emit_last m at w k [] room ∙ emit_stop m (spot 0 plain) [] at k w room)
 
-  pub end_report : (held.count ≡ 0 → ⊥) → m ≡ 1 → given_last ≡ ended 11 w at k room
+  pub end_report : (held.count ≡ 0 → ⊥) → m ≡ 1 → given_last ≡ record { left = Err (Report w k at); room = room }
   end_report h q =
       let i = held_some held.count held.first held.second held.third h in
       let j = starts_error no_tables (family e) s held.first i.0 in
       rw (i.1, j.2) (emit_last m at w k (span j.0 error ∷ j.1) room ∙ emit_report m j.0 (last j.1) at k w room q)
 
-  one_error_lem : (n : ℕ) → (m ≡ 1 → ⊥) → behind m at w k (span n error ∷ []) room ≡ ended 0 (w + 1) 0 k (patch w (0xFFFD ∷ []) room)
+  one_error_lem : (n : ℕ) → (m ≡ 1 → ⊥) → behind m at w k (span n error ∷ []) room ≡ ended (w + 1) k (patch w (0xFFFD ∷ []) room)
   unfolding shown line_feeds
   one_error_lem n q = rw (ne_eqb m 1 q, add-zero k)
 
-  pub end_one : held.count ≡ 1 → (m ≡ 1 → ⊥) → given_last ≡ ended 0 (w + 1) 0 k (patch w (0xFFFD ∷ []) room)
+  pub end_one : held.count ≡ 1 → (m ≡ 1 → ⊥) → given_last ≡ ended (w + 1) k (patch w (0xFFFD ∷ []) room)
   end_one h q = rw (h, one_byte no_tables (family e) s held.first) (one_error_lem 1 q)
 
-  pub end_other : (held.count ≡ 0 → ⊥) → (m ≡ 1 → ⊥) → (e ≡ 33 → ⊥) → given_last ≡ ended 0 (w + 1) 0 k (patch w (0xFFFD ∷ []) room)
+  pub end_other : (held.count ≡ 0 → ⊥) → (m ≡ 1 → ⊥) → (e ≡ 33 → ⊥) → given_last ≡ ended (w + 1) k (patch w (0xFFFD ∷ []) room)
   end_other h q n =
       let i = held_some held.count held.first held.second held.third h in
       rw (i.1, other_error no_tables e s held.first i.0 n) (one_error_lem (suc (length i.0)) q)
 
   pub end_iso : (c : ℕ) → (held.count ≡ 0 → ⊥) → (held.count ≡ 1 → ⊥) → (m ≡ 1 → ⊥) → e ≡ 33 →
       (c ∷ []) ≡ given (last_out (next no_tables ISO-2022-JP s (held.second ∷ []))) →
-      given_last ≡ ended 0 (w + 2) 0 (k + line_feeds (c ∷ [])) (patch w (0xFFFD ∷ c ∷ []) room)
+      given_last ≡ ended (w + 2) (k + line_feeds (c ∷ [])) (patch w (0xFFFD ∷ c ∷ []) room)
   unfolding family ending iso_end shown line_feeds
   end_iso c h g q n l =
       let i = held_two held.count held.first held.second held.third h g in
@@ -175,4 +171,4 @@ module _ (e m at w k state flag : ℕ) (held : Held) (room : List ℕ) where
       let two : shown (span 1 error ∷ span (suc (length i.0)) o ∷ []) ≡ 0xFFFD ∷ c ∷ [] =
       ap (◌∷◌ 0xFFFD) (shown_cons (suc (length i.0)) o [] ∙ append-nil (given o) ∙ sym l) in
       rw (i.1, n, ne_eqb m 1 q)
-      (ap (λ (cs : List ℕ). ended 0 (w + length cs) 0 (k + line_feeds cs) (patch w cs room)) two)
+      (ap (λ (cs : List ℕ). ended (w + length cs) (k + line_feeds cs) (patch w cs room)) two)

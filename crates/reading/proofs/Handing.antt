@@ -6,8 +6,9 @@ use Prim.Native.Nat.{ℕ, ◌+◌, ◌≤◌}
 use native.Mathlib.Omega.{arith}
 use native.Mathlib.Nat.{add-zero, zero-add}
 use lib.Dec.{T, eqb}
-use lib.ListN.{length, take, length-append, take-append-drop}
+use lib.ListN.{length, take, drop, length-append, take-append-drop}
 use borrow.Author.Tests.{ne_eqb, eq-eqb}
+use Rattle.std.specs.Prelude.{Result, Ok, Err}
 use Rattle.standard.specs.Base.{◌then◌else◌, line_feeds}
 use Rattle.standard.specs.Sequence.{Out, text, error, plain}
 use Rattle.standard.specs.Decode.{Item, span, Read, given, shown, broken, before, widths, reach}
@@ -17,32 +18,42 @@ use Rattle.standard.proofs.LineFeeds.{line_feeds-append}
 use Rattle.runs.specs.Run.{patch, puts}
 use Rattle.runs.proofs.Patches.{patch_none, patch_length, patch_patch}
 use Rattle.runs.proofs.Counting.{shown_none}
-use Rattle.reading.specs.Reading.{leaves, Result, wrote, handed, behind}
+use Rattle.reading.specs.Reading.{leaves, ReadOutcome, reported, wrote, handed, behind}
+use Rattle.reading.specs.declared.Left.{Left}
+use Rattle.reading.specs.declared.Stop.{Stop}
+use Rattle.reading.specs.declared.Stop.TheVariants.{Report}
+
+-- what is answered after w scalars with k line feeds: what is left, and a report
+abbrev goes_on : Spot → List ℕ → ℕ → ℕ → Result Left Stop
+goes_on p xs w k = Ok (leaves w k p xs)
+
+abbrev reports : ℕ → ℕ → ℕ → Result Left Stop
+reports place w k = Err (Report w k place)
 
 -- What is still to be handed out, where `at` bytes are read, and w scalars with l line feeds are written.
-abbrev written : ℕ → ℕ → ℕ → ℕ → List ℕ → Spot → List ℕ → List ℕ → Result
-written n place l w cs p xs room = record { left = leaves n (w + length cs) place (l + line_feeds cs) p xs; room = patch w cs room }
+abbrev written : (ℕ → ℕ → Result Left Stop) → ℕ → ℕ → List ℕ → List ℕ → ReadOutcome
+written left l w cs room = record { left = left (w + length cs) (l + line_feeds cs); room = patch w cs room }
 
-unfoldable pub emit : ℕ → Parsed → ℕ → ℕ → ℕ → List ℕ → Result
+unfoldable pub emit : ℕ → Parsed → ℕ → ℕ → ℕ → List ℕ → ReadOutcome
 emit m r at l w room =
-    eqb m 1 && broken r.items then written 11 (at + reach r.items) l w (before r.items) (spot 0 plain) [] room else
-    written 0 0 l w (shown r.items) r.spot r.rest room
+    eqb m 1 && broken r.items then written (reports (at + reach r.items)) l w (before r.items) room else
+    written (goes_on r.spot r.rest) l w (shown r.items) room
 
 -- from the start, behind a mark of k bytes
 pub emit_start : (m k : ℕ) (r : Parsed) (room : List ℕ) → handed m (eaten k r) room ≡ emit m r k 0 0 room
 unfolding emit broken before shown reach
 emit_start m k r room = go (eqb m 1 && broken r.items)
   where
-    same : (n place : ℕ) (cs : List ℕ) (p : Spot) (xs : List ℕ) → wrote n place cs p xs room ≡ written n place 0 0 cs p xs room
-    same n place cs p xs = rw (zero-add (length cs), zero-add (line_feeds cs))
+    same : (left : ℕ → ℕ → Result Left Stop) (cs : List ℕ) →
+        ◌≡◌ {A = ReadOutcome} (record { left = left (length cs) (line_feeds cs); room = cs ++ drop (length cs) room }) (written left 0 0 cs room)
+    same left cs = rw (zero-add (length cs), zero-add (line_feeds cs))
 
     go : (b : Bool) →
-        (b then wrote 11 (k + reach r.items) (before r.items) (spot 0 plain) [] room else
-        wrote 0 0 (shown r.items) r.spot r.rest room) ≡
-        (b then written 11 (k + reach r.items) 0 0 (before r.items) (spot 0 plain) [] room else
-        written 0 0 0 0 (shown r.items) r.spot r.rest room)
-    go true = same 11 (k + reach r.items) (before r.items) (spot 0 plain) []
-    go false = same 0 0 (shown r.items) r.spot r.rest
+        (b then reported (k + reach r.items) (before r.items) room else wrote (shown r.items) r.spot r.rest room) ≡
+        (b then written (reports (k + reach r.items)) 0 0 (before r.items) room else
+        written (goes_on r.spot r.rest) 0 0 (shown r.items) room)
+    go true = same (reports (k + reach r.items)) (before r.items)
+    go false = same (goes_on r.spot r.rest) (shown r.items)
 
 -- a mark of no bytes
 pub no_mark : (m : ℕ) (r : Parsed) (room : List ℕ) → handed m (eaten 0 r) room ≡ handed m r room
@@ -51,7 +62,7 @@ no_mark m r room = rw (zero-add (reach r.items))
 
 -- at the end: nothing more is written
 pub emit_stop : (m : ℕ) (p : Spot) (xs : List ℕ) (at l w : ℕ) (room : List ℕ) →
-    emit m (record { items = []; spot = p; rest = xs }) at l w room ≡ record { left = leaves 0 w 0 l p xs; room = room }
+    emit m (record { items = []; spot = p; rest = xs }) at l w room ≡ record { left = Ok (leaves w l p xs); room = room }
 unfolding emit broken shown line_feeds
 emit_stop m p xs at l w room = rw (and-false (eqb m 1), add-zero w, add-zero l, append-nil (take w room), take-append-drop w room)
 
@@ -66,18 +77,18 @@ joins g (span w o ∷ is) r = ap (join (span w o ∷ [])) (joins g is r)
 
 -- an error in refusing mode: the report
 pub emit_report : (m k : ℕ) (r : Parsed) (at l w : ℕ) (room : List ℕ) → m ≡ 1 →
-    emit m (join (span k error ∷ []) r) at l w room ≡ record { left = leaves 11 w at l (spot 0 plain) []; room = room }
+    emit m (join (span k error ∷ []) r) at l w room ≡ record { left = Err (Report w l at); room = room }
 unfolding emit broken before reach line_feeds
 emit_report m k r at l w room h =
     rw (eq-eqb m 1 h, add-zero w, add-zero l, add-zero at, append-nil (take w room), take-append-drop w room)
 
 -- any other sequence: its scalars are written, and the rest from there on
-written_put : (n place l w : ℕ) (us vs : List ℕ) (p : Spot) (xs room : List ℕ) → w + length us ≤ length room →
-    written n place l w (us ++ vs) p xs room ≡ written n place (l + line_feeds us) (w + length us) vs p xs (patch w us room)
-written_put n place l w us vs p xs room h =
+written_put : (left : ℕ → ℕ → Result Left Stop) (l w : ℕ) (us vs room : List ℕ) → w + length us ≤ length room →
+    written left l w (us ++ vs) room ≡ written left (l + line_feeds us) (w + length us) vs (patch w us room)
+written_put left l w us vs room h =
     let z : w + length (us ++ vs) ≡ w + length us + length vs = omega (arith, length-append us vs) in
     let y : l + line_feeds (us ++ vs) ≡ l + line_feeds us + line_feeds vs = omega (arith, line_feeds-append us vs) in
-    λ i. record { left = leaves n (z i) place (y i) p xs; room = sym (patch_patch w us vs room h) i }
+    λ i. record { left = left (z i) (y i); room = sym (patch_patch w us vs room h) i }
 
 pub emit_put : (m k : ℕ) (o : Out) (r : Parsed) (at l w : ℕ) (room : List ℕ) →
     (m ≡ 1 → o ≡ error → ⊥) → w + length (given o) ≤ length room →
@@ -87,17 +98,16 @@ unfolding emit broken before shown reach
 emit_put m k (text cs) r at l w room n h = go (eqb m 1 && broken r.items)
   where
     go : (b : Bool) →
-        (b then written 11 (at + (k + reach r.items)) l w (cs ++ before r.items) (spot 0 plain) [] room else
-        written 0 0 l w (cs ++ shown r.items) r.spot r.rest room) ≡
-        (b then written 11 (at + k + reach r.items) (l + line_feeds cs) (w + length cs) (before r.items) (spot 0 plain) []
-        (patch w cs room) else
-        written 0 0 (l + line_feeds cs) (w + length cs) (shown r.items) r.spot r.rest (patch w cs room))
+        (b then written (reports (at + (k + reach r.items))) l w (cs ++ before r.items) room else
+        written (goes_on r.spot r.rest) l w (cs ++ shown r.items) room) ≡
+        (b then written (reports (at + k + reach r.items)) (l + line_feeds cs) (w + length cs) (before r.items) (patch w cs room) else
+        written (goes_on r.spot r.rest) (l + line_feeds cs) (w + length cs) (shown r.items) (patch w cs room))
     go true =
         let p : at + (k + reach r.items) ≡ at + k + reach r.items = omega arith in
-        rw p (written_put 11 (at + k + reach r.items) l w cs (before r.items) (spot 0 plain) [] room h)
-    go false = written_put 0 0 l w cs (shown r.items) r.spot r.rest room h
+        rw p (written_put (reports (at + k + reach r.items)) l w cs (before r.items) room h)
+    go false = written_put (goes_on r.spot r.rest) l w cs (shown r.items) room h
 emit_put m k error r at l w room n h =
-    rw (ne_eqb m 1 (λ z. n z refl)) (written_put 0 0 l w (0xFFFD ∷ []) (shown r.items) r.spot r.rest room h)
+    rw (ne_eqb m 1 (λ z. n z refl)) (written_put (goes_on r.spot r.rest) l w (0xFFFD ∷ []) (shown r.items) room h)
 
 sound_cons : (m k : ℕ) (o : Out) (is : List Item) → (m ≡ 1 → broken (span k o ∷ is) ≡ false) →
     (m ≡ 1 → o ≡ error → ⊥) × (m ≡ 1 → broken is ≡ false)

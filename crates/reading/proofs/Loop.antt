@@ -1,56 +1,40 @@
 -- The feed loop: the bytes held and then the chunk, and what one turn does. Assumes nothing.
 use mathlib.Core.Path.{◌≡◌, refl, sym, ap, ◌∙◌, subst}
-use mathlib.Core.Bool.{Bool, true, false, ◌&&◌}
+use mathlib.Core.Bool.{true, false, ◌&&◌}
 use mathlib.Core.List.{List, [], ◌∷◌, ◌++◌}
-use Prim.Native.Nat.{ℕ, zero, suc, ◌+◌, ◌-◌, ◌≤◌, ◌<◌}
+use Prim.Native.Nat.{ℕ, ◌+◌, ◌-◌, ◌≤◌, ◌<◌}
 use native.Mathlib.Omega.{arith}
 use native.Mathlib.Nat.{add-zero}
 use lib.Dec.{T, eqb}
-use lib.ListN.{length, take, drop, get_or, get_or-append, length-append, length-drop}
-use lib.Seq.{length-take-le, get_or-take, get_or-drop, get_or-append-add, take_all, drop-drop, drop_at}
-use borrow.Author.Tests.{eqb-true, ne_eqb, eq-eqb}
+use lib.ListN.{length, drop, get_or, get_or-append, length-append, length-drop}
+use lib.Seq.{length-take-le, get_or-take, get_or-drop, get_or-append-add, drop-drop, drop_at}
+use borrow.Author.Tests.{eqb-true}
 use Rattle.standard.specs.Base.{line_feeds}
 use Rattle.standard.specs.Encodings.{family, lent}
-use Rattle.standard.specs.Sequence.{Shift, text, error, Next, more, item, shift, plain}
+use Rattle.standard.specs.Sequence.{Shift, Out, text, error, Next, more, shift}
 use Rattle.standard.specs.Next.{next}
 use Rattle.standard.specs.Decode.{Read, put, decode, given, widths}
 use Rattle.standard.specs.Choice.{spot, Parsed, lift}
 use Rattle.standard.proofs.Tests.{and_left, and_right}
-use Rattle.standard.proofs.LineFeeds.{line_feeds-append, line_feeds-length}
+use Rattle.standard.proofs.LineFeeds.{line_feeds-length}
 use Rattle.standard.proofs.Laws.{Laws, Law}
 use Rattle.standard.proofs.FamilyLaws.{keeps, next_laws}
 use Rattle.standard.proofs.Walk.{at_item, at_more, nothing, decode_more, decode_item}
-use Rattle.sequences.specs.Code.{next_of, out_of}
+use Rattle.std.specs.Int.{from_bool}
+use Rattle.std.specs.Prelude.{Ok, Err}
+use Rattle.sequences.specs.Code.{out_of, shift_of, item_of, is_error}
+use Rattle.sequences.proofs.Flags.{flag_kept}
 use Rattle.sequences.specs.declared.Sequence.{Sequence}
 use Rattle.runs.specs.Run.{patch, puts, Runs}
 use Rattle.line_feeds.specs.Parts.{part}
 use Rattle.runs.proofs.Patches.{patch_length}
 use Rattle.runs.proofs.Running.{ran_widths}
 use Rattle.runs.proofs.Counting.{runs_part, runs_fewer}
-use Rattle.reading.specs.Reading.{bytes_of, bit, leaves, Result, past}
+use Rattle.reading.specs.Reading.{bytes_of, bit, leaves, ReadOutcome, past}
 use Rattle.reading.specs.declared.Held.{Held}
 use Rattle.reading.specs.declared.Left.{Left}
+use Rattle.reading.specs.declared.Stop.TheVariants.{Report}
 use Rattle.reading.proofs.Handing.{emit, emit_start, emit_stop, emit_report, emit_put, emit_puts}
-
--- what a sequence gives, by its count
-pub out_error : (q : Sequence) → q.count ≡ 3 → given (out_of q) ≡ 0xFFFD ∷ []
-out_error q h = rw (eq-eqb q.count 3 h)
-
-pub out_none : (q : Sequence) → q.count ≡ 0 → given (out_of q) ≡ []
-out_none q h = rw h
-
-pub out_one : (q : Sequence) → q.count ≡ 1 → given (out_of q) ≡ q.first ∷ []
-out_one q h = rw h
-
-pub out_two : (q : Sequence) → (q.count ≡ 3 → ⊥) → (q.count ≡ 0 → ⊥) → (q.count ≡ 1 → ⊥) → given (out_of q) ≡ q.first ∷ q.second ∷ []
-out_two q h g k = rw (ne_eqb q.count 3 h) (take_all q.count (q.first ∷ q.second ∷ []) (omega arith))
-
-pub out_some : (q : Sequence) → (q.count ≡ 3 → ⊥) → (q.count ≡ 0 → ⊥) → 1 ≤ length (given (out_of q))
-out_some q h g = rw (ne_eqb q.count 3 h) (go q.count g)
-  where
-    go : (n : ℕ) → (n ≡ 0 → ⊥) → 1 ≤ length (take n (q.first ∷ q.second ∷ []))
-    go zero z = absurd (z refl)
-    go (suc n) z = omega arith
 
 -- the bytes held and then the chunk
 module _ (held : Held) (chunk : List ℕ) (h : held.count ≤ 3) where
@@ -76,22 +60,6 @@ module _ (held : Held) (chunk : List ℕ) (h : held.count ≤ 3) where
 pub third_is : (a b c i : ℕ) → i < 3 → (i ≡ 0 → ⊥) → (i ≡ 1 → ⊥) → get_or (a ∷ b ∷ c ∷ []) i 0 ≡ c
 third_is a b c i h g k = let e : i ≡ 2 = omega arith in rw e
 
--- the line feeds of a sequence, by its count
-pub feeds_error : (q : Sequence) → q.count ≡ 3 → 0 ≡ line_feeds (given (out_of q))
-unfolding line_feeds
-feeds_error q h = rw (out_error q h)
-
-pub feeds_none : (q : Sequence) → q.count ≡ 0 → 0 ≡ line_feeds (given (out_of q))
-unfolding line_feeds
-feeds_none q h = rw (out_none q h)
-
-pub feeds_one : (q : Sequence) → q.count ≡ 1 → line_feeds (q.first ∷ []) ≡ line_feeds (given (out_of q))
-feeds_one q h = rw (out_one q h)
-
-pub feeds_two : (q : Sequence) → (q.count ≡ 3 → ⊥) → (q.count ≡ 0 → ⊥) → (q.count ≡ 1 → ⊥) →
-    line_feeds (q.first ∷ []) + line_feeds (q.second ∷ []) ≡ line_feeds (given (out_of q))
-feeds_two q h g k = rw (out_two q h g k) (sym (line_feeds-append (q.first ∷ []) (q.second ∷ [])))
-
 -- How the loop was called.
 pub record Args : Type 0 where
   pub encoding : ℕ
@@ -115,7 +83,7 @@ bytes_in a = bytes_of a.held ++ a.chunk
 abbrev pub count_in : Args → ℕ
 count_in a = a.held.count + length a.chunk
 
-abbrev pub wanted : Args → List ℕ → Result
+abbrev pub wanted : Args → List ℕ → ReadOutcome
 wanted a room =
     past a.encoding a.mode a.stage a.state a.flag a.held a.mark (lent a.first a.second) a.chunk room
 
@@ -149,22 +117,6 @@ start_running a room h l r k = record {
   outcome = emit_start a.mode a.mark (read_in a (shift a.state (eqb a.flag 1)) a.mark) room;
 }
 
-pub item_of : (q : Sequence) → (q.width ≡ 0 → ⊥) → next_of q ≡ item q.width (shift q.state (eqb q.flag 1)) (out_of q)
-item_of q h = rw (ne_eqb q.width 0 h)
-
-error_count : (q : Sequence) → out_of q ≡ error → q.count ≡ 3
-error_count q h = go (eqb q.count 3) refl
-  where
-    go : (b : Bool) → eqb q.count 3 ≡ b → q.count ≡ 3
-    go true e = eqb-true q.count 3 e
-    go false e =
-        let k : text (take q.count (q.first ∷ q.second ∷ [])) ≡ error = rw e at h in
-        let z : ◌≡◌ {A = ℕ} 0 1 = cc in
-        absurd (omega arith)
-
-count_error : (q : Sequence) → q.count ≡ 3 → out_of q ≡ error
-count_error q h = rw (eq-eqb q.count 3 h)
-
 -- at most three bytes behind a place, as bytes held
 pub leaves_is : (held : Held) (chunk : List ℕ) (at stage state flag w l : ℕ) → held.count ≤ 3 →
     (kept have b0 b1 b2 : ℕ) → kept ≡ bit (eqb flag 1) → have ≡ held.count + length chunk - at →
@@ -172,15 +124,13 @@ pub leaves_is : (held : Held) (chunk : List ℕ) (at stage state flag w l : ℕ)
     ◌≡◌ {A = Left}
     (record {
       written = w;
-      place = 0;
       lines = l;
-      refusal = 0;
       stage = stage;
       state = state;
       flag = kept;
       held = record { count = have; first = b0; second = b1; third = b2 };
     })
-    (leaves 0 w 0 l (spot stage (shift state (eqb flag 1))) (drop at (bytes_of held ++ chunk)))
+    (leaves w l (spot stage (shift state (eqb flag 1))) (drop at (bytes_of held ++ chunk)))
 leaves_is held chunk at stage state flag w l h kept have b0 b1 b2 k c p0 p1 p2 =
     let xs = bytes_of held ++ chunk in
     let n : have ≡ length (drop at xs) = c ∙ sym (left_count held chunk h at) in
@@ -189,18 +139,15 @@ leaves_is held chunk at stage state flag w l h kept have b0 b1 b2 k c p0 p1 p2 =
     let f2 = p2 ∙ sym (get_or-drop at xs 2 0) in
     λ i. record {
       written = w;
-      place = 0;
       lines = l;
-      refusal = 0;
       stage = stage;
       state = state;
       flag = k i;
       held = record { count = n i; first = f0 i; second = f1 i; third = f2 i };
     }
 
--- One turn, with the sequence found at the place.
-module _ {a : Args} {room₀ room : List ℕ} {at state flag w l : ℕ} (R : Running a room₀ room at state flag w l) (q : Sequence)
-    (here : next_of q ≡ next_in a (shift state (eqb flag 1)) (drop at (bytes_in a))) where
+-- One turn, with what was found at the place.
+module _ {a : Args} {room₀ room : List ℕ} {at state flag w l : ℕ} (R : Running a room₀ room at state flag w l) where
   abbrev s : Shift
   s = shift state (eqb flag 1)
 
@@ -210,63 +157,58 @@ module _ {a : Args} {room₀ room : List ℕ} {at state flag w l : ℕ} (R : Run
   left : length left_over ≡ count_in a - at
   left = left_count a.held a.chunk R.few at
 
-  module _ (z : q.width ≡ 0) where
-    waits : next_in a s left_over ≡ more
-    waits = sym here ∙ rw (eq-eqb q.width 0 z)
-
+  -- no whole sequence
+  module _ (waits : next_in a s left_over ≡ more) where
     pub turn_few : count_in a - at ≤ 3
     turn_few = omega (arith, left, (at_more (keeps (family a.encoding)) (next_in a) (laws a) s left_over waits).0)
 
-    pub turn_more : wanted a room₀ ≡ record { left = leaves 0 w 0 l (spot a.stage s) left_over; room = room }
+    pub turn_more : wanted a room₀ ≡ record { left = Ok (leaves w l (spot a.stage s) left_over); room = room }
     turn_more = R.outcome ∙ rw (decode_more (keeps (family a.encoding)) (next_in a) (laws a) s left_over waits)
         (emit_stop a.mode (spot a.stage s) left_over at l w room)
 
-  module _ (z : q.width ≡ 0 → ⊥) where
-    goes : next_in a s left_over ≡ item q.width (shift q.state (eqb q.flag 1)) (out_of q)
-    goes = sym here ∙ item_of q z
-
-    law : Law (keeps (family a.encoding)) left_over (item q.width (shift q.state (eqb q.flag 1)) (out_of q))
-        (next_in a s (left_over ++ []))
-    law = at_item (keeps (family a.encoding)) (next_in a) (laws a) s left_over goes []
+  -- a sequence
+  module _ (q : Sequence) (here : item_of q ≡ next_in a s left_over) where
+    law : Law (keeps (family a.encoding)) left_over (item_of q) (next_in a s (left_over ++ []))
+    law = at_item (keeps (family a.encoding)) (next_in a) (laws a) s left_over (sym here) []
 
     pub turn_width : (1 ≤ q.width) × (q.width ≤ count_in a - at)
     turn_width = (law.1, omega (arith, left, law.2))
 
-    pub turn_space : w + length (given (out_of q)) ≤ length room
+    pub turn_space : w + length (given (out_of q.out)) ≤ length room
     turn_space = omega (arith, left, law.2, law.3, R.space)
 
     read : decode (next_in a) s left_over ≡
-        put q.width (out_of q) (decode (next_in a) (shift q.state (eqb q.flag 1)) (drop q.width left_over))
-    read = decode_item (keeps (family a.encoding)) (next_in a) (laws a) s left_over goes
+        put q.width (out_of q.out) (decode (next_in a) (shift_of q.shift) (drop q.width left_over))
+    read = decode_item (keeps (family a.encoding)) (next_in a) (laws a) s left_over (sym here)
 
-    pub turn_report : a.mode ≡ 1 → q.count ≡ 3 → wanted a room₀ ≡ record { left = leaves 11 w at l (spot 0 plain) []; room = room }
-    turn_report m k = R.outcome ∙ rw (read, count_error q k) (emit_report a.mode q.width _ at l w room m)
+    pub turn_report : a.mode ≡ 1 → out_of q.out ≡ error → wanted a room₀ ≡ record { left = Err (Report w l at); room = room }
+    turn_report m k = R.outcome ∙ rw (read, k) (emit_report a.mode q.width _ at l w room m)
 
     -- the sum of line feeds stays below that of scalars
-    pub turn_fewer : l + line_feeds (given (out_of q)) ≤ w + length (given (out_of q))
-    turn_fewer = omega (arith, R.fewer, line_feeds-length (given (out_of q)))
+    pub turn_fewer : l + line_feeds (given (out_of q.out)) ≤ w + length (given (out_of q.out))
+    turn_fewer = omega (arith, R.fewer, line_feeds-length (given (out_of q.out)))
 
     -- the place after it stays small
     pub turn_at : at + q.width ≤ 65539
     turn_at = omega (arith, R.few, R.short, R.place, turn_width.1)
 
-    pub turn_on : (a.mode ≡ 1 → q.count ≡ 3 → ⊥) →
-        Running a room₀ (patch w (given (out_of q)) room) (at + q.width) q.state q.flag
-        (w + length (given (out_of q))) (l + line_feeds (given (out_of q)))
-    turn_on k = record {
+    pub turn_on : (byte : ℕ) → byte ≡ from_bool q.shift.flag → (a.mode ≡ 1 → out_of q.out ≡ error → ⊥) →
+        Running a room₀ (patch w (given (out_of q.out)) room) (at + q.width) q.shift.state byte
+        (w + length (given (out_of q.out))) (l + line_feeds (given (out_of q.out)))
+    turn_on byte e k = record {
       few = R.few;
       short = R.short;
       place = omega (arith, turn_width.1, R.place);
-      space = omega (arith, patch_length room w (given (out_of q)) turn_space, law.3, turn_width.1, R.space, R.place);
-      size = patch_length room w (given (out_of q)) turn_space ∙ R.size;
+      space = omega (arith, patch_length room w (given (out_of q.out)) turn_space, law.3, turn_width.1, R.space, R.place);
+      size = patch_length room w (given (out_of q.out)) turn_space ∙ R.size;
       fewer = turn_fewer;
-      outcome = R.outcome ∙ rw read (emit_put a.mode q.width (out_of q) _ at l w room (λ m e. k m (error_count q e)) turn_space ∙
-          rw (drop-drop q.width at (bytes_in a)) refl);
+      outcome = R.outcome ∙ rw read (emit_put a.mode q.width (out_of q.out) _ at l w room k turn_space ∙
+          rw (drop-drop q.width at (bytes_in a), e, flag_kept q.shift.flag) refl);
     }
 
 -- No byte is left.
 pub turn_done : {a : Args} {room₀ room : List ℕ} {at state flag w l : ℕ} → Running a room₀ room at state flag w l → count_in a ≤ at →
-    wanted a room₀ ≡ record { left = leaves 0 w 0 l (spot a.stage (shift state (eqb flag 1))) (drop at (bytes_in a)); room = room }
+    wanted a room₀ ≡ record { left = Ok (leaves w l (spot a.stage (shift state (eqb flag 1))) (drop at (bytes_in a))); room = room }
 turn_done {a} {room₀} {room} {at} {state} {flag} {w} {l} R h =
     let s = shift state (eqb flag 1) in
     let z : length (drop at (bytes_in a)) ≤ 0 = omega (arith, left_count a.held a.chunk R.few at) in
@@ -280,16 +222,21 @@ none_left [] h = refl
 none_left (x ∷ xs) h = absurd (omega arith)
 
 pub turn_none : {a : Args} {room₀ room : List ℕ} {at state flag w l : ℕ} → Running a room₀ room at state flag w l → count_in a ≤ at →
-    wanted a room₀ ≡ record { left = leaves 0 w 0 l (spot a.stage (shift state (eqb flag 1))) []; room = room }
+    wanted a room₀ ≡ record { left = Ok (leaves w l (spot a.stage (shift state (eqb flag 1))) []); room = room }
 turn_none {a} {room₀} {room} {at} {state} {flag} {w} {l} R h =
     let z : length (drop at (bytes_in a)) ≤ 0 = omega (arith, left_count a.held a.chunk R.few at) in
     turn_done R h ∙ rw (none_left (drop at (bytes_in a)) z)
 
-pub stops_no : (m n : ℕ) → eqb m 1 && eqb n 3 ≡ false → m ≡ 1 → n ≡ 3 → ⊥
-stops_no m n h p q = let k : true ≡ false = rw (p, q) at h in subst T k tt
+pub stops_no : (m : ℕ) (o : Out) → eqb m 1 && is_error o ≡ false → m ≡ 1 → o ≡ error → ⊥
+stops_no m o h p q = let k : true ≡ false = rw (p, q) at h in subst T k tt
 
-pub stops_yes : (m n : ℕ) → eqb m 1 && eqb n 3 ≡ true → (m ≡ 1) × (n ≡ 3)
-stops_yes m n h = (eqb-true m 1 (and_left (eqb m 1) (eqb n 3) h), eqb-true n 3 (and_right (eqb m 1) (eqb n 3) h))
+-- an error that ends the reading
+pub stops_yes : (m : ℕ) (o : Out) → eqb m 1 && is_error o ≡ true → (m ≡ 1) × (o ≡ error)
+stops_yes m o h = (eqb-true m 1 (and_left (eqb m 1) (is_error o) h), told o (and_right (eqb m 1) (is_error o) h))
+  where
+    told : (o : Out) → is_error o ≡ true → o ≡ error
+    told (text cs) k = absurd (subst T (sym k) tt)
+    told error k = refl
 
 -- From a place of the chunk to a place of the bytes held and then the chunk.
 module _ (held : Held) (chunk : List ℕ) (few : held.count ≤ 3) where

@@ -1,13 +1,15 @@
 -- The end of input while the bytes held wait for the choice: the label's encoding reads them, and then comes the end. Assumes nothing.
-use mathlib.Core.Path.{◌≡◌, refl, sym, ap, ◌∙◌}
+use mathlib.Core.Path.{◌≡◌, refl, sym, ap, ◌∙◌, subst}
 use mathlib.Core.Bool.{Bool, true, false, ◌&&◌}
 use mathlib.Core.List.{List, [], ◌∷◌, ◌++◌, append-nil}
 use Prim.Native.Nat.{ℕ, ◌+◌, ◌-◌, ◌≤◌}
 use native.Mathlib.Omega.{arith}
 use native.Mathlib.Nat.{zero-add}
-use lib.Dec.{eqb}
+use lib.Dec.{T, eqb}
 use lib.ListN.{length, drop, length-append}
 use borrow.Author.Tests.{eq-eqb}
+use Rattle.std.specs.Prelude.{Result, Ok, Err}
+use Rattle.std.specs.Result.{is_ok}
 use Rattle.standard.specs.Base.{line_feeds}
 use Rattle.standard.specs.Encodings.{Tables, family, no_tables}
 use Rattle.standard.specs.Sequence.{Shift, shift, plain}
@@ -21,9 +23,10 @@ use Rattle.standard.proofs.LineFeeds.{line_feeds-length}
 use Rattle.standard.proofs.Reading.{reading, ending_any}
 use Rattle.runs.specs.Run.{patch}
 use Rattle.runs.proofs.Patches.{patch_length}
-use Rattle.reading.specs.Reading.{bytes_of, hold, bit, leaves, Result, handed, past, behind, ends}
+use Rattle.reading.specs.Reading.{bytes_of, hold, bit, leaves, ReadOutcome, handed, past, behind, ends}
 use Rattle.reading.specs.declared.Held.{Held}
 use Rattle.reading.specs.declared.Left.{Left}
+use Rattle.reading.specs.declared.Stop.{Stop}
 use Rattle.reading.proofs.Loop.{held_length}
 use Rattle.reading.proofs.Handing.{emit, emit_start, no_mark, emit_join, last, emit_last}
 
@@ -61,40 +64,41 @@ module _ (e m : ℕ) (held : Held) (t : Tables) (room : List ℕ) where
   last_items = ending t (family e) (read_held e held t).shift (read_held e held t).rest
 
   -- a report stays: the end changes nothing before it
-  pub wait_report : {left : Left} {room' : List ℕ} →
+  pub wait_report : {left : Result Left Stop} {stop : Stop} {room' : List ℕ} →
       left ≡ (past e m 0 0 0 held 0 t [] room).left → room' ≡ (past e m 0 0 0 held 0 t [] room).room →
-      left.refusal ≡ 11 → (left ≡ (ends e m 1 0 0 held t room).left) × (room' ≡ (ends e m 1 0 0 held t room).room)
+      left ≡ Err stop → (left ≡ (ends e m 1 0 0 held t room).left) × (room' ≡ (ends e m 1 0 0 held t room).room)
   unfolding end_from everything
   wait_report p q h =
-      let eleven = sym (ap (λ (l : Left). l.refusal) (p ∙ ap (λ (r : Result). r.left) loop_is)) ∙ h in
-      let same = loop_is ∙ go (eqb m 1) (broken is) refl refl eleven in
-      (p ∙ ap (λ (r : Result). r.left) same, q ∙ ap (λ (r : Result). r.room) same)
+      let not_all = sym (ap is_ok (p ∙ ap (λ (r : ReadOutcome). r.left) loop_is)) ∙ ap is_ok h in
+      let same = loop_is ∙ go (eqb m 1) (broken is) refl refl not_all in
+      (p ∙ ap (λ (r : ReadOutcome). r.left) same, q ∙ ap (λ (r : ReadOutcome). r.room) same)
     where
       is : List Item
       is = (read_held e held t).items
 
-      go : (x y : Bool) → eqb m 1 ≡ x → broken is ≡ y → (handed m (lift 0 (read_held e held t)) room).left.refusal ≡ 11 →
+      go : (x y : Bool) → eqb m 1 ≡ x → broken is ≡ y → is_ok (handed m (lift 0 (read_held e held t)) room).left ≡ false →
           handed m (lift 0 (read_held e held t)) room ≡ handed m (last (is ++ last_items)) room
       go true true p q h = rw (p, broken_append is last_items, q, before_broken is last_items q, reach_broken is last_items q)
-      go true false p q h = let z = rw (p, q) at h in absurd (omega arith)
-      go false y p q h = let z = rw p at h in absurd (omega arith)
+      go true false p q h = let z : true ≡ false = rw (p, q) at h in absurd (subst T z tt)
+      go false y p q h = let z : true ≡ false = rw p at h in absurd (subst T z tt)
 
-  sound : ((handed m (lift 0 (read_held e held t)) room).left.refusal ≡ 11 → ⊥) → eqb m 1 && broken (read_held e held t).items ≡ false
+  sound : is_ok (handed m (lift 0 (read_held e held t)) room).left ≡ true → eqb m 1 && broken (read_held e held t).items ≡ false
   sound h = go (eqb m 1 && broken (read_held e held t).items) refl
     where
       go : (b : Bool) → eqb m 1 && broken (read_held e held t).items ≡ b → eqb m 1 && broken (read_held e held t).items ≡ false
-      go true q = absurd (h (rw q))
+      go true q = let z : false ≡ true = rw q at h in absurd (subst T (sym z) tt)
       go false q = q
 
   pub waited : {left : Left} {room' : List ℕ} → held.count ≤ 3 → held.count ≤ length room →
-      left ≡ (past e m 0 0 0 held 0 t [] room).left → room' ≡ (past e m 0 0 0 held 0 t [] room).room →
-      (left.refusal ≡ 11 → ⊥) → Waited e m held t room left room'
+      Ok left ≡ (past e m 0 0 0 held 0 t [] room).left → room' ≡ (past e m 0 0 0 held 0 t [] room).room →
+      Waited e m held t room left room'
   unfolding end_from everything
-  waited {left} {room'} few fits p q h =
-      let here = p ∙ ap (λ (r : Result). r.left) loop_is in
-      let unbroken = sound (λ z. h (ap (λ (l : Left). l.refusal) here ∙ z)) in
-      let left_is : left ≡ leaves 0 (length us) 0 (line_feeds us) (spot 0 s) rest = here ∙ rw unbroken in
-      let room-is : room' ≡ us ++ drop (length us) room = q ∙ ap (λ (r : Result). r.room) loop_is ∙ rw unbroken in
+  waited {left} {room'} few fits p q =
+      let here = p ∙ ap (λ (r : ReadOutcome). r.left) loop_is in
+      let unbroken = sound (sym (ap is_ok here)) in
+      let ok_is : ◌≡◌ {A = Result Left Stop} (Ok left) (Ok (leaves (length us) (line_feeds us) (spot 0 s) rest)) = here ∙ rw unbroken in
+      let left_is : left ≡ leaves (length us) (line_feeds us) (spot 0 s) rest = cc in
+      let room-is : room' ≡ us ++ drop (length us) room = q ∙ ap (λ (r : ReadOutcome). r.room) loop_is ∙ rw unbroken in
       rw (left_is, room-is) (go (λ z. rw (eq-eqb m 1 z) at unbroken))
     where
       is : List Item
@@ -110,7 +114,7 @@ module _ (e m : ℕ) (held : Held) (t : Tables) (room : List ℕ) where
       rest = (read_held e held t).rest
 
       go : (m ≡ 1 → broken is ≡ false) →
-          Waited e m held t room (leaves 0 (length us) 0 (line_feeds us) (spot 0 s) rest) (us ++ drop (length us) room)
+          Waited e m held t room (leaves (length us) (line_feeds us) (spot 0 s) rest) (us ++ drop (length us) room)
       go unbroken =
           let f = family e in
           let R = reading (keeps f) (next t f) (next_laws t f) plain (bytes_of held) in

@@ -7,17 +7,17 @@ ghost use Rattle.standard.specs.Sequence.{shift};
 ghost use Rattle.standard.specs.Next.{next};
 ghost use Rattle.standard.specs.Decode.{given};
 ghost use Rattle.standard.specs.Choice.{spot, choose};
-ghost use Rattle.sequences.specs.Code.{next_of, out_of};
+ghost use Rattle.sequences.specs.Code.{next_of, out_of, is_error};
 ghost use Rattle.runs.specs.Run.{patch, placed};
 ghost use Rattle.runs.specs.Counts.{Counts};
 ghost use Rattle.reading.specs.Reading.{bytes_of, bit, leaves, past, chosen_of, behind_mark, at_spot, start_of, read_chunk};
 
-use crate::choice::{choose, reader};
+use crate::choice::{Chosen, choose, reader};
 use crate::run::{run, uncounted};
-use crate::{Held, Left, ended, unread};
+use crate::{Held, Left, Refusal, Stop};
 use line_feeds::one_scalar;
 use runs::{Counted, Place};
-use sequences::{Sequence, next};
+use sequences::{Out, Sequence, next};
 
 // The byte at a place of the bytes held and then the chunk; 0 past their end.
 fn byte_at(held: Held, chunk: &[u8], i: usize) -> u8
@@ -32,78 +32,63 @@ fn byte_at(held: Held, chunk: &[u8], i: usize) -> u8
         }
         return 0;
     }
-    if i == 0 {
-        return held.first;
+    match i {
+        0 => held.first,
+        1 => held.second,
+        _ => held.third,
     }
-    if i == 1 {
-        return held.second;
-    }
-    held.third
 }
 
-// The scalars of a sequence, written from a place on; an error is U+FFFD. The place after them.
-pub(crate) fn put(room: &mut [u32], written: usize, q: Sequence) -> usize
-    requires { written + length (given (out_of q)) ≤ length room.old }
-    ensures { (result ≡ written + length (given (out_of q))) × (room.new ≡ patch written (given (out_of q)) room.old) }
+// What a sequence gives, written from a place on; an error is U+FFFD. The place after it.
+pub(crate) fn put(room: &mut [u32], written: usize, out: Out) -> usize
+    requires { written + length (given (out_of out)) ≤ length room.old }
+    ensures { (result ≡ written + length (given (out_of out))) × (room.new ≡ patch written (given (out_of out)) room.old) }
 {
-    let count = q.count;
-    if count == 3 {
-        room[written] = 0xFFFD;
-        return written + 1;
+    match out {
+        Out::Error => {
+            room[written] = 0xFFFD;
+            written + 1
+        }
+        Out::Nothing => written,
+        Out::One(c) => {
+            room[written] = c;
+            written + 1
+        }
+        Out::Two(first, second) => {
+            room[written] = first;
+            room[written + 1] = second;
+            written + 2
+        }
     }
-    if count == 0 {
-        return written;
-    }
-    let first = q.first;
-    let second = q.second;
-    room[written] = first;
-    if count == 1 {
-        return written + 1;
-    }
-    room[written + 1] = second;
-    written + 2
 }
 
-// The line feeds among the scalars of a sequence.
-pub(crate) fn feeds(q: Sequence) -> usize
-    ensures { result ≡ line_feeds (given (out_of q)) }
+// The line feeds among what a sequence gives.
+pub(crate) fn feeds(out: Out) -> usize
+    ensures { result ≡ line_feeds (given (out_of out)) }
 {
-    let count = q.count;
-    if count == 3 {
-        return 0;
+    match out {
+        Out::Error => 0,
+        Out::Nothing => 0,
+        Out::One(c) => one_scalar(c) as usize,
+        Out::Two(first, second) => one_scalar(first) as usize + one_scalar(second) as usize,
     }
-    if count == 0 {
-        return 0;
-    }
-    let first = one_scalar(q.first);
-    if count == 1 {
-        return first as usize;
-    }
-    let second = one_scalar(q.second);
-    first as usize + second as usize
 }
 
 // Does an error end the reading?
-pub(crate) fn stops(mode: u8, count: u8) -> bool
-    ensures { result ≡ (eqb mode 1 && eqb count 3) }
+pub(crate) fn stops(mode: u8, out: Out) -> bool
+    ensures { result ≡ (eqb mode 1 && is_error (out_of out)) }
 {
-    if mode == 1 {
-        return count == 3;
-    }
-    false
+    mode == 1 && out.is_error()
 }
 
 // 1 for 1, and 0 for any other number
 fn bit(flag: u8) -> u8
     ensures { result ≡ bit (eqb flag 1) }
 {
-    if flag == 1 {
-        return 1;
-    }
-    0
+    u8::from(flag == 1)
 }
 
-// The sequence at a place of the bytes held and then the chunk.
+// The sequence at a place of the bytes held and then the chunk; none where more bytes are wanted.
 pub(crate) fn sequence_at(
     encoding: u8,
     held: Held,
@@ -113,7 +98,7 @@ pub(crate) fn sequence_at(
     at: usize,
     state: u8,
     flag: u8,
-) -> Sequence
+) -> Option<Sequence>
     requires { (held.count ≤ 3) × (length chunk.now ≤ 65536) × (at ≤ held.count + length chunk.now) }
     ensures { next_of result ≡ next (lent t1.now t2.now) (family encoding)
         (shift state (eqb flag 1)) (drop at (bytes_of held ++ chunk.now)) }
@@ -139,7 +124,7 @@ pub(crate) fn holds(
 ) -> Left
     requires { (held.count ≤ 3) × (length chunk.now ≤ 65536) × (at ≤ held.count + length chunk.now)
         × (held.count + length chunk.now - at ≤ 3) }
-    ensures { result ≡ leaves 0 written 0 lines (spot stage (shift state (eqb flag 1))) (drop at (bytes_of held ++ chunk.now)) }
+    ensures { result ≡ leaves written lines (spot stage (shift state (eqb flag 1))) (drop at (bytes_of held ++ chunk.now)) }
 {
     let have = held.count as usize + chunk.len() - at;
     let first = byte_at(held, &*chunk, at);
@@ -148,9 +133,7 @@ pub(crate) fn holds(
     let kept = bit(flag);
     Left {
         written,
-        place: 0,
         lines,
-        refusal: 0,
         stage,
         state,
         flag: kept,
@@ -165,23 +148,16 @@ pub(crate) fn holds(
 
 // No byte to read: nothing is written, and nothing held.
 fn untouched(stage: u8, state: u8, flag: u8) -> Left
-    ensures { result ≡ leaves 0 0 0 0 (spot stage (shift state (eqb flag 1))) [] }
+    ensures { result ≡ leaves 0 0 (spot stage (shift state (eqb flag 1))) [] }
 {
     let kept = bit(flag);
     Left {
         written: 0,
-        place: 0,
         lines: 0,
-        refusal: 0,
         stage,
         state,
         flag: kept,
-        held: Held {
-            count: 0,
-            first: 0,
-            second: 0,
-            third: 0,
-        },
+        held: Held::NONE,
     }
 }
 
@@ -247,7 +223,7 @@ fn read_all(
     room: &mut [u32],
     state: u8,
     flag: u8,
-) -> Left
+) -> Result<Left, Stop>
     requires { (held.count ≤ 3) × (length chunk.now ≤ 65536) × (length chunk.now + held.count ≤ length room.old)
         × (mark ≤ held.count + length chunk.now) }
     ensures { (result ≡ (past encoding mode stage state flag held mark
@@ -256,7 +232,7 @@ fn read_all(
         (lent t1.now t2.now) chunk.now room.old).room) }
 {
     if mark == held.count as usize + chunk.len() {
-        return untouched(stage, state, flag);
+        return Ok(untouched(stage, state, flag));
     }
     let mut at = mark;
     let mut s = state;
@@ -273,24 +249,27 @@ fn read_all(
         s = p.state;
         f = p.flag;
         if at == held.count as usize + chunk.len() {
-            return holds(held, &*chunk, at, stage, s, f, written, lines);
+            return Ok(holds(held, &*chunk, at, stage, s, f, written, lines));
         }
-        let q = sequence_at(encoding, held, &*chunk, &*t1, &*t2, at, s, f);
-        if q.width == 0 {
-            return holds(held, &*chunk, at, stage, s, f, written, lines);
+        let Some(q) = sequence_at(encoding, held, &*chunk, &*t1, &*t2, at, s, f) else {
+            return Ok(holds(held, &*chunk, at, stage, s, f, written, lines));
+        };
+        if stops(mode, q.out) {
+            return Err(Stop::Report {
+                written,
+                lines,
+                place: at,
+            });
         }
-        if stops(mode, q.count) {
-            return ended(11, written, at, lines);
-        }
-        written = put(room, written, q);
-        lines += feeds(q);
+        written = put(room, written, q.out);
+        lines += feeds(q.out);
         at += q.width as usize;
-        s = q.state;
-        f = q.flag;
+        s = q.shift.state;
+        f = u8::from(q.shift.flag);
     }
 }
 
-// Where reading starts: the encoding that reads, the stage, the bytes of a mark before it, and the shift. Stage 1 says that the bytes wait.
+// Where reading starts: the encoding that reads, the stage, the bytes of a mark before it, and the shift.
 #[derive(Clone, Copy)]
 pub struct Start {
     pub reads: u8,
@@ -314,34 +293,45 @@ fn at_spot(encoding: u8, stage: u8, state: u8, flag: u8) -> Start
     }
 }
 
-// Reading starts where the first bytes choose.
-fn at_choice(encoding: u8, held: Held, chunk: &[u8]) -> Start
+// Reading starts where the first bytes choose; nowhere while they wait.
+fn at_choice(encoding: u8, held: Held, chunk: &[u8]) -> Option<Start>
     requires { (held.count ≤ 3) × (length chunk.now ≤ 65536) }
     ensures { result ≡ behind_mark encoding (chosen_of (choose (bytes_of held ++ chunk.now))) }
 {
     let first = byte_at(held, &*chunk, 0);
     let second = byte_at(held, &*chunk, 1);
     let third = byte_at(held, &*chunk, 2);
-    let c = choose(first, second, third, held.count as usize + chunk.len());
-    let reads = reader(encoding, c.stage);
-    Start {
-        reads,
-        stage: c.stage,
-        mark: c.width,
-        state: 0,
-        flag: 0,
+    match choose(first, second, third, held.count as usize + chunk.len()) {
+        Chosen::Waits => None,
+        Chosen::Label => Some(Start {
+            reads: encoding,
+            stage: 0,
+            mark: 0,
+            state: 0,
+            flag: 0,
+        }),
+        Chosen::Marked { width, stage } => {
+            let reads = reader(encoding, stage);
+            Some(Start {
+                reads,
+                stage,
+                mark: width,
+                state: 0,
+                flag: 0,
+            })
+        }
     }
 }
 
 // Reading starts at a spot, or where the first bytes choose.
-fn start_of(encoding: u8, stage: u8, held: Held, chunk: &[u8], state: u8, flag: u8) -> Start
+fn start_of(encoding: u8, stage: u8, held: Held, chunk: &[u8], state: u8, flag: u8) -> Option<Start>
     requires { (held.count ≤ 3) × (length chunk.now ≤ 65536) }
     ensures { result ≡ start_of encoding stage state flag (bytes_of held ++ chunk.now) }
 {
-    if stage != 1 {
-        return at_spot(encoding, stage, state, flag);
+    if stage == 1 {
+        return at_choice(encoding, held, &*chunk);
     }
-    at_choice(encoding, held, &*chunk)
+    Some(at_spot(encoding, stage, state, flag))
 }
 
 // A chunk behind the bytes held, read from a spot into the room, where at most so many bytes may be read.
@@ -357,30 +347,29 @@ pub fn read(
     room: &mut [u32],
     state: u8,
     flag: u8,
-) -> Left
+) -> Result<Left, Stop>
     ensures { (result ≡ (read_chunk encoding mode stage state flag held most
         (lent t1.now t2.now) chunk.now room.old).left)
         × (room.new ≡ (read_chunk encoding mode stage state flag held most
         (lent t1.now t2.now) chunk.now room.old).room) }
 {
     if 3 < held.count {
-        return unread(5, stage, state, flag, held);
+        return Err(Stop::Refused(Refusal::TooManyHeld));
     }
     if 65536 < chunk.len() {
-        return unread(8, stage, state, flag, held);
+        return Err(Stop::Refused(Refusal::ChunkTooLong));
     }
     let most = most as usize;
     let all = chunk.len() + held.count as usize;
     if most < chunk.len() {
-        return unread(14, stage, state, flag, held);
+        return Err(Stop::Refused(Refusal::TotalTooLarge));
     }
     if room.len() < all {
-        return unread(7, stage, state, flag, held);
+        return Err(Stop::Refused(Refusal::RoomTooSmall));
     }
-    let s = start_of(encoding, stage, held, &*chunk, state, flag);
-    if s.stage == 1 {
-        return holds(held, &*chunk, 0, 1, 0, 0, 0, 0);
-    }
+    let Some(s) = start_of(encoding, stage, held, &*chunk, state, flag) else {
+        return Ok(holds(held, &*chunk, 0, 1, 0, 0, 0, 0));
+    };
     read_all(
         s.reads,
         mode,
@@ -396,31 +385,25 @@ pub fn read(
     )
 }
 
-// Where reading starts, for callers outside: at the spot itself where more than three bytes are held or the chunk is longer than may be fed.
-pub fn starting(encoding: u8, stage: u8, held: Held, chunk: &[u8], state: u8, flag: u8) -> Start
+// Where reading starts, for callers outside; nowhere, too, where more than three bytes are held or the chunk is longer than may be fed.
+pub fn starting(
+    encoding: u8,
+    stage: u8,
+    held: Held,
+    chunk: &[u8],
+    state: u8,
+    flag: u8,
+) -> Option<Start>
     ensures { held.count ≤ 3 → length chunk.now ≤ 65536 →
         result ≡ start_of encoding stage state flag (bytes_of held ++ chunk.now) }
 {
-    let spot = Start {
-        reads: encoding,
-        stage,
-        mark: 0,
-        state,
-        flag,
-    };
-    if 3 < held.count {
-        return spot;
+    if 3 < held.count || 65536 < chunk.len() {
+        return None;
     }
-    if 65536 < chunk.len() {
-        return spot;
-    }
-    if stage != 1 {
-        return at_spot(encoding, stage, state, flag);
-    }
-    at_choice(encoding, held, &*chunk)
+    start_of(encoding, stage, held, &*chunk, state, flag)
 }
 
-// The sequence at a place of the bytes held and then the chunk, for callers outside; width 0 where more than three bytes are held, the
+// The sequence at a place of the bytes held and then the chunk, for callers outside; none too where more than three bytes are held, the
 // chunk is longer than may be fed, or the place lies behind its end.
 pub fn sequence(
     encoding: u8,
@@ -431,27 +414,19 @@ pub fn sequence(
     at: usize,
     state: u8,
     flag: u8,
-) -> Sequence
+) -> Option<Sequence>
     ensures { held.count ≤ 3 → length chunk.now ≤ 65536 → at ≤ held.count + length chunk.now →
         next_of result ≡ next (lent t1.now t2.now) (family encoding)
         (shift state (eqb flag 1)) (drop at (bytes_of held ++ chunk.now)) }
 {
-    let none = Sequence {
-        first: 0,
-        second: 0,
-        width: 0,
-        state: 0,
-        flag: 0,
-        count: 0,
-    };
     if 3 < held.count {
-        return none;
+        return None;
     }
     if 65536 < chunk.len() {
-        return none;
+        return None;
     }
     if held.count as usize + chunk.len() < at {
-        return none;
+        return None;
     }
     sequence_at(encoding, held, &*chunk, &*t1, &*t2, at, state, flag)
 }

@@ -9,24 +9,21 @@ ghost use Rattle.reading.specs.Reading.{bytes_of, past, behind, ends, read_end};
 
 use crate::choice::reader;
 use crate::feed::{feeds, holds, put, sequence_at, stops};
-use crate::{Held, Left, ended, unread};
+use crate::{Held, Left, Refusal, Stop, ended};
 use line_feeds::one_scalar;
-use sequences::next;
+use sequences::{Out, next};
 
 // What the byte after 1B gives at the end of input in ISO-2022-JP: it is read for itself.
 fn last_scalar(state: u8, flag: u8, b: u8) -> u32
     ensures { (result ∷ []) ≡ given (last_out (next no_tables ISO-2022-JP (shift state (eqb flag 1)) (b ∷ []))) }
 {
-    let none = [0u32; 1];
-    let empty = &none[0..0];
-    let q = next(empty, empty, 33, state, flag, b, 0, 0, 0, 1);
-    if q.width == 0 {
+    let Some(q) = next(&[], &[], 33, state, flag, b, 0, 0, 0, 1) else {
         return 0xFFFD;
+    };
+    match q.out {
+        Out::One(c) => c,
+        _ => 0xFFFD,
     }
-    if q.count == 3 {
-        return 0xFFFD;
-    }
-    q.first
 }
 
 // The bytes held, at their end, with so many bytes, scalars and line feeds before them: U+FFFD, or report 11; in ISO-2022-JP the byte
@@ -41,7 +38,7 @@ fn rest(
     lines: usize,
     state: u8,
     flag: u8,
-) -> Left
+) -> Result<Left, Stop>
     requires { (held.count ≤ 3) × (written + held.count ≤ length room.old) × (lines ≤ written) }
     ensures { (result ≡ (behind mode at written lines
         (ending no_tables (family encoding) (shift state (eqb flag 1)) (bytes_of held)) room.old).left)
@@ -49,22 +46,26 @@ fn rest(
         (ending no_tables (family encoding) (shift state (eqb flag 1)) (bytes_of held)) room.old).room) }
 {
     if held.count == 0 {
-        return ended(0, written, 0, lines);
+        return Ok(ended(written, lines));
     }
     if mode == 1 {
-        return ended(11, written, at, lines);
+        return Err(Stop::Report {
+            written,
+            lines,
+            place: at,
+        });
     }
     room[written] = 0xFFFD;
     if held.count == 1 {
-        return ended(0, written + 1, 0, lines);
+        return Ok(ended(written + 1, lines));
     }
     if encoding != 33 {
-        return ended(0, written + 1, 0, lines);
+        return Ok(ended(written + 1, lines));
     }
     let last = last_scalar(state, flag, held.second);
     room[written + 1] = last;
     let one = one_scalar(last);
-    ended(0, written + 2, 0, lines + one as usize)
+    Ok(ended(written + 2, lines + one as usize))
 }
 
 // The few bytes held and then a chunk, by the label's encoding: sequence after sequence, until no whole one is left or an error ends it.
@@ -76,7 +77,7 @@ fn read_few(
     t1: &[u32],
     t2: &[u32],
     room: &mut [u32],
-) -> Left
+) -> Result<Left, Stop>
     requires { (held.count ≤ 3) × (length chunk.now ≤ 65536) × (length chunk.now + held.count ≤ length room.old) }
     ensures { (result ≡ (past encoding mode 0 0 0 held 0
         (lent t1.now t2.now) chunk.now room.old).left)
@@ -89,32 +90,38 @@ fn read_few(
     let mut written: usize = 0;
     let mut lines: usize = 0;
     loop {
-        let q = sequence_at(encoding, held, &*chunk, &*t1, &*t2, at, s, f);
-        if q.width == 0 {
-            return holds(held, &*chunk, at, 0, s, f, written, lines);
+        let Some(q) = sequence_at(encoding, held, &*chunk, &*t1, &*t2, at, s, f) else {
+            return Ok(holds(held, &*chunk, at, 0, s, f, written, lines));
+        };
+        if stops(mode, q.out) {
+            return Err(Stop::Report {
+                written,
+                lines,
+                place: at,
+            });
         }
-        if stops(mode, q.count) {
-            return ended(11, written, at, lines);
-        }
-        written = put(room, written, q);
-        lines += feeds(q);
+        written = put(room, written, q.out);
+        lines += feeds(q.out);
         at += q.width as usize;
-        s = q.state;
-        f = q.flag;
+        s = q.shift.state;
+        f = u8::from(q.shift.flag);
     }
 }
 
 // The end of input while the bytes held wait for the choice: there is no mark, and the label's encoding reads them.
-fn end_waiting(encoding: u8, mode: u8, held: Held, t1: &[u32], t2: &[u32], room: &mut [u32]) -> Left
+fn end_waiting(
+    encoding: u8,
+    mode: u8,
+    held: Held,
+    t1: &[u32],
+    t2: &[u32],
+    room: &mut [u32],
+) -> Result<Left, Stop>
     requires { (held.count ≤ 3) × (held.count ≤ length room.old) }
     ensures { (result ≡ (ends encoding mode 1 0 0 held (lent t1.now t2.now) room.old).left)
         × (room.new ≡ (ends encoding mode 1 0 0 held (lent t1.now t2.now) room.old).room) }
 {
-    let none = [0u8; 1];
-    let left = read_few(encoding, mode, held, &none[0..0], &*t1, &*t2, room);
-    if left.refusal == 11 {
-        return left;
-    }
+    let left = read_few(encoding, mode, held, &[], &*t1, &*t2, room)?;
     rest(
         encoding,
         mode,
@@ -139,17 +146,17 @@ pub fn end(
     room: &mut [u32],
     state: u8,
     flag: u8,
-) -> Left
+) -> Result<Left, Stop>
     ensures { (result ≡ (read_end encoding mode stage state flag held
         (lent t1.now t2.now) room.old).left)
         × (room.new ≡ (read_end encoding mode stage state flag held
         (lent t1.now t2.now) room.old).room) }
 {
     if 3 < held.count {
-        return unread(5, stage, state, flag, held);
+        return Err(Stop::Refused(Refusal::TooManyHeld));
     }
     if room.len() < held.count as usize {
-        return unread(7, stage, state, flag, held);
+        return Err(Stop::Refused(Refusal::RoomTooSmall));
     }
     if stage == 1 {
         return end_waiting(encoding, mode, held, &*t1, &*t2, room);

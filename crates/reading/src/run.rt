@@ -48,13 +48,7 @@ fn by_number(
 fn keeps(encoding: u8) -> bool
     ensures { result ≡ (traits (family encoding)).separators }
 {
-    if encoding == 33 {
-        return false;
-    }
-    if encoding < 36 {
-        return true;
-    }
-    38 < encoding
+    encoding != 33 && (encoding < 36 || 38 < encoding)
 }
 
 // A place without line feeds.

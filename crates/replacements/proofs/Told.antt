@@ -6,23 +6,23 @@ use Prim.Native.Nat.{ℕ, suc, ◌+◌, ◌-◌, ◌≤◌}
 use native.Mathlib.Omega.{arith}
 use native.Mathlib.Nat.{add-zero, zero-add}
 use lib.Dec.{T, ltb, leb, eqb}
-use lib.ListN.{length, get_or, take, drop, length-drop}
-use borrow.Author.Tests.{eqb-false, ne_eqb, eq-eqb, ltb-false, leb-true}
+use lib.ListN.{length, get_or, drop, length-drop}
+use borrow.Author.Tests.{ne_eqb, eq-eqb, ltb-false, leb-true}
 use Rattle.standard.specs.Base.{◌then◌else◌}
 use Rattle.standard.specs.Encodings.{Tables, ISO-2022-JP, family, fits, no_tables}
 use Rattle.standard.specs.Sequence.{Shift, Out, text, error, Next, more, shift, plain}
 use Rattle.standard.specs.Next.{next}
 use Rattle.standard.specs.Decode.{Item, span, Read, decode, last_out, iso_end, ending, everything, shown, widths}
 use Rattle.standard.specs.Choice.{Choice, waiting, label, marked, choose, reader, spot, chosen, read_from, end_from, rests}
-use Rattle.standard.proofs.Tests.{and_left}
+use Rattle.std.specs.Prelude.{None, Some}
+use Rattle.standard.proofs.Tests.{split, and_left}
 use Rattle.standard.proofs.Stages.{at_mark, read_on_lem, read_choice}
 use Rattle.standard.proofs.Reading.{ending_any, no_bytes}
 use Rattle.standard.proofs.Widths.{all_widths}
-use Rattle.sequences.specs.Code.{next_of, front}
+use Rattle.sequences.specs.Code.{item_of, out_of, front}
 use Rattle.sequences.specs.declared.Sequence.{Sequence}
-use Rattle.reading.specs.Reading.{chosen_of, start_of}
+use Rattle.reading.specs.Reading.{chosen_of, behind_mark, at_spot, start_of}
 use Rattle.reading.specs.declared.feed.Start.{Start}
-use Rattle.reading.proofs.Loop.{item_of}
 use Rattle.reading.proofs.Ends.{iso_end-any, one_byte, other_error}
 use Rattle.decoder.specs.Record.{spot_of, held_of}
 use Rattle.decoder.specs.Valid.{possible_at, valid_rest, valid}
@@ -91,59 +91,53 @@ pub unshown_none : (m n : ℕ) (is : List Item) (scalars : List ℕ) → (m ≡ 
     replaced_by m n is ≡ []
 unshown_none m n is scalars h e f = replacing_all m n is h ∙ sound_none n is (unshown_sound is (sym (ap replacing e) ∙ f))
 
--- Where reading starts: nothing is told while the bytes wait; else what stands behind the mark is.
+-- Where reading starts: what is replaced is what is replaced from there on, and nothing while the first bytes wait.
 pub record Begins (t : Tables) (e g state flag n : ℕ) (xs : List ℕ) (s : Start) : Type 0 where
-  pub waits : s.stage ≡ 1 → replaced n (read_from t e (spot g (shift state (eqb flag 1))) xs).items ≡ []
-  pub reads : (s.stage ≡ 1 → ⊥) → replaced n (read_from t e (spot g (shift state (eqb flag 1))) xs).items ≡
+  pub reads : replaced n (read_from t e (spot g (shift state (eqb flag 1))) xs).items ≡
       replaced (n + s.mark) (read_by t s.reads s.state s.flag (drop s.mark xs)).items
   pub there : s.mark ≤ length xs
 
-pub begins : (t : Tables) (e g state flag n : ℕ) (xs : List ℕ) {s : Start} → s ≡ start_of e g state flag xs → Begins t e g state flag n xs s
-unfolding chosen reader replaced
-begins t e g state flag n xs {s} found = rw found (go (eqb g 1) refl)
-  where
-    p : Shift
-    p = shift state (eqb flag 1)
+module _ (t : Tables) (e g state flag n : ℕ) (xs : List ℕ) where
+  abbrev s₀ : Shift
+  s₀ = shift state (eqb flag 1)
 
-    begin : Bool → Start
-    begin b = b then
-        record {
-          reads = reader e (chosen_of (choose xs)).stage;
-          stage = (chosen_of (choose xs)).stage;
-          mark = (chosen_of
-              (choose xs)).width;
-          state = 0;
-          flag = 0;
-        } else
-        record { reads = reader e g; stage = g; mark = 0; state = state; flag = flag }
+  pub begins_waiting : None ≡ start_of e g state flag xs → replaced n (read_from t e (spot g s₀) xs).items ≡ []
+  unfolding chosen replaced
+  begins_waiting found = split (eqb g 1)
+      (λ q. first q (choose xs) refl (rw q at found))
+      (λ q. let h = rw q at found in let z : ◌≡◌ {A = ℕ} 0 1 = cc in absurd (omega arith))
+    where
+      first : eqb g 1 ≡ true → (c : Choice) → choose xs ≡ c → None ≡ behind_mark e (chosen_of c) →
+          replaced n (read_from t e (spot g s₀) xs).items ≡ []
+      first q waiting k h = rw (read_choice t e (spot g s₀) xs q, k)
+      first q label k h = let z : ◌≡◌ {A = ℕ} 0 1 = cc in absurd (omega arith)
+      first q (marked w m) k h = let z : ◌≡◌ {A = ℕ} 0 1 = cc in absurd (omega arith)
 
-    choice : eqb g 1 ≡ true → (c : Choice) → choose xs ≡ c → Begins t e g state flag n xs
-        (record { reads = reader e (chosen_of c).stage; stage = (chosen_of c).stage; mark = (chosen_of c).width; state = 0; flag = 0 })
-    choice q waiting k = record {
-      waits = λ h. rw (read_choice t e (spot g p) xs q, k);
-      reads = λ h. absurd (h refl);
-      there = omega arith;
-    }
-    choice q label k = record {
-      waits = λ h. absurd (omega arith);
-      reads = λ h. rw (read_choice t e (spot g p) xs q, k)
-          (ap (λ (i : ℕ). replaced i (decode (next t (family e)) plain xs).items) (sym (add-zero n)));
-      there = omega arith;
-    }
-    choice q (marked w h) k = record {
-      waits = λ z. absurd (omega (arith, (at_mark xs k).low));
-      reads = λ z. rw (read_choice t e (spot g p) xs q, k);
-      there = (at_mark xs k).there;
-    }
-
-    go : (b : Bool) → eqb g 1 ≡ b → Begins t e g state flag n xs (begin b)
-    go true q = choice q (choose xs) refl
-    go false q = record {
-      waits = λ h. absurd (eqb-false g 1 q h);
-      reads = λ h. rw (read_on_lem t e (spot g p) xs q)
-          (ap (λ (i : ℕ). replaced i (decode (next t (family (reader e g))) p xs).items) (sym (add-zero n)));
-      there = omega arith;
-    }
+  pub begins : (s : Start) → Some s ≡ start_of e g state flag xs → Begins t e g state flag n xs s
+  unfolding chosen replaced
+  begins s found = split (eqb g 1)
+      (λ q. first q (choose xs) refl (rw q at found))
+      (λ q. let h = rw q at found in let is : s ≡ at_spot e g state flag = cc in rw is (record {
+        reads = rw (read_on_lem t e (spot g s₀) xs q)
+            (ap (λ (i : ℕ). replaced i (decode (next t (family (reader e g))) s₀ xs).items) (sym (add-zero n)));
+        there = omega arith;
+      }))
+    where
+      first : eqb g 1 ≡ true → (c : Choice) → choose xs ≡ c → Some s ≡ behind_mark e (chosen_of c) → Begins t e g state flag n xs s
+      first q waiting k h = let z : ◌≡◌ {A = ℕ} 0 1 = cc in absurd (omega arith)
+      first q label k h =
+          let is : s ≡ record { reads = e; stage = 0; mark = 0; state = 0; flag = 0 } = cc in
+          rw is (record {
+            reads = rw (read_choice t e (spot g s₀) xs q, k)
+                (ap (λ (i : ℕ). replaced i (decode (next t (family e)) plain xs).items) (sym (add-zero n)));
+            there = omega arith;
+          })
+      first q (marked w m) k h =
+          let is : s ≡ record { reads = reader e m; stage = m; mark = w; state = 0; flag = 0 } = cc in
+          rw is (record {
+            reads = rw (read_choice t e (spot g s₀) xs q, k);
+            there = (at_mark xs k).there;
+          })
 
 -- a walk tells what was wanted
 pub walked : {t : Tables} {e state flag from mark : ℕ} {xs spans after : List ℕ} {r : Walked} {rs : List Replaced} →
@@ -155,19 +149,13 @@ walked {rs = rs} e w = rw e (record {
 })
 
 -- The end of input, by the code's tests.
-module _ (t : Tables) (s : Shift) (b : ℕ) (q : Sequence) (e : next_of q ≡ next t ISO-2022-JP s (front 1 b 0 0 0)) where
-  found_last : next_of q ≡ next no_tables ISO-2022-JP s (b ∷ [])
-  found_last = e ∙ iso_end-any t s b
+module _ (t : Tables) (s : Shift) (b : ℕ) where
+  pub last_waits : more ≡ next t ISO-2022-JP s (front 1 b 0 0 0) → true ≡ is_error (last_out (next no_tables ISO-2022-JP s (b ∷ [])))
+  last_waits e = ap (λ (a : Next). is_error (last_out a)) (e ∙ iso_end-any t s b)
 
-  pub last_waits : q.width ≡ 0 → true ≡ is_error (last_out (next no_tables ISO-2022-JP s (b ∷ [])))
-  last_waits z = let k : next_of q ≡ more = rw (eq-eqb q.width 0 z) in ap (λ (a : Next). is_error (last_out a)) (sym k ∙ found_last)
-
-  pub last_item : (q.width ≡ 0 → ⊥) → eqb q.count 3 ≡ is_error (last_out (next no_tables ISO-2022-JP s (b ∷ [])))
-  last_item z = count_error (eqb q.count 3) ∙ ap (λ (a : Next). is_error (last_out a)) (sym (item_of q z) ∙ found_last)
-    where
-      count_error : (x : Bool) → x ≡ is_error (x then error else text (take q.count (q.first ∷ q.second ∷ [])))
-      count_error true = refl
-      count_error false = refl
+  pub last_item : (q : Sequence) → item_of q ≡ next t ISO-2022-JP s (front 1 b 0 0 0) →
+      is_error (out_of q.out) ≡ is_error (last_out (next no_tables ISO-2022-JP s (b ∷ [])))
+  last_item q e = ap (λ (a : Next). is_error (last_out a)) (e ∙ iso_end-any t s b)
 
 -- the bytes that are left, by how many they are
 one_left : (rest : List ℕ) → length rest ≡ 1 → (b : ℕ) × (rest ≡ b ∷ [])

@@ -1,33 +1,40 @@
 -- The walk over sequences: what holds at its loop's head, and what one turn does. Assumes nothing.
-use mathlib.Core.Path.{◌≡◌, refl, sym, ap, ◌∙◌}
+use mathlib.Core.Path.{◌≡◌, refl, sym, ap, ◌∙◌, subst}
+use mathlib.Core.Bool.{true, false}
 use mathlib.Core.List.{List, [], ◌∷◌, ◌++◌, append_assoc, append-nil}
 use Prim.Native.Nat.{ℕ, ◌+◌, ◌-◌, ◌*◌, ◌≤◌}
 use native.Mathlib.Omega.{arith}
-use lib.Dec.{eqb}
+use lib.Dec.{T}
 use lib.ListN.{length, take, drop, length-append, length-drop}
 use lib.Seq.{take_at, drop-append-add, drop-drop}
-use borrow.Author.Tests.{ne_eqb, eq-eqb}
 use Rattle.standard.specs.Encodings.{Tables, family}
-use Rattle.standard.specs.Sequence.{Shift, Out, text, error, item, shift}
+use Rattle.standard.specs.Sequence.{Shift, Out, text, error, more}
 use Rattle.standard.specs.Next.{next}
 use Rattle.standard.specs.Decode.{span, Read, put, decode, widths}
 use Rattle.standard.proofs.FamilyLaws.{keeps, next_laws}
 use Rattle.standard.proofs.Walk.{at_item, decode_more, decode_item}
-use Rattle.sequences.specs.Code.{next_of, out_of}
+use Rattle.sequences.specs.Code.{out_of, shift_of, item_of}
 use Rattle.sequences.specs.declared.Sequence.{Sequence}
-use Rattle.reading.proofs.Loop.{item_of}
 use Rattle.replacements_spec.specs.Replaced.{Replaced, replaced, cells}
 use Rattle.replacements_spec.proofs.Spans.{replaced_append, cells_append, cells_length}
-use Rattle.replacements.specs.Walks.{at, noted, Adds}
+use Rattle.replacements.specs.Walks.{at, noted, is_error, Adds}
 
 -- what a sequence adds
-pub noted_text : (place : ℕ) (q : Sequence) → (q.count ≡ 3 → ⊥) → noted place q ≡ []
+adds_text : (place w : ℕ) (o : Out) → is_error o ≡ false → replaced place (span w o ∷ []) ≡ []
 unfolding replaced
-noted_text place q h = rw (ne_eqb q.count 3 h)
+adds_text place w (text cs) h = refl
+adds_text place w error h = absurd (subst T h tt)
 
-pub noted_error : (place : ℕ) (q : Sequence) → q.count ≡ 3 → noted place q ≡ at place q.width ∷ []
+adds_error : (place w : ℕ) (o : Out) → is_error o ≡ true → replaced place (span w o ∷ []) ≡ at place w ∷ []
 unfolding replaced
-noted_error place q h = rw (eq-eqb q.count 3 h)
+adds_error place w (text cs) h = absurd (subst T (sym h) tt)
+adds_error place w error h = refl
+
+pub noted_text : (place : ℕ) (q : Sequence) → is_error (out_of q.out) ≡ false → noted place q ≡ []
+noted_text place q h = adds_text place q.width (out_of q.out) h
+
+pub noted_error : (place : ℕ) (q : Sequence) → is_error (out_of q.out) ≡ true → noted place q ≡ at place q.width ∷ []
+noted_error place q h = adds_error place q.width (out_of q.out) h
 
 noted_few : (place : ℕ) (o : Out) (w : ℕ) → length (replaced place (span w o ∷ [])) ≤ 1
 unfolding replaced
@@ -64,13 +71,11 @@ module _ (t : Tables) (e from mark : ℕ) (s₀ : Shift) (xs spans₀ : List ℕ
     rest = refl;
   }
 
-  module _ {spans : List ℕ} {at n : ℕ} {s : Shift} (R : Walking spans at n s) (q : Sequence)
-      (here : next_of q ≡ next t (family e) s (drop at xs)) where
+  module _ {spans : List ℕ} {at n : ℕ} {s : Shift} (R : Walking spans at n s) where
     -- no whole sequence is left
-    module _ (z : q.width ≡ 0) where
+    module _ (waits : next t (family e) s (drop at xs) ≡ more) where
       stops : read_at s at ≡ record { items = []; shift = s; rest = drop at xs }
-      stops = decode_more (keeps (family e)) (next t (family e)) (next_laws t (family e)) s (drop at xs)
-          (sym here ∙ rw (eq-eqb q.width 0 z))
+      stops = decode_more (keeps (family e)) (next t (family e)) (next_laws t (family e)) s (drop at xs) waits
 
       all_told : replaced (from + mark) (read_at s₀ mark).items ≡ R.told
       unfolding replaced
@@ -89,33 +94,30 @@ module _ (t : Tables) (e from mark : ℕ) (s₀ : Shift) (xs spans₀ : List ℕ
       turn_rest = sym (R.rest ∙ ap (λ (r : Read). r.rest) stops)
 
     -- a whole sequence
-    module _ (z : q.width ≡ 0 → ⊥) where
+    module _ (q : Sequence) (here : item_of q ≡ next t (family e) s (drop at xs)) where
       s' : Shift
-      s' = shift q.state (eqb q.flag 1)
-
-      goes : next t (family e) s (drop at xs) ≡ item q.width s' (out_of q)
-      unfolding s'
-      goes = sym here ∙ item_of q z
+      s' = shift_of q.shift
 
       pub turn_width : (1 ≤ q.width) × (at + q.width ≤ length xs)
       turn_width =
-          let law = at_item (keeps (family e)) (next t (family e)) (next_laws t (family e)) s (drop at xs) goes [] in
+          let law = at_item (keeps (family e)) (next t (family e)) (next_laws t (family e)) s (drop at xs) (sym here) [] in
           (law.1, omega (arith, law.2, length-drop at xs, R.inside))
 
-      reads : read_at s at ≡ put q.width (out_of q) (read_at s' (at + q.width))
-      reads = decode_item (keeps (family e)) (next t (family e)) (next_laws t (family e)) s (drop at xs) goes ∙
-          ap (λ (ys : List ℕ). put q.width (out_of q) (decode (next t (family e)) s' ys)) (drop-drop q.width at xs)
+      reads : read_at s at ≡ put q.width (out_of q.out) (read_at s' (at + q.width))
+      unfolding s'
+      reads = decode_item (keeps (family e)) (next t (family e)) (next_laws t (family e)) s (drop at xs) (sym here) ∙
+          ap (λ (ys : List ℕ). put q.width (out_of q.out) (decode (next t (family e)) s' ys)) (drop-drop q.width at xs)
 
       pub turn_space : 2 * n + 2 ≤ length spans
       turn_space = omega (arith, R.space, R.size, turn_width)
 
       pub turn_on : {m : ℕ} {after : List ℕ} → Adds spans n (noted (from + at) q) m after →
-          Walking after (at + q.width) m (shift q.state (eqb q.flag 1))
+          Walking after (at + q.width) m (shift_of q.shift)
       unfolding s' widths
       turn_on {m} {after} a =
           let rs = noted (from + at) q in
           let len = cells_length R.told in
-          let few = noted_few (from + at) (out_of q) q.width in
+          let few = noted_few (from + at) (out_of q.out) q.width in
           let c : length (cells R.told) + 2 * length rs ≡ 2 * (n + length rs) = omega (arith, len, R.count) in
           let front : take (2 * n) spans ≡ cells R.told =
           ap (take (2 * n)) R.stands ∙ take_at (cells R.told) (drop (2 * n) spans₀) (2 * n) (omega (arith, len, R.count)) in
@@ -148,7 +150,7 @@ module _ (t : Tables) (e from mark : ℕ) (s₀ : Shift) (xs spans₀ : List ℕ
             stands = stands;
             wanted = R.wanted ∙ ap (λ (r : Read). R.told ++ replaced (from + at) r.items) reads ∙
                 ap (λ (l : List Replaced). R.told ++ l)
-                (replaced_append (from + at) (span q.width (out_of q) ∷ []) (read_at s' (at + q.width)).items ∙
+                (replaced_append (from + at) (span q.width (out_of q.out) ∷ []) (read_at s' (at + q.width)).items ∙
                 ap (λ (k : ℕ). rs ++ replaced k (read_at s' (at + q.width)).items) on) ∙
                 sym (append_assoc R.told rs _);
             leaves = R.leaves ∙ ap (λ (r : Read). r.shift) reads;

@@ -1,10 +1,11 @@
 -- What the functions within the calls answer. A wrong line here would break a proof. Assumes nothing.
-use Rattle.std.specs.Prelude.{◌≡◌, Bool, true, false, ◌||◌, List, [], ◌∷◌, ◌++◌, ℕ, ◌+◌, ◌*◌, ◌≤◌, eqb, length, take, drop}
+use Rattle.std.specs.Prelude.{◌≡◌, Bool, false, ◌||◌, List, [], ◌∷◌, ◌++◌, ℕ, ◌+◌, ◌*◌, ◌≤◌, eqb, length, take, drop}
 use Rattle.standard.specs.Encodings.{Tables, family}
-use Rattle.standard.specs.Sequence.{Out, text, error, shift}
+use Rattle.standard.specs.Sequence.{shift}
 use Rattle.standard.specs.Items.{span, Read, shown}
 use Rattle.standard.specs.Next.{next}
 use Rattle.standard.specs.Decode.{decode}
+pub use Rattle.sequences.specs.Code.{is_error}
 use Rattle.sequences.specs.Code.{out_of}
 use Rattle.sequences.specs.declared.Sequence.{Sequence}
 use Rattle.decoder.specs.Calls.{feed_refusal, read_on, finish_refusal}
@@ -21,13 +22,9 @@ replacing (c ∷ cs) = eqb c 0xFFFD || replacing cs
 abbrev pub at : ℕ → ℕ → Replaced
 at place width = record { place = place; width = width }
 
-abbrev pub is_error : Out → Bool
-is_error (text cs) = false
-is_error error = true
-
 -- The replaced sequence that a sequence is, if it is an error: none, or one.
 abbrev pub noted : ℕ → Sequence → List Replaced
-noted place q = replaced place (span q.width (out_of q) ∷ [])
+noted place q = replaced place (span q.width (out_of q.out) ∷ [])
 
 -- What is read by encoding e from a shift on.
 abbrev pub read_by : Tables → ℕ → ℕ → ℕ → List ℕ → Read

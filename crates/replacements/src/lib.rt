@@ -1,14 +1,12 @@
 // Document 02, Ask 12: a feed and a finish that also tell which sequences were replaced, each with its place and its width.
 #![tactic(auto)]
 
-ghost use Rattle.std.specs.Prelude.{◌≡◌, not, ◌++◌, ◌∷◌, [], ◌+◌, ◌-◌, ◌*◌, ◌≤◌, ◌<◌, ltb, eqb, length, take, drop};
-ghost use Rattle.standard.specs.Base.{◌then◌else◌};
+ghost use Rattle.std.specs.Prelude.{◌≡◌, ◌++◌, ◌∷◌, [], ◌+◌, ◌-◌, ◌*◌, ◌≤◌, ◌<◌, ltb, eqb, length};
 ghost use Rattle.standard.specs.Encodings.{ISO-2022-JP, family, lent, no_tables};
 ghost use Rattle.standard.specs.Sequence.{shift, plain};
 ghost use Rattle.standard.specs.Next.{next};
 ghost use Rattle.standard.specs.Decode.{last_out, iso_end, ending, everything};
 ghost use Rattle.reading.specs.Reading.{bytes_of};
-ghost use Rattle.decoder.specs.Code.{held_in};
 ghost use Rattle.decoder.specs.Calls.{read_on, read_end};
 ghost use Rattle.replacements_spec.specs.Replaced.{replaced};
 ghost use Rattle.replacements_spec.specs.Calls.{Leaves, replaced_by, feed_telling, finish_telling};
@@ -30,41 +28,11 @@ struct Walked {
     flag: u8,
 }
 
-// 1 for U+FFFD, 0 for another scalar.
-fn one(c: u32) -> u32
-    ensures { (result ≡ (eqb c 0xFFFD then 1 else 0)) × (result ≤ 1) }
-{
-    if c == 0xFFFD {
-        return 1;
-    }
-    0
-}
-
-// How many U+FFFD are among n scalars, at most 1,024: 0 exactly where there is none.
-fn in_few(scalars: &[u32], at: usize, n: usize) -> u32
-    requires { (n ≤ 1024) × (at + n ≤ length scalars.now) }
-    ensures { eqb result 0 ≡ not (replacing (take n (drop at scalars.now))) }
-{
-    let mut count: u32 = 0;
-    for k in 0..n {
-        count += one(scalars[at + k]);
-    }
-    count
-}
-
-// Is U+FFFD among the scalars? In blocks of 1,024 and what is left.
+// Is U+FFFD among the scalars?
 fn has_replacement(scalars: &[u32]) -> bool
     ensures { result ≡ replacing scalars.now }
 {
-    let n = scalars.len();
-    let mut k: usize = 0;
-    while n - k >= 1024 {
-        if in_few(scalars, k, 1024) != 0 {
-            return true;
-        }
-        k += 1024;
-    }
-    in_few(scalars, k, n - k) != 0
+    scalars.contains(&0xFFFD)
 }
 
 // Tells of one replaced sequence, behind n others; how many are told then.
@@ -82,7 +50,7 @@ fn note(spans: &mut [u32], n: usize, place: u32, q: Sequence) -> usize
     requires { 2 * n + 2 ≤ length spans.old }
     ensures { Adds spans.old n (noted place q) result spans.new }
 {
-    if q.count != 3 {
+    if !q.out.is_error() {
         return n;
     }
     put_span(spans, n, place, q.width as u32)
@@ -111,31 +79,18 @@ fn walk(
     let mut f = flag;
     let mut n: usize = 0;
     loop {
-        let q = sequence(encoding, held, chunk, t1, t2, at, s, f);
-        if q.width == 0 {
+        let Some(q) = sequence(encoding, held, chunk, t1, t2, at, s, f) else {
             return Walked {
                 at,
                 count: n,
                 state: s,
                 flag: f,
             };
-        }
+        };
         n = note(spans, n, from + at as u32, q);
         at += q.width as usize;
-        s = q.state;
-        f = q.flag;
-    }
-}
-
-// The bytes held, as reading takes them.
-fn held(d: Decoder) -> Held
-    ensures { result ≡ held_in d }
-{
-    Held {
-        count: d.held,
-        first: d.first,
-        second: d.second,
-        third: d.third,
+        s = q.shift.state;
+        f = u8::from(q.shift.flag);
     }
 }
 
@@ -156,12 +111,11 @@ fn tell(
         return 0;
     }
     if has_replacement(scalars) {
-        let before = held(d);
-        let s = starting(d.encoding, d.stage, before, chunk, d.state, d.flag);
-        if s.stage == 1 {
+        let before = d.held();
+        let Some(s) = starting(d.encoding, d.stage, before, chunk, d.state, d.flag) else {
             return 0;
-        }
-        let from = d.taken - d.held as u32;
+        };
+        let from = d.taken - u32::from(d.held);
         let w = walk(
             s.reads,
             before,
@@ -183,13 +137,10 @@ fn tell(
 fn last_is_error(state: u8, flag: u8, b: u8) -> bool
     ensures { result ≡ is_error (last_out (next no_tables ISO-2022-JP (shift state (eqb flag 1)) (b ∷ []))) }
 {
-    let none = [0u32; 1];
-    let empty = &none[0..0];
-    let q = next(empty, empty, 33, state, flag, b, 0, 0, 0, 1);
-    if q.width == 0 {
-        return true;
+    match next(&[], &[], 33, state, flag, b, 0, 0, 0, 1) {
+        Some(q) => q.out.is_error(),
+        None => true,
     }
-    q.count == 3
 }
 
 // Tells of 1B at the end of input in ISO-2022-JP, and of the bytes behind it if they are an error.
@@ -247,13 +198,7 @@ fn tell_waiting(
         (replaced from (everything (lent t1.now t2.now) (family encoding) plain bytes.now))
         result spans.new }
 {
-    let none = Held {
-        count: 0,
-        first: 0,
-        second: 0,
-        third: 0,
-    };
-    let w = walk(encoding, none, bytes, t1, t2, from, 0, spans, 0, 0);
+    let w = walk(encoding, Held::NONE, bytes, t1, t2, from, 0, spans, 0, 0);
     let at = w.at;
     let place = from + at as u32;
     tell_rest(
@@ -276,29 +221,21 @@ fn tell_end(d: Decoder, t1: &[u32], t2: &[u32], spans: &mut [u32]) -> usize
     if d.mode == 1 {
         return 0;
     }
-    let n = d.held as usize;
+    let n = usize::from(d.held);
     let bytes = [d.first, d.second, d.third];
-    let from = d.taken - d.held as u32;
+    let from = d.taken - u32::from(d.held);
     if d.stage == 1 {
-        return tell_waiting(d.encoding, &bytes[0..n], t1, t2, from, spans);
+        return tell_waiting(d.encoding, &bytes[..n], t1, t2, from, spans);
     }
     let reads = reader(d.encoding, d.stage);
-    tell_rest(reads, &bytes[0..n], from, spans, 0, d.state, d.flag)
+    tell_rest(reads, &bytes[..n], from, spans, 0, d.state, d.flag)
 }
 
 // Have the spans fewer than two cells for each of so many bytes, and those held?
 fn short(cells: usize, bytes: usize, held: u8) -> bool
     ensures { result ≡ ltb cells (2 * (bytes + held)) }
 {
-    let most = cells / 2;
-    let held = held as usize;
-    if most < held {
-        return true;
-    }
-    if most - held < bytes {
-        return true;
-    }
-    false
+    cells / 2 < bytes.saturating_add(usize::from(held))
 }
 
 // Decodes a chunk into the room as a decoder's feed does, and tells in the spans what was replaced.
@@ -314,8 +251,7 @@ pub fn feed(
         result room.new spans.new }
 {
     if short(spans.len(), chunk.len(), d.held) {
-        let mut none = [0u32; 1];
-        let answer = d.feed(chunk, t1, t2, &mut none[0..0]);
+        let answer = d.feed(chunk, t1, t2, &mut []);
         return Replacing { answer, count: 0 };
     }
     let answer = d.feed(chunk, t1, t2, room);
@@ -323,7 +259,7 @@ pub fn feed(
         return Replacing { answer, count: 0 };
     }
     let written = answer.written;
-    let count = tell(d, chunk, t1, t2, &room[0..written], spans);
+    let count = tell(d, chunk, t1, t2, &room[..written], spans);
     Replacing { answer, count }
 }
 
@@ -333,8 +269,7 @@ pub fn finish(d: Decoder, t1: &[u32], t2: &[u32], room: &mut [u32], spans: &mut 
         result room.new spans.new }
 {
     if short(spans.len(), 0, d.held) {
-        let mut none = [0u32; 1];
-        let answer = d.finish(t1, t2, &mut none[0..0]);
+        let answer = d.finish(t1, t2, &mut []);
         return Replacing { answer, count: 0 };
     }
     let answer = d.finish(t1, t2, room);

@@ -1,45 +1,25 @@
 -- What the calls answer, test by test. Assumes nothing.
-use mathlib.Core.Path.{◌≡◌, refl, ap, sym, ◌∙◌}
+use mathlib.Core.Path.{◌≡◌, refl, ap, ◌∙◌}
 use mathlib.Core.Bool.{true, false}
 use mathlib.Core.List.{List}
-use mathlib.Core.Option.{some}
-use Prim.Native.Nat.{ℕ, zero, suc, ◌+◌, ◌-◌, ◌≤◌, ◌<◌}
+use Rattle.std.specs.Prelude.{Option, Some, None, MatchOption}
+use Prim.Native.Nat.{ℕ, ◌+◌, ◌≤◌, ◌<◌}
 use native.Mathlib.Omega.{arith}
 use lib.Dec.{eqb}
-use lib.ListN.{length, get_or, get_or-eq_default}
+use lib.ListN.{length, get_or}
 use borrow.Author.Tests.{lt-ltb, le-ltb, eq-eqb, ne_eqb}
 use Rattle.standard.specs.Encodings.{family, traits}
 use Rattle.standard.specs.Search.{PassedOver, Side, search}
 use Rattle.index_spec.specs.IndexCall.{index_line}
 use Rattle.index_spec.specs.declared.Line.{Line}
 use Rattle.index_spec.proofs.Call.{table_kept}
-use Rattle.reverse_index_spec.specs.ReverseIndex.{True, fits, bucket, insert, walk, or_else, look_up}
-use Rattle.reverse_index_spec.specs.Calls.{index_size, building, indexed_line}
+use Rattle.reverse_index_spec.specs.ReverseIndex.{True, fits, insert, walk, or_else, look_up}
+use Rattle.reverse_index_spec.specs.Calls.{building, indexed_line}
 use Rattle.reverse_index_spec.proofs.Building.{fits_facts, true_build}
+use Rattle.standard.specs.Base.{◌then◌else◌}
+use Rattle.index.specs.IndexCode.{pointer_of}
+use Rattle.reverse_index.specs.Code.{link_of}
 use Rattle.reverse_index_spec.proofs.Lines.{entry_inside}
-
--- The size.
-pub size_big : (n : ℕ) → 0xFFFFFFFF < n → 0 ≡ index_size n
-unfolding index_size
-size_big n h = rw (le-ltb n 0x100000000 (omega arith))
-
-pub size_small : (n : ℕ) → n ≤ 0xFFFFFFFF → n + n ≡ index_size n
-unfolding index_size
-size_small n h = rw (lt-ltb n 0x100000000 (omega arith))
-
-pub fits_big : (n m : ℕ) → 0xFFFFFFFF < n → false ≡ fits n m
-unfolding fits
-fits_big n m h = rw (le-ltb n 0x100000000 (omega arith))
-
-pub fits_small : (n m : ℕ) → n ≤ 0xFFFFFFFF → eqb m (n + n) ≡ fits n m
-unfolding fits
-fits_small n m h = rw (lt-ltb n 0x100000000 (omega arith))
-
--- The head of a bucket; a table of no cells has an index of none.
-pub head_none : (n c : ℕ) (index : List ℕ) → fits n (length index) ≡ true → n ≡ 0 → 0 ≡ get_or index (bucket n c) 0
-head_none n c index f e =
-    let h : length index ≤ bucket n c = omega (arith, (fits_facts n (length index) f).1) in
-    sym (get_or-eq_default index 0 h)
 
 -- Building.
 module _ (e : ℕ) (table index : List ℕ) where
@@ -92,21 +72,10 @@ module _ (line table index : List ℕ) where
     unfolding indexed_line
     line_entry h after w = (rw f e, rw f g, rw (f, ← e, ← g, eq-eqb r.entry 1 h) w)
 
--- The look-up.
-module _ (table index : List ℕ) (side : Side) (over : PassedOver) (c : ℕ) where
-  pub look_unfit : fits (length table) (length index) ≡ false → search side over table c ≡ look_up table index side over c
-  unfolding look_up
-  look_unfit f = rw f
-
-  module _ (f : fits (length table) (length index) ≡ true) (w : ℕ) (e : w ≡ walk table index side over c) where
-    pub look_search : w ≡ 0 → search side over table c ≡ look_up table index side over c
-    unfolding look_up
-    look_search z = rw (f, ← e, z)
-
-    pub look_walk : (w ≡ 0 → ⊥) → some (w - 1) ≡ look_up table index side over c
-    unfolding look_up
-    look_walk n = rw (f, ← e) (go w n)
-      where
-        go : (v : ℕ) → (v ≡ 0 → ⊥) → some (v - 1) ≡ or_else v (search side over table c)
-        go zero n = absurd (n refl)
-        go (suc q) n = let z : suc q - 1 ≡ q = omega arith in ap some z
+-- The look-up: what the walk finds, or else the search.
+pub looked_up : (table index : List ℕ) (side : Side) (over : PassedOver) (c : ℕ) (found r : Option ℕ) →
+    link_of found ≡ (fits (length table) (length index) then walk table index side over c else 0) →
+    MatchOption found (pointer_of r ≡ search side over table c) (λ p. r ≡ Some p) → pointer_of r ≡ look_up table index side over c
+unfolding look_up
+looked_up table index side over c None r e h = h ∙ ap (λ (w : ℕ). or_else w (search side over table c)) e
+looked_up table index side over c (Some p) r e h = ap pointer_of h ∙ ap (λ (w : ℕ). or_else w (search side over table c)) e

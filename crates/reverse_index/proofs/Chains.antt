@@ -16,13 +16,6 @@ use Rattle.reverse_index_spec.proofs.Least.{clash, least_none, least_here, least
 use Rattle.reverse_index_spec.proofs.Hits.{member_beyond, bucket_inside}
 use Rattle.reverse_index.specs.Code.{chained}
 
--- Clearing.
-pub zero_more : (l : List ℕ) (i : ℕ) → i < length l → ((k : ℕ) → k < i → get_or l k 0 ≡ 0) →
-    (k : ℕ) → k < i + 1 → get_or (set l i 0) k 0 ≡ 0
-zero_more l i h f k g = split (eqb k i)
-    (λ t. let e = eqb-true k i t in rw e (get_or-set_same l i 0 0 h))
-    (λ t. let e = eqb-false k i t in get_or-set_other l i k 0 0 e ∙ f k (omega (arith, e)))
-
 -- One pointer more.
 pub chained_un : (n p c : ℕ) (index : List ℕ) → mapped c ≡ false → set index (n + p) 0 ≡ chained n p c index
 unfolding chained

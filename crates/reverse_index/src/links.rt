@@ -2,19 +2,17 @@
 
 ghost use Rattle.std.specs.Prelude.{◌≡◌, ℕ, ◌+◌, ◌≤◌, ◌<◌, length, get_or};
 ghost use Rattle.reverse_index_spec.specs.ReverseIndex.{True, fits, bucket, place, insert};
-ghost use Rattle.reverse_index.specs.Code.{chained};
+ghost use Rattle.reverse_index.specs.Code.{chained, link_of};
 
 // Has an index of m cells the length for a table of n?
+#[tactic(auto, unfolding(reverse_index_spec::specs::ReverseIndex::fits))]
 pub(crate) fn fits(n: usize, m: usize) -> bool
     ensures { result ≡ fits n m }
 {
-    if 0xFFFF_FFFF < n {
-        return false;
-    }
-    m == n + n
+    n <= 0xFFFF_FFFF && m == n + n
 }
 
-// The bucket of a code point.
+// The bucket of a code point. By 32 bits: a division of 64 is slower.
 pub(crate) fn bucket(n: usize, c: u32) -> usize
     requires { (0 < n) × (n < 0x100000000) }
     ensures { (result ≡ bucket n c) × (result < n) }
@@ -23,11 +21,11 @@ pub(crate) fn bucket(n: usize, c: u32) -> usize
     (c / 2 % m) as usize
 }
 
-// A cell as a number.
-pub(crate) fn wide(x: u32) -> usize
-    ensures { (result ≡ x) × (result < 0x100000000) }
+// The pointer that a link leads to; none for 0.
+pub(crate) fn pointer(link: u32) -> Option<usize>
+    ensures { link_of result ≡ link }
 {
-    x as usize
+    (link as usize).checked_sub(1)
 }
 
 // No heads yet.
@@ -36,11 +34,7 @@ pub(crate) fn clear(index: &mut [u32], n: usize)
     ensures { (length index.new ≡ length index.old) ×
         ((i : ℕ) → i < n → get_or index.new i 0 ≡ 0) }
 {
-    let mut i: usize = 0;
-    while i < n {
-        index[i] = 0;
-        i += 1;
-    }
+    index[..n].fill(0);
 }
 
 // A pointer put in front of its bucket.
@@ -64,9 +58,7 @@ pub(crate) fn fill(table: &[u32], index: &mut [u32])
     ensures { True table.now index.new }
 {
     let n = table.len();
-    let mut p = n;
-    while 0 < p {
-        p -= 1;
+    for p in (0..n).rev() {
         chain(n, p, table[p], index);
     }
 }
@@ -78,14 +70,11 @@ fn place(index: &[u32], n: usize, p: usize, b: usize) -> usize
 {
     let mut at = b;
     let mut low: usize = 0;
-    let mut link = wide(index[b]);
-    while low < link {
-        if p < link {
-            return at;
-        }
+    let mut link = index[b] as usize;
+    while low < link && link <= p {
         at = n + (link - 1);
         low = link;
-        link = wide(index[at]);
+        link = index[at] as usize;
     }
     at
 }

@@ -5,34 +5,27 @@ use Prim.Native.Nat.{ℕ, ◌+◌, ◌≤◌}
 use native.Mathlib.Omega.{arith}
 use lib.ListN.{length, drop, set, length-drop}
 use Rattle.standard.specs.Encodings.{Family, Tables}
-use Rattle.standard.specs.Sequence.{Shift, Out, text, more, item}
+use Rattle.standard.specs.Sequence.{Shift, text, item}
 use Rattle.standard.specs.Next.{next}
 use Rattle.standard.proofs.FamilyLaws.{keeps, next_laws}
 use Rattle.standard.proofs.Walk.{at_item}
-use Rattle.sequences.specs.Code.{next_of}
+use Rattle.sequences.specs.Code.{item_of}
 use Rattle.sequences.specs.declared.Sequence.{Sequence}
 use Rattle.runs.specs.Run.{Gives}
 use Rattle.runs.proofs.Running.{Going, going_one, going_silent}
 
--- a sequence that is one has a width
-item_width : (q : Sequence) {k : ℕ} {s : Shift} {out : Out} → next_of q ≡ item k s out → q.width ≡ 0 → ⊥
-item_width q {k} {s} {out} h e = let n : more ≡ item k s out = rw e at h in let z : ◌≡◌ {A = ℕ} 0 1 = cc in omega arith
-
 -- a run on its way, and the sequence that the code found there
-module _ {t : Tables} {f : Family} {m : ℕ} {chunk : List ℕ} {from i : ℕ} {s s' : Shift} {w o : ℕ} {room₀ room : List ℕ} (G : Going t f m chunk from i s s' w o room₀ room) (q : Sequence) (e : (q.width ≡ 0 → ⊥) → next_of q ≡ next t f s' (drop i chunk)) where
-  found : {k : ℕ} {s'' : Shift} {out : Out} → next_of q ≡ item k s'' out → next t f s' (drop i chunk) ≡ item k s'' out
-  found h = sym (e (item_width q h)) ∙ h
-
+module _ {t : Tables} {f : Family} {m : ℕ} {chunk : List ℕ} {from i : ℕ} {s s' : Shift} {w o : ℕ} {room₀ room : List ℕ} (G : Going t f m chunk from i s s' w o room₀ room) (q : Sequence) (e : item_of q ≡ next t f s' (drop i chunk)) where
   -- it gives a scalar
-  pub found_gives : {s'' : Shift} {c : ℕ} → Gives m (next_of q) q.width s'' c → Going t f m chunk from (i + q.width) s s'' w (o + 1) room₀ (set room o c)
-  found_gives g = going_one G (record { out = g.out; is = found g.is; gives = g.gives; allowed = g.allowed })
+  pub found_gives : {s'' : Shift} {c : ℕ} → Gives m (item_of q) q.width s'' c → Going t f m chunk from (i + q.width) s s'' w (o + 1) room₀ (set room o c)
+  found_gives g = going_one G (record { out = g.out; is = sym e ∙ g.is; gives = g.gives; allowed = g.allowed })
 
   -- it gives nothing
-  pub found_silent : {s'' : Shift} → next_of q ≡ item q.width s'' (text []) → Going t f m chunk from (i + q.width) s s'' w o room₀ room
-  found_silent h = going_silent G (found h)
+  pub found_silent : {s'' : Shift} → item_of q ≡ item q.width s'' (text []) → Going t f m chunk from (i + q.width) s s'' w o room₀ room
+  found_silent h = going_silent G (sym e ∙ h)
 
   -- it has bytes, and they are in the chunk
-  pub found_width : {s'' : Shift} {out : Out} → next_of q ≡ item q.width s'' out → (1 ≤ q.width) × (i + q.width ≤ length chunk)
-  found_width h =
-      let law = at_item (keeps f) (next t f) (next_laws t f) s' (drop i chunk) (found h) [] in
+  pub found_width : (1 ≤ q.width) × (i + q.width ≤ length chunk)
+  found_width =
+      let law = at_item (keeps f) (next t f) (next_laws t f) s' (drop i chunk) (sym e) [] in
       (law.1, omega (arith, law.2, G.here.begun, length-drop i chunk))

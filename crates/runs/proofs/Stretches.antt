@@ -13,6 +13,8 @@ use Rattle.standard.specs.Next.{next}
 use Rattle.standard.specs.Decode.{Item, span, put, decode, shown, broken}
 use Rattle.standard.proofs.FamilyLaws.{keeps, next_laws}
 use Rattle.standard.proofs.Walk.{decode_item}
+use Rattle.std.specs.List.{slice_range}
+use Rattle.std.proofs.lemmas.List.Edits.{get_or-between, length-between}
 use Rattle.runs.specs.Run.{patch, puts, Ran, Ready}
 use Rattle.runs.specs.Stretch.{Copied, Begins}
 use Rattle.runs.proofs.Patches.{patch_sets, patch_none, patch_patch, patch_over}
@@ -110,13 +112,6 @@ copied_again {chunk} {at} {j} {k} {w} {r} {r'} c h l =
     let d : get_or us j 0 ≡ get_or chunk (at + j) 0 = get_or-take k (drop at chunk) j 0 h ∙ get_or-drop at chunk j 0 in
     ap (set r' (w + j)) (sym (ap (λ (x : List ℕ). get_or x (w + j) 0) c.wrote ∙ b ∙ a ∙ d)) ∙ set-get_or r' (w + j) 0
 
--- so a byte counts as copied once more
-pub copied_twice : {chunk : List ℕ} {at w : ℕ} {r r' : List ℕ} → Copied chunk at 1 w r r' → at < length chunk → w < length r → Copied chunk at 1 w r' r'
-copied_twice {chunk} {at} {w} {r} {r'} c h l =
-    let low = rw (add-zero at) at (c.ascii 0 (omega arith)) in
-    let same = rw (add-zero w, add-zero at) at (copied_again {j = 0} c (omega arith) (omega arith)) in
-    rw same at (copied_one chunk at w r' h low (omega (arith, c.size)))
-
 -- the next byte stored behind a stretch, or its last byte again
 pub copied_step : (last more : ℕ) {chunk : List ℕ} {at w : ℕ} {r r' : List ℕ} → Copied chunk at (last + 1) w r r' →
     at + last + more < length chunk → w + last + more < length r → more ≤ 1 → (1 ≤ more → get_or chunk (at + (last + more)) 0 < 0x80) →
@@ -155,6 +150,19 @@ copying_ready C = record {
 pub begins_on : (chunk : List ℕ) (from k : ℕ) {j : ℕ} → Begins chunk (from + k) j → Begins chunk from (k + j)
 begins_on chunk from zero {j} b l q = omega (arith, b (omega arith) (rw (add-zero from) q))
 begins_on chunk from (suc k) b l q = omega arith
+
+-- Behind k bytes there is one that is not below 80: where the first is below 80, it is among them.
+pub begins_end : (chunk : List ℕ) (from k : ℕ) → 0x80 ≤ get_or chunk (from + k) 0 → Begins chunk from k
+begins_end chunk from zero h l q = let n = rw (add-zero from) at h in absurd (omega arith)
+begins_end chunk from (suc k) h l q = omega arith
+
+-- Each byte of a part is at most a number below 80.
+pub part_low : (chunk : List ℕ) (at n : ℕ) {r : ℕ} → at + n ≤ length chunk → let bytes = slice_range chunk at (at + n) in
+    ((j : ℕ) → j < length bytes → get_or bytes j 0 ≤ r) → r < 0x80 → (j : ℕ) → j < n → get_or chunk (at + j) 0 < 0x80
+part_low chunk at n h each low j q =
+    let e = get_or-between chunk at (at + n) j 0 (omega arith) in
+    let l = length-between chunk at (at + n) in
+    omega (arith, e, each j (omega (arith, l)))
 
 -- each byte as a sequence
 singles : List ℕ → List Item

@@ -5,6 +5,7 @@ use Rattle.standard.specs.Encodings.{Tables, Family}
 use Rattle.standard.specs.Sequence.{Shift, Out, error, Next, item, shift}
 use Rattle.standard.specs.Next.{next}
 use Rattle.standard.specs.Decode.{Item, span, Read, put, decode, given, shown, broken}
+use Rattle.sequences.specs.Code.{shift_of}
 use Rattle.sequences.specs.declared.Sequence.{Sequence}
 use Rattle.runs.specs.declared.Place.{Place}
 
@@ -56,7 +57,7 @@ pub record Gives (m : ℕ) (a : Next) (width : ℕ) (s : Shift) (c : ℕ) : Type
 
 -- the shift that a sequence leaves
 abbrev pub left : Sequence → Shift
-left q = shift q.state (eqb q.flag 1)
+left q = shift_of q.shift
 
 -- the shift at a place
 abbrev pub shift_at : Place → Shift

@@ -1,85 +1,60 @@
 // Stretches of ASCII, which stands for itself in most encodings.
+// By places and not by parts of the slices: what is promised speaks of the whole chunk and room, so parts would be no plainer.
 
 ghost use Rattle.std.specs.Prelude.{◌≡◌, ℕ, ◌+◌, ◌≤◌, ◌<◌, length, get_or};
-ghost use Rattle.standard.specs.Base.{line_feeds};
+ghost use Rattle.standard.specs.Base.{◌then◌else◌, line_feeds};
 ghost use Rattle.line_feeds.specs.Parts.{part};
 ghost use Rattle.runs.specs.Run.{Ready};
 ghost use Rattle.runs.specs.Stretch.{Copied, Begins};
 
-use crate::{ready, wide};
+use crate::ready;
 use line_feeds::{in_block, in_bytes};
 
-// Copies a byte below 80; 1, or 0 if it is none.
-fn copy_one(chunk: &[u8], at: usize, room: &mut [u32], o: usize) -> usize
-    requires { (at < length chunk.now) × (o < length room.old) }
-    ensures { (Copied chunk.now at result o room.old room.new) × (result ≤ 1) × Begins chunk.now at result }
+// Copies the bytes below 80 in front of all that are left, one by one; how many. Each is stored once it is tested: no loop has to find the end again.
+fn copy_each(chunk: &[u8], at: usize, room: &mut [u32], o: usize) -> usize
+    requires { Ready chunk.now at room.old o }
+    ensures { (Copied chunk.now at result o room.old room.new) × Begins chunk.now at result }
 {
-    if 0x80 <= chunk[at] {
-        return 0;
-    }
-    room[o] = wide(chunk[at]);
-    1
-}
-
-// Copies the bytes below 80 in front of n, one by one; how many. Each is stored once it is tested: no loop has to find the end again.
-fn copy_each(chunk: &[u8], at: usize, n: usize, room: &mut [u32], o: usize) -> usize
-    requires { (Ready chunk.now at room.old o) × (at + n ≤ length chunk.now) }
-    ensures { (Copied chunk.now at result o room.old room.new)
-        × (1 ≤ n → Begins chunk.now at result) }
-{
-    for k in 0..n {
-        if copy_one(&*chunk, at + k, room, o + k) == 0 {
+    for (k, b) in chunk[at..].iter().enumerate() {
+        if 0x80 <= *b {
             return k;
         }
+        room[o + k] = u32::from(*b);
     }
-    n
-}
-
-// A number if a byte is below 80, else 0.
-fn if_low(n: usize, b: u8) -> usize
-    ensures { (result ≤ n) × (1 ≤ result → (result ≡ n) × (b < 0x80)) }
-{
-    if 0x80 <= b {
-        return 0;
-    }
-    n
+    chunk.len() - at
 }
 
 // Copies the bytes below 80 in front of seven; how many. No branch asks where they end: behind the end the last one is stored again.
 // One byte alone, as between two words of another script, is told ahead.
 fn copy_front(chunk: &[u8], at: usize, room: &mut [u32], o: usize) -> usize
     requires { (Ready chunk.now at room.old o) × (at + 7 ≤ length chunk.now) }
-    ensures { (Copied chunk.now at result o room.old room.new) × Begins chunk.now at result }
+    ensures { (Copied chunk.now at result o room.old room.new) × (Begins chunk.now at result) × (result ≤ 7) }
 {
-    if copy_one(&*chunk, at, room, o) == 0 {
+    if 0x80 <= chunk[at] {
         return 0;
     }
+    room[o] = u32::from(chunk[at]);
     if 0x80 <= chunk[at + 1] {
         return 1;
     }
     let mut last: usize = 0;
-    let mut more: usize = 1;
+    let mut low = true;
     for k in 1..7 {
-        more = if_low(more, chunk[at + k]);
-        last += more;
-        room[o + last] = wide(chunk[at + last]);
+        low = low & (chunk[at + k] < 0x80);
+        last += usize::from(low);
+        room[o + last] = u32::from(chunk[at + last]);
     }
     last + 1
 }
 
-// At least each of n bytes; below 80 only if each is.
-fn joined(chunk: &[u8], at: usize, n: usize) -> u8
-    requires { at + n ≤ length chunk.now }
-    ensures { (j : ℕ) → j < n → get_or chunk.now (at + j) 0 ≤ result }
+// At least each byte; below 80 only if each is.
+fn joined(bytes: &[u8]) -> u8
+    ensures { (j : ℕ) → j < length bytes.now → get_or bytes.now j 0 ≤ result }
 {
-    let mut all: u8 = 0;
-    for k in 0..n {
-        all = all | chunk[at + k];
-    }
-    all
+    bytes.iter().fold(0, |all, b| all | *b)
 }
 
-// Copies four bytes, which are below 80. All are read before one is stored: so the compiler reads and stores them at once.
+// Copies four bytes, which are below 80. All are read before one is stored, not in a loop: so the compiler reads and stores them at once.
 fn copy_four(chunk: &[u8], at: usize, room: &mut [u32], o: usize)
     requires { (Ready chunk.now at room.old o) × (at + 4 ≤ length chunk.now)
         × ((j : ℕ) → j < 4 → get_or chunk.now (at + j) 0 < 0x80) }
@@ -89,22 +64,22 @@ fn copy_four(chunk: &[u8], at: usize, room: &mut [u32], o: usize)
     let b1 = chunk[at + 1];
     let b2 = chunk[at + 2];
     let b3 = chunk[at + 3];
-    room[o] = wide(b0);
-    room[o + 1] = wide(b1);
-    room[o + 2] = wide(b2);
-    room[o + 3] = wide(b3);
+    room[o] = u32::from(b0);
+    room[o + 1] = u32::from(b1);
+    room[o + 2] = u32::from(b2);
+    room[o + 3] = u32::from(b3);
 }
 
 // The step of every stretch: eight bytes, tested together and copied if each is below 80; else those in front of one that is not. How many.
 // The first is stored ahead of the others: behind a store the bytes are read anew, so that the test can read them as one number.
 fn copy_eight(chunk: &[u8], at: usize, room: &mut [u32], o: usize) -> usize
     requires { (Ready chunk.now at room.old o) × (at + 8 ≤ length chunk.now) }
-    ensures { (Copied chunk.now at result o room.old room.new) × Begins chunk.now at result }
+    ensures { (Copied chunk.now at result o room.old room.new) × (Begins chunk.now at result) × (result ≤ 8) }
 {
-    if 0x80 <= joined(&*chunk, at, 8) {
+    if 0x80 <= joined(&chunk[at..at + 8]) {
         return copy_front(&*chunk, at, room, o);
     }
-    room[o] = wide(chunk[at]);
+    room[o] = u32::from(chunk[at]);
     copy_four(&*chunk, at, room, o);
     copy_four(&*chunk, at + 4, room, o + 4);
     8
@@ -116,15 +91,14 @@ fn copy_eights(chunk: &[u8], from: usize, room: &mut [u32], place: usize) -> usi
     ensures { (Copied chunk.now from result place room.old room.new) × Begins chunk.now from result }
 {
     let n = chunk.len() - from;
-    let mut k: usize = 0;
-    while n - k >= 8 {
+    for j in 0..n / 8 {
+        let k = j * 8;
         let c = copy_eight(&*chunk, from + k, room, place + k);
-        k += c;
         if c < 8 {
-            return k;
+            return k + c;
         }
     }
-    k
+    n / 8 * 8
 }
 
 // Copies n bytes, which are below 80.
@@ -132,23 +106,21 @@ fn copy_bytes(chunk: &[u8], from: usize, n: usize, room: &mut [u32], place: usiz
     requires { (Ready chunk.now from room.old place) × (from + n ≤ length chunk.now) × ((j : ℕ) → j < n → get_or chunk.now (from + j) 0 < 0x80) }
     ensures { Copied chunk.now from n place room.old room.new }
 {
-    let mut k: usize = 0;
-    while k < n {
-        room[place + k] = wide(chunk[from + k]);
-        k += 1;
+    for k in 0..n {
+        room[place + k] = u32::from(chunk[from + k]);
     }
 }
 
-// Copies 192 bytes if each is below 80; how many.
-fn copy_block(chunk: &[u8], from: usize, room: &mut [u32], place: usize) -> usize
+// Copies 192 bytes if each is below 80, and else none; did it?
+fn copy_block(chunk: &[u8], from: usize, room: &mut [u32], place: usize) -> bool
     requires { (Ready chunk.now from room.old place) × (from + 192 ≤ length chunk.now) }
-    ensures { (Copied chunk.now from result place room.old room.new) × ((result ≡ 0 → ⊥) → result ≡ 192) }
+    ensures { Copied chunk.now from (result then 192 else 0) place room.old room.new }
 {
-    if 0x80 <= joined(&*chunk, from, 192) {
-        return 0;
+    if 0x80 <= joined(&chunk[from..from + 192]) {
+        return false;
     }
     copy_bytes(&*chunk, from, 192, room, place);
-    192
+    true
 }
 
 // Copies bytes below 80 from a place on; how many. It may stop before another, and copies none where no run can begin.
@@ -161,9 +133,10 @@ pub fn copy_ascii(chunk: &[u8], from: usize, room: &mut [u32], place: usize) -> 
     }
     let n = chunk.len() - from;
     if n < 8 {
-        return copy_each(&*chunk, from, n, room, place);
+        copy_each(&*chunk, from, room, place)
+    } else {
+        copy_eights(&*chunk, from, room, place)
     }
-    copy_eights(&*chunk, from, room, place)
 }
 
 // A stretch of ASCII: its bytes, and the line feeds among them.
@@ -180,16 +153,18 @@ fn count_blocks(chunk: &[u8], from: usize, room: &mut [u32], place: usize) -> St
         × (result.lines ≡ line_feeds (part chunk.now from result.length)) }
 {
     let n = chunk.len() - from;
-    let mut k: usize = 0;
-    let mut lines: usize = 0;
-    while n - k >= 192 {
-        if copy_block(&*chunk, from + k, room, place + k) == 0 {
+    let mut lines = 0;
+    for j in 0..n / 192 {
+        let k = j * 192;
+        if !copy_block(&*chunk, from + k, room, place + k) {
             return Stretch { length: k, lines };
         }
         lines += in_block(&*chunk, from + k);
-        k += 192;
     }
-    Stretch { length: k, lines }
+    Stretch {
+        length: n / 192 * 192,
+        lines,
+    }
 }
 
 // Copies bytes below 80 in blocks, and what is left of them as any stretch, with their line feeds.
@@ -208,29 +183,16 @@ fn count_stretch(chunk: &[u8], from: usize, room: &mut [u32], place: usize) -> S
     }
 }
 
-// No stretch.
-fn none() -> Stretch
-    ensures { (result.length ≡ 0) × (result.lines ≡ 0) }
-{
-    Stretch {
-        length: 0,
-        lines: 0,
-    }
-}
-
 // Copies bytes below 80 from a place on, with their line feeds. It may stop before another, and copies none where no run can begin.
 pub fn count_ascii(chunk: &[u8], from: usize, room: &mut [u32], place: usize) -> Stretch
     ensures { (Copied chunk.now from result.length place room.old room.new)
         × (result.lines ≡ line_feeds (part chunk.now from result.length)) }
 {
-    if !ready(chunk.len(), from, room.len(), place) {
-        return none();
-    }
-    if chunk.len() == from {
-        return none();
-    }
-    if 0x80 <= chunk[from] {
-        return none();
+    if !ready(chunk.len(), from, room.len(), place) || chunk.len() == from || 0x80 <= chunk[from] {
+        return Stretch {
+            length: 0,
+            lines: 0,
+        };
     }
     count_stretch(&*chunk, from, room, place)
 }

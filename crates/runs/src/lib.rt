@@ -5,16 +5,16 @@
 
 pub mod ascii;
 
-ghost use Rattle.std.specs.Prelude.{◌≡◌, eqb, drop};
+ghost use Rattle.std.specs.Prelude.{◌≡◌, eqb, drop, IfSome};
 ghost use Rattle.standard.specs.Encodings.{family, lent};
 ghost use Rattle.standard.specs.Sequence.{shift, plain};
 ghost use Rattle.standard.specs.Next.{next};
-ghost use Rattle.sequences.specs.Code.{next_of};
+ghost use Rattle.sequences.specs.Code.{item_of};
 ghost use Rattle.runs.specs.Run.{ready, ready_plain, left, Gives};
 
-use sequences::{Sequence, next};
+use sequences::{Out, Sequence, next};
 
-// Where a run has come to: its place in the chunk and in the room, and the shift.
+// Where a run has come to: its place in the chunk and in the room, and the shift. The flag is a number, as in the C record.
 #[derive(Clone, Copy)]
 pub struct Place {
     pub at: usize,
@@ -69,7 +69,7 @@ pub fn wide(b: u8) -> u32
     b as u32
 }
 
-// The sequence at a place of a chunk; width 0 where fewer than four bytes are left.
+// The sequence at a place of a chunk; none where more bytes are wanted, and where fewer than four are left.
 pub fn next_at(
     t1: &[u32],
     t2: &[u32],
@@ -78,15 +78,15 @@ pub fn next_at(
     flag: u8,
     chunk: &[u8],
     i: usize,
-) -> Sequence
-    ensures { (result.width ≡ 0 → ⊥) →
-        next_of result ≡ next (lent t1.now t2.now) (family encoding) (shift state (eqb flag 1)) (drop i chunk.now) }
+) -> Option<Sequence>
+    ensures { IfSome result (λ q.
+        item_of q ≡ next (lent t1.now t2.now) (family encoding) (shift state (eqb flag 1)) (drop i chunk.now)) }
 {
     if chunk.len() < i {
-        return none();
+        return None;
     }
     if chunk.len() - i < 4 {
-        return none();
+        return None;
     }
     next(
         &*t1,
@@ -102,48 +102,23 @@ pub fn next_at(
     )
 }
 
-// No sequence.
-fn none() -> Sequence
-    ensures { result.width ≡ 0 }
+// The only scalar of a sequence, U+FFFD for an error in a mode other than 1; none for another.
+pub fn scalar_of(mode: u8, q: Sequence) -> Option<u32>
+    ensures { IfSome result (λ c. Gives mode (item_of q) q.width (left q) c) }
 {
-    Sequence {
-        first: 0,
-        second: 0,
-        width: 0,
-        state: 0,
-        flag: 0,
-        count: 0,
+    match q.out {
+        Out::One(c) => Some(c),
+        Out::Error if mode != 1 => Some(0xFFFD),
+        _ => None,
     }
 }
 
-// The only scalar of a sequence, U+FFFD for an error in a mode other than 1; 0 for none.
-pub fn scalar_of(mode: u8, q: Sequence) -> u32
-    ensures { (result ≡ 0 → ⊥) → Gives mode (next_of q) q.width (left q) result }
+// The same of a sequence that leaves no shift; none for another.
+pub fn plain_scalar_of(mode: u8, q: Sequence) -> Option<u32>
+    ensures { IfSome result (λ c. Gives mode (item_of q) q.width plain c) }
 {
-    if q.width == 0 {
-        return 0;
-    }
-    if q.count == 1 {
-        return q.first;
-    }
-    if q.count != 3 {
-        return 0;
-    }
-    if mode == 1 {
-        return 0;
-    }
-    0xFFFD
-}
-
-// The same of a sequence that leaves no shift; 0 for another.
-pub fn plain_scalar_of(mode: u8, q: Sequence) -> u32
-    ensures { (result ≡ 0 → ⊥) → Gives mode (next_of q) q.width plain result }
-{
-    if q.state != 0 {
-        return 0;
-    }
-    if q.flag != 0 {
-        return 0;
+    if q.shift.state != 0 || q.shift.flag {
+        return None;
     }
     scalar_of(mode, q)
 }

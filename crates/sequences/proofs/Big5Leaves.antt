@@ -1,21 +1,24 @@
 -- Big5, leaf by leaf. Assumes nothing.
-use mathlib.Core.Path.{◌≡◌, ◌∙◌}
+use mathlib.Core.Path.{◌≡◌, sym, ap, ◌∙◌}
 use mathlib.Core.Bool.{true, false}
 use mathlib.Core.List.{List, [], ◌∷◌}
-use Prim.Native.Nat.{ℕ, ◌+◌, ◌-◌, ◌≤◌, ◌<◌}
+use Prim.Native.Nat.{ℕ, zero, suc, ◌+◌, ◌-◌, ◌≤◌, ◌<◌}
 use native.Mathlib.Omega.{arith}
 use lib.Dec.{eqb, lit≤}
-use lib.ListN.{take}
+use lib.ListN.{take, drop, get_or}
 use borrow.Author.Tests.{le-ltb, lt-ltb, ne_eqb}
 use Rattle.standard.specs.Encodings.{Tables}
 use Rattle.standard.specs.Layouts.{leads, trails, pointer_of, pair_code, big5_layout}
-use Rattle.standard.specs.Sequence.{Next, more, await, item, text, plain, scalar, bad, pair}
+use Rattle.standard.specs.Sequence.{Next, more, await, item, plain, scalar, bad, pair}
 use Rattle.standard.specs.Sequences.Big5.{big5, big5_pair, big5_trail}
 use Rattle.standard.proofs.Layouts.{pair_led}
 use Rattle.standard.proofs.Tests.{split, not_ascii}
 use Rattle.layouts.specs.Rows.{no_cell, place, row, column}
 use Rattle.layouts.proofs.Rows.{by_row}
-use Rattle.sequences.specs.Code.{pair_cell, pair_row}
+use Rattle.std.specs.Prelude.{Some, None}
+use Rattle.std.proofs.lemmas.Option.{none-some, same_Some}
+use Rattle.sequences.specs.Code.{out_of, pairs, two_in}
+use Rattle.sequences.specs.declared.Out.{Out as CodeOut}
 use Rattle.sequences.proofs.Leaves.{one_more, no_more}
 
 module _ (t : Tables) (n b c : ℕ) (xs : List ℕ) where
@@ -38,53 +41,52 @@ module _ (t : Tables) (n b c : ℕ) (xs : List ℕ) (g : leads big5_layout b ≡
   pub big5_pair_lem : 2 ≤ n → big5 t (b ∷ take (n - 1) (c ∷ xs)) ≡ big5_trail t.first b c
   big5_pair_lem k = big5_led t b (take (n - 1) (c ∷ xs)) g ∙ rw (one_more (n - 1) c xs (omega arith))
 
--- the row of a pointer that gives two scalars
-module _ (p : ℕ) where
-  pub row_0 : p ≡ 1133 → pair_row p ≡ 0
-  row_0 h = rw h
-
-  pub row_1 : p ≡ 1135 → pair_row p ≡ 1
-  row_1 h = rw h
-
-  pub row_2 : p ≡ 1164 → pair_row p ≡ 2
-  row_2 h = rw h
-
-  pub row_3 : p ≡ 1166 → pair_row p ≡ 3
-  row_3 h = rw h
-
-  pub row_4 : (p ≡ 1133 → ⊥) → (p ≡ 1135 → ⊥) → (p ≡ 1164 → ⊥) → (p ≡ 1166 → ⊥) → pair_row p ≡ 4
-  row_4 f g h i = rw (ne_eqb p 1133 f, ne_eqb p 1135 g, ne_eqb p 1164 h, ne_eqb p 1166 i)
-
-module _ (b c i p : ℕ) (o : Next) (e : p ≡ pointer_of big5_layout b c) (r : i ≡ pair_row p) where
-  pub pair_row_lem : i < 4 → big5_pair b c o ≡ item 2 plain (text (pair_cell i 1 ∷ pair_cell i 2 ∷ []))
+-- the two scalars of a pointer, in their place in the definitions
+module _ (b c p : ℕ) (o : Next) (e : p ≡ pointer_of big5_layout b c) where
+  pub pair_two : (w : CodeOut) → two_in pairs p ≡ Some w → big5_pair b c o ≡ item 2 plain (out_of w)
   unfolding big5_pair
-  pair_row_lem l = rw (r, ← e)
-      (split (eqb p 1133) (λ f. rw f) (λ f.
-      split (eqb p 1135) (λ g. rw (f, g)) (λ g.
-      split (eqb p 1164) (λ h. rw (f, g, h)) (λ h.
-      split (eqb p 1166) (λ k. rw (f, g, h, k)) (λ k.
-      let z : 4 < 4 = rw (r, f, g, h, k) at l in absurd (omega arith))))))
+  pair_two w r = rw (← e)
+      (split (eqb p 1133) (λ f. rw f (rest w (rw f at r))) (λ f.
+      split (eqb p 1135) (λ g. rw (f, g) (rest w (rw (f, g) at r))) (λ g.
+      split (eqb p 1164) (λ h. rw (f, g, h) (rest w (rw (f, g, h) at r))) (λ h.
+      split (eqb p 1166) (λ k. rw (f, g, h, k) (rest w (rw (f, g, h, k) at r))) (λ k.
+      absurd (none-some w (rw (f, g, h, k) at r)))))))
+    where
+      rest : {v : CodeOut} (w : CodeOut) → Some v ≡ Some w → item 2 plain (out_of v) ≡ item 2 plain (out_of w)
+      rest {v} w h = ap (λ (x : CodeOut). item 2 plain (out_of x)) (same_Some v w h)
 
-  pub pair_none : 4 ≤ i → big5_pair b c o ≡ o
+  pub pair_none : two_in pairs p ≡ None → big5_pair b c o ≡ o
   unfolding big5_pair
-  pair_none l = rw (← e)
-      (split (eqb p 1133) (λ f. let z : 4 ≤ 0 = rw (r, f) at l in absurd (omega arith)) (λ f.
-      split (eqb p 1135) (λ g. let z : 4 ≤ 1 = rw (r, f, g) at l in absurd (omega arith)) (λ g.
-      split (eqb p 1164) (λ h. let z : 4 ≤ 2 = rw (r, f, g, h) at l in absurd (omega arith)) (λ h.
-      split (eqb p 1166) (λ k. let z : 4 ≤ 3 = rw (r, f, g, h, k) at l in absurd (omega arith)) (λ k. rw (f, g, h, k))))))
+  pair_none r = rw (← e)
+      (split (eqb p 1133) (λ f. absurd (none-some _ (sym (rw f at r)))) (λ f.
+      split (eqb p 1135) (λ g. absurd (none-some _ (sym (rw (f, g) at r)))) (λ g.
+      split (eqb p 1164) (λ h. absurd (none-some _ (sym (rw (f, g, h) at r)))) (λ h.
+      split (eqb p 1166) (λ k. absurd (none-some _ (sym (rw (f, g, h, k) at r)))) (λ k. rw (f, g, h, k))))))
+
+-- no pointer past the cells gives two
+none_past : (p : ℕ) → no_cell ≤ p → two_in pairs p ≡ None
+none_past p h = rw (ne_eqb p 1133 (λ z. omega arith), ne_eqb p 1135 (λ z. omega arith), ne_eqb p 1164 (λ z. omega arith), ne_eqb p 1166 (λ z. omega arith))
 
 -- a lead and a trail byte, by the row and the column
-module _ (t : List ℕ) (b c i p : ℕ) (l : leads big5_layout b ≡ true) (e : p ≡ row big5_layout b + column big5_layout c) (r : i ≡ pair_row p) where
+module _ (t : List ℕ) (b c p : ℕ) (l : leads big5_layout b ≡ true) (e : p ≡ row big5_layout b + column big5_layout c) where
   past : trails big5_layout c ≡ false → no_cell ≤ p
   unfolding place
   past f = let z : column big5_layout c ≡ no_cell = rw f in omega (arith, e, z)
 
-  pub trail_row : i < 4 → big5_trail t b c ≡ item 2 plain (text (pair_cell i 1 ∷ pair_cell i 2 ∷ []))
-  trail_row h = split (trails big5_layout c)
-      (λ g. rw g (pair_row_lem b c i p _ (e ∙ by_row big5_layout b c l g) r h))
-      (λ g. let z : p ≡ 1133 → ⊥ = λ q. omega (arith, q, past g) in absurd (omega (arith, h, r, row_4 p z (λ q. omega (arith, q, past g)) (λ q. omega (arith, q, past g)) (λ q. omega (arith, q, past g)))))
+  pub trail_two : (w : CodeOut) → two_in pairs p ≡ Some w → big5_trail t b c ≡ item 2 plain (out_of w)
+  trail_two w h = split (trails big5_layout c)
+      (λ g. rw g (pair_two b c p _ (e ∙ by_row big5_layout b c l g) w h))
+      (λ g. absurd (none-some w (sym (none_past p (past g)) ∙ h)))
 
-  pub trail_none : 4 ≤ i → big5_trail t b c ≡ pair c (pair_code big5_layout t b c)
+  pub trail_none : two_in pairs p ≡ None → big5_trail t b c ≡ pair c (pair_code big5_layout t b c)
   trail_none h = split (trails big5_layout c)
-      (λ g. rw (pair_led big5_layout t b c l, g) (pair_none b c i p _ (e ∙ by_row big5_layout b c l g) r h))
+      (λ g. rw (pair_led big5_layout t b c l, g) (pair_none b c p _ (e ∙ by_row big5_layout b c l g) h))
       (λ g. rw (pair_led big5_layout t b c l, g))
+
+-- a row that has another pointer is passed
+pub rows_passed : (i p q : ℕ) → i < 4 → q ≡ get_or (get_or pairs i []) 0 0 → (p ≡ q → ⊥) → two_in (drop (i + 1) pairs) p ≡ two_in (drop i pairs) p
+rows_passed zero p q h e n = rw (ne_eqb p 1133 (λ z. n (z ∙ sym e)))
+rows_passed (suc zero) p q h e n = rw (ne_eqb p 1135 (λ z. n (z ∙ sym e)))
+rows_passed (suc (suc zero)) p q h e n = rw (ne_eqb p 1164 (λ z. n (z ∙ sym e)))
+rows_passed (suc (suc (suc zero))) p q h e n = rw (ne_eqb p 1166 (λ z. n (z ∙ sym e)))
+rows_passed (suc (suc (suc (suc i)))) p q h e n = absurd (omega arith)

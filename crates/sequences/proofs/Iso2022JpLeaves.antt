@@ -6,103 +6,28 @@ use Prim.Native.Nat.{ℕ, ◌+◌, ◌-◌, ◌≤◌, ◌<◌}
 use native.Mathlib.Omega.{arith}
 use lib.Dec.{leb, eqb}
 use lib.ListN.{take}
-use borrow.Author.Tests.{le-leb, lt-leb, ne_eqb, eq-eqb}
+use borrow.Author.Tests.{ne_eqb, eq-eqb}
 use Rattle.standard.specs.Base.{◌then◌else◌, within}
 use Rattle.standard.specs.Encodings.{Tables}
 use Rattle.standard.specs.Layouts.{leads, pair_code, iso2022_jp_layout}
 use Rattle.standard.specs.Sequence.{Shift, Next, text, error, more, item, shift}
-use Rattle.standard.specs.Sequences.Iso2022Jp.{iso2022_jp, escaped, escape_end, escape_next, byte_out, katakana_out, trail_next}
+use Rattle.standard.specs.Sequences.Iso2022Jp.{iso2022_jp, escaped, escape_next, byte_out, katakana_out, trail_next}
 use Rattle.sequences.proofs.Leaves.{one_more, no_more}
 
 -- the output state that an escape chooses
 module _ (c d : ℕ) where
-  pub chosen_28 : c ≡ 0x28 → escaped 0x28 d ≡ escaped c d
-  chosen_28 h = rw h
-
   pub chosen_none : (c ≡ 0x28 → ⊥) → (c ≡ 0x24 → ⊥) → escaped c d ≡ 4
   unfolding escaped
   chosen_none h g = rw (ne_eqb c 0x28 h, ne_eqb c 0x24 g)
-
-  pub chosen_24_40 : c ≡ 0x24 → d ≡ 0x40 → escaped c d ≡ 3
-  unfolding escaped
-  chosen_24_40 h g = rw (h, g)
-
-  pub chosen_24_42 : c ≡ 0x24 → d ≡ 0x42 → escaped c d ≡ 3
-  unfolding escaped
-  chosen_24_42 h g = rw (h, g)
 
   pub chosen_24_other : c ≡ 0x24 → (d ≡ 0x40 → ⊥) → (d ≡ 0x42 → ⊥) → escaped c d ≡ 4
   unfolding escaped
   chosen_24_other h g k = rw (h, ne_eqb d 0x40 g, ne_eqb d 0x42 k)
 
 module _ (d : ℕ) where
-  pub chosen_28_42 : d ≡ 0x42 → escaped 0x28 d ≡ 0
-  unfolding escaped
-  chosen_28_42 h = rw h
-
-  pub chosen_28_4a : d ≡ 0x4A → escaped 0x28 d ≡ 1
-  unfolding escaped
-  chosen_28_4a h = rw h
-
-  pub chosen_28_49 : d ≡ 0x49 → escaped 0x28 d ≡ 2
-  unfolding escaped
-  chosen_28_49 h = rw h
-
   pub chosen_28_other : (d ≡ 0x42 → ⊥) → (d ≡ 0x4A → ⊥) → (d ≡ 0x49 → ⊥) → escaped 0x28 d ≡ 4
   unfolding escaped
   chosen_28_other h g k = rw (ne_eqb d 0x42 h, ne_eqb d 0x4A g, ne_eqb d 0x49 k)
-
--- the second byte of an escape
-pub begins_24 : (c : ℕ) → c ≡ 0x24 → eqb c 0x24 || eqb c 0x28 ≡ true
-begins_24 c h = rw h
-
-pub begins_other : (c : ℕ) → (c ≡ 0x24 → ⊥) → eqb c 0x24 || eqb c 0x28 ≡ eqb c 0x28
-begins_other c h = rw (ne_eqb c 0x24 h)
-
--- the end of an escape
-module _ (s : Shift) (c d x : ℕ) (e : x ≡ escaped c d) where
-  pub end_none : 4 ≤ x → escape_end s c d ≡ item 1 (shift s.state false) error
-  end_none h = rw (← e, le-leb 4 x h)
-
-  pub end_again : x < 4 → s.flag ≡ true → escape_end s c d ≡ item 3 (shift x true) error
-  end_again h g = rw (← e, lt-leb 4 x h, g)
-
-  pub end_first : x < 4 → s.flag ≡ false → escape_end s c d ≡ item 3 (shift x true) (text [])
-  end_first h g = rw (← e, lt-leb 4 x h, g)
-
--- after an escape byte
-module _ (s : Shift) (n c d : ℕ) (xs : List ℕ) where
-  pub escape_none : eqb c 0x24 || eqb c 0x28 ≡ false → escape_next s c (take (n - 2) (d ∷ xs)) ≡ item 1 (shift s.state false) error
-  escape_none h = rw h
-
-  module _ (h : eqb c 0x24 || eqb c 0x28 ≡ true) where
-    pub escape_wait : n < 3 → escape_next s c (take (n - 2) (d ∷ xs)) ≡ more
-    escape_wait g = rw (h, no_more (n - 2) (d ∷ xs) (omega arith))
-
-    pub escape_whole : 3 ≤ n → escape_next s c (take (n - 2) (d ∷ xs)) ≡ escape_end s c d
-    escape_whole g = rw (h, one_more (n - 2) d xs (omega arith))
-
--- a byte that is no character
-module _ (b : ℕ) where
-  pub none_high : 0x80 ≤ b → leb 0x80 b || eqb b 0x0E || eqb b 0x0F ≡ true
-  none_high h = rw (le-leb 0x80 b h)
-
-  pub none_0e : b ≡ 0x0E → leb 0x80 b || eqb b 0x0E || eqb b 0x0F ≡ true
-  none_0e h = rw h
-
-  pub none_0f : b < 0x80 → (b ≡ 0x0E → ⊥) → leb 0x80 b || eqb b 0x0E || eqb b 0x0F ≡ eqb b 0x0F
-  none_0f h g = rw (lt-leb 0x80 b h, ne_eqb b 0x0E g)
-
--- Roman: all but two are ASCII
-module _ (b : ℕ) where
-  pub roman_5c : b ≡ 0x5C → (eqb b 0x5C then 0xA5 else eqb b 0x7E then 0x203E else b) ≡ 0xA5
-  roman_5c h = rw h
-
-  pub roman_7e : b ≡ 0x7E → (eqb b 0x5C then 0xA5 else eqb b 0x7E then 0x203E else b) ≡ 0x203E
-  roman_7e h = rw h
-
-  pub roman_self : (b ≡ 0x5C → ⊥) → (b ≡ 0x7E → ⊥) → (eqb b 0x5C then 0xA5 else eqb b 0x7E then 0x203E else b) ≡ b
-  roman_self h g = rw (ne_eqb b 0x5C h, ne_eqb b 0x7E g)
 
 -- what a byte gives
 abbrev pub byte_item : ℕ → ℕ → Next

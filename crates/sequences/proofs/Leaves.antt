@@ -2,13 +2,13 @@
 use mathlib.Core.Path.{◌≡◌, refl, ap}
 use mathlib.Core.Bool.{Bool, true, false}
 use mathlib.Core.List.{List, [], ◌∷◌}
-use Prim.Native.Nat.{ℕ, zero, suc, ◌-◌, ◌≤◌, ◌<◌}
+use Prim.Native.Nat.{ℕ, zero, suc, ◌-◌, ◌≤◌}
 use native.Mathlib.Omega.{arith}
-use lib.Dec.{ltb, eqb}
+use lib.Dec.{ltb}
 use lib.ListN.{take}
-use borrow.Author.Tests.{ltb-true, ltb-false, le-ltb, lt-ltb, ne_eqb, eq-eqb}
+use borrow.Author.Tests.{ltb-true, ltb-false, le-ltb, ne_eqb}
 use Rattle.standard.specs.Base.{◌then◌else◌}
-use Rattle.standard.specs.Sequence.{more, item, Shift, Out, await, scalar, bad, code, pair, trailed}
+use Rattle.standard.specs.Sequence.{more, await, scalar, code, pair, trailed}
 use Rattle.sequences.specs.Code.{front}
 
 -- there is a byte more, or none
@@ -26,31 +26,15 @@ pub no_more : (n : ℕ) (xs : List ℕ) → n ≤ 0 → take n xs ≡ []
 no_more zero xs h = refl
 no_more (suc n) xs h = absurd (omega arith)
 
--- a sequence that has a width
-pub not_more : (w : ℕ) (s : Shift) (o : Out) → 1 ≤ w → (eqb w 0 then more else item w s o) ≡ item w s o
-not_more w s o h = rw (ne_eqb w 0 (λ z. omega arith))
-
--- a code point, null or not
-pub code_null : (w c : ℕ) → c ≡ 0 → code w c ≡ bad w
-code_null w c h = rw (eq-eqb c 0 h)
-
+-- a code point that is not null
 pub code_some : (w c : ℕ) → (c ≡ 0 → ⊥) → code w c ≡ scalar w c
 code_some w c h = rw (ne_eqb c 0 h)
 
 -- a trail byte with its code point
-pub trailed_back : (l w t c : ℕ) → c ≡ 0 → t < 0x80 → trailed l w t c ≡ bad l
-trailed_back l w t c h g = rw (eq-eqb c 0 h, lt-ltb t 0x80 g)
-
-pub trailed_null : (l w t c : ℕ) → c ≡ 0 → 0x80 ≤ t → trailed l w t c ≡ bad w
-trailed_null l w t c h g = rw (eq-eqb c 0 h, le-ltb t 0x80 g)
-
 pub trailed_some : (l w t c : ℕ) → (c ≡ 0 → ⊥) → trailed l w t c ≡ scalar w c
 trailed_some l w t c h = rw (ne_eqb c 0 h)
 
 -- the second byte, if it is there
-pub pair_wait : (n t c : ℕ) → n < 2 → (ltb n 2 then more else pair t c) ≡ more
-pair_wait n t c h = rw (lt-ltb n 2 h)
-
 pub pair_there : (n t c : ℕ) → 2 ≤ n → (ltb n 2 then more else pair t c) ≡ pair t c
 pair_there n t c h = rw (le-ltb n 2 h)
 

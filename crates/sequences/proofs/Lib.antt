@@ -1,10 +1,10 @@
 pub mod Big5Leaves
 pub mod EucJpLeaves
 pub mod EucKrLeaves
+pub mod Flags
 pub mod Gb18030Leaves
 pub mod Iso2022JpLeaves
 pub mod Leaves
-pub mod Marks
 pub mod ReplacementLeaves
 pub mod ShiftJisLeaves
 pub mod SingleByteLeaves

@@ -1,5 +1,5 @@
 -- UTF-8, leaf by leaf. Assumes nothing.
-use mathlib.Core.Path.{◌≡◌, ◌∙◌}
+use mathlib.Core.Path.{◌≡◌, ap, ◌∙◌}
 use mathlib.Core.Bool.{Bool, true, false}
 use mathlib.Core.List.{List, ◌∷◌}
 use Prim.Native.Nat.{ℕ, ◌+◌, ◌-◌, ◌*◌, ◌≤◌, ◌<◌}
@@ -9,15 +9,13 @@ use lib.ListN.{take}
 use borrow.Author.Tests.{le-ltb, lt-ltb, ltb-true, ltb-false, ne_eqb}
 use Rattle.standard.specs.Base.{◌then◌else◌, within}
 use Rattle.standard.specs.Sequence.{Next, more, await, scalar, bad}
-use Rattle.standard.specs.Sequences.Utf8.{utf8, utf8_low, utf8_high, follows, utf8_two, utf8_three, utf8_four}
+use Rattle.standard.specs.Sequences.Utf8.{utf8, utf8_low, utf8_high, follows, utf8_three, utf8_four}
 use Rattle.standard.proofs.Tests.{split, within_low}
 use Rattle.sequences.specs.Code.{begun}
+use Rattle.sequences.specs.declared.utf8.Beginning.TheVariants as is
 use Rattle.sequences.proofs.Leaves.{one_more, no_more}
 
--- what a lead of two, three, four makes of the bytes after it
-abbrev pub Two : (n b c : ℕ) → List ℕ → Next
-Two n b c xs = await (take (n - 1) (c ∷ xs)) (λ c xs. utf8_two b c)
-
+-- what a lead of three, four makes of the bytes after it
 abbrev pub Three : (n b c d : ℕ) → List ℕ → Next
 Three n b c d xs = await (take (n - 1) (c ∷ d ∷ xs)) (λ c xs. utf8_three b c xs)
 
@@ -30,38 +28,27 @@ module _ (n b c d e : ℕ) (xs : List ℕ) where
   unfolding utf8
   utf8_ascii g = rw (lt-ltb b 0x80 g)
 
--- the second byte of two
-module _ (n b c : ℕ) (xs : List ℕ) where
-  pub two_wait : n < 2 → Two n b c xs ≡ more
-  two_wait h = rw (no_more (n - 1) (c ∷ xs) (omega arith))
-
-  pub two_bad : 2 ≤ n → follows c ≡ false → Two n b c xs ≡ bad 1
-  two_bad h g = rw (one_more (n - 1) c xs (omega arith), g)
-
-  pub two_good : 2 ≤ n → follows c ≡ true → Two n b c xs ≡ scalar 2 ((b - 0xC0) * 64 + (c - 0x80))
-  two_good h g = rw (one_more (n - 1) c xs (omega arith), g)
-
 -- how three or four bytes begin
 module _ (n b c d : ℕ) where
-  pub begun_first : n < 2 → begun n b c d ≡ 3
+  pub begun_first : n < 2 → begun n b c d ≡ is.Short
   unfolding begun
   begun_first h = rw (lt-ltb n 2 h)
 
   module _ (h : 2 ≤ n) where
-    pub begun_second : within (utf8_low b) c (utf8_high b) ≡ false → begun n b c d ≡ 1
+    pub begun_second : within (utf8_low b) c (utf8_high b) ≡ false → begun n b c d ≡ is.Wrong 1
     unfolding begun
     begun_second g = rw (le-ltb n 2 h, g)
 
     module _ (g : within (utf8_low b) c (utf8_high b) ≡ true) where
-      pub begun_wait : n < 3 → begun n b c d ≡ 3
+      pub begun_wait : n < 3 → begun n b c d ≡ is.Short
       unfolding begun
       begun_wait k = rw (le-ltb n 2 h, g, lt-ltb n 3 k)
 
-      pub begun_third : 3 ≤ n → follows d ≡ false → begun n b c d ≡ 2
+      pub begun_third : 3 ≤ n → follows d ≡ false → begun n b c d ≡ is.Wrong 2
       unfolding begun
       begun_third k f = rw (le-ltb n 2 h, g, le-ltb n 3 k, f)
 
-      pub begun_right : 3 ≤ n → follows d ≡ true → begun n b c d ≡ 0
+      pub begun_right : 3 ≤ n → follows d ≡ true → begun n b c d ≡ is.Right
       unfolding begun
       begun_right k f = rw (le-ltb n 2 h, g, le-ltb n 3 k, f)
 
@@ -77,9 +64,9 @@ pub record Right (n b c d : ℕ) : Type 0 where
 
 -- by the tests: short, a wrong second byte, short again, a wrong third byte, right
 module _ (n b c d : ℕ) {A : Type 0}
-    (wait : begun n b c d ≡ 3 → ((xs : List ℕ) (f : ℕ → ℕ → List ℕ → Next) → Begun n b c d xs f ≡ more) → A)
-    (wrong : (w : ℕ) → 1 ≤ w → w < 3 → begun n b c d ≡ w → ((xs : List ℕ) (f : ℕ → ℕ → List ℕ → Next) → Begun n b c d xs f ≡ bad w) → A)
-    (right : begun n b c d ≡ 0 → Right n b c d → A) where
+    (wait : begun n b c d ≡ is.Short → ((xs : List ℕ) (f : ℕ → ℕ → List ℕ → Next) → Begun n b c d xs f ≡ more) → A)
+    (wrong : (w : ℕ) → begun n b c d ≡ is.Wrong w → ((xs : List ℕ) (f : ℕ → ℕ → List ℕ → Next) → Begun n b c d xs f ≡ bad w) → A)
+    (right : begun n b c d ≡ is.Right → Right n b c d → A) where
   pub by_begun : A
   by_begun =
       split (ltb n 2) (λ s. let l = ltb-true n 2 s in wait (begun_first n b c d l) (λ xs f. rw (no_more (n - 1) (c ∷ d ∷ xs) (omega arith)))) (λ s.
@@ -88,34 +75,43 @@ module _ (n b c d : ℕ) {A : Type 0}
       split (ltb n 3) (λ t. let m = ltb-true n 3 t in wait (begun_wait n b c d l g m) (λ xs f. rw (one_more (n - 1) c (d ∷ xs) (omega arith), g, no_more (n - 1 - 1) (d ∷ xs) (omega arith)))) (λ t.
       let m = ltb-false n 3 t in
       split (follows d) (λ k. right (begun_right n b c d l g m k) (record { there = m; second = g; third = k }))
-      (λ k. wrong 2 (omega arith) (omega arith) (begun_third n b c d l g m k) (λ xs f. rw (one_more (n - 1) c (d ∷ xs) (omega arith), g, one_more (n - 1 - 1) d xs (omega arith), k)))))
-      (λ g. wrong 1 (omega arith) (omega arith) (begun_second n b c d l g) (λ xs f. rw (one_more (n - 1) c (d ∷ xs) (omega arith), g))))
+      (λ k. wrong 2 (begun_third n b c d l g m k) (λ xs f. rw (one_more (n - 1) c (d ∷ xs) (omega arith), g, one_more (n - 1 - 1) d xs (omega arith), k)))))
+      (λ g. wrong 1 (begun_second n b c d l g) (λ xs f. rw (one_more (n - 1) c (d ∷ xs) (omega arith), g))))
 
-module _ (n b c d k : ℕ) (e : k ≡ begun n b c d) where
+module _ (n b c d : ℕ) where
   -- where they go no further
-  stopped : (k ≡ 0 → ⊥) → (xs : List ℕ) (f : ℕ → ℕ → List ℕ → Next) → Begun n b c d xs f ≡ (eqb k 3 then more else bad k)
-  stopped h xs f = by_begun n b c d
-      (λ z g. let q : k ≡ 3 = e ∙ z in rw q (g xs f))
-      (λ w l m z g. let q : k ≡ w = e ∙ z in rw (q, ne_eqb w 3 (λ y. omega arith)) (g xs f))
-      (λ z r. absurd (h (e ∙ z)))
+  stopped_short : begun n b c d ≡ is.Short → (xs : List ℕ) (f : ℕ → ℕ → List ℕ → Next) → Begun n b c d xs f ≡ more
+  stopped_short h xs f = by_begun n b c d (λ z g. g xs f) (λ w z g. absurd cc) (λ z r. absurd cc)
 
-  pub right : k ≡ 0 → Right n b c d
-  right h = by_begun n b c d
-      (λ z g. absurd (omega (arith, e, z, h)))
-      (λ w l m z g. absurd (omega (arith, e, z, h)))
-      (λ z r. r)
+  stopped_wrong : (w : ℕ) → begun n b c d ≡ is.Wrong w → (xs : List ℕ) (f : ℕ → ℕ → List ℕ → Next) → Begun n b c d xs f ≡ bad w
+  stopped_wrong w h xs f = by_begun n b c d (λ z g. absurd cc) (λ v z g. let q : v ≡ w = cc in g xs f ∙ ap bad q) (λ z r. absurd cc)
 
-  pub three_stopped : (k ≡ 0 → ⊥) → (xs : List ℕ) → Three n b c d xs ≡ (eqb k 3 then more else bad k)
-  three_stopped h xs = stopped h xs (λ c d xs. scalar 3 ((b - 0xE0) * 4096 + (c - 0x80) * 64 + (d - 0x80)))
+  pub right : begun n b c d ≡ is.Right → Right n b c d
+  right h = by_begun n b c d (λ z g. absurd cc) (λ w z g. absurd cc) (λ z r. r)
 
-  pub four_stopped : (k ≡ 0 → ⊥) → (x : ℕ) (xs : List ℕ) → Four n b c d x xs ≡ (eqb k 3 then more else bad k)
-  four_stopped h x xs = stopped h (x ∷ xs) (λ c d xs. await xs (λ e xs. follows e then scalar 4 ((b - 0xF0) * 262144 + (c - 0x80) * 4096 + (d - 0x80) * 64 + (e - 0x80)) else bad 3))
+  module _ (xs : List ℕ) where
+    after_three : ℕ → ℕ → List ℕ → Next
+    after_three c d xs = scalar 3 ((b - 0xE0) * 4096 + (c - 0x80) * 64 + (d - 0x80))
 
-pub stop_wait : (k : ℕ) → k ≡ 3 → (eqb k 3 then more else bad k) ≡ more
-stop_wait k h = rw h
+    pub three_short : begun n b c d ≡ is.Short → Three n b c d xs ≡ more
+    unfolding after_three
+    three_short h = stopped_short h xs after_three
 
-pub stop_bad : (k : ℕ) → (k ≡ 3 → ⊥) → (eqb k 3 then more else bad k) ≡ bad k
-stop_bad k h = rw (ne_eqb k 3 h)
+    pub three_wrong : (w : ℕ) → begun n b c d ≡ is.Wrong w → Three n b c d xs ≡ bad w
+    unfolding after_three
+    three_wrong w h = stopped_wrong w h xs after_three
+
+    module _ (x : ℕ) where
+      after_four : ℕ → ℕ → List ℕ → Next
+      after_four c d xs = await xs (λ e xs. follows e then scalar 4 ((b - 0xF0) * 262144 + (c - 0x80) * 4096 + (d - 0x80) * 64 + (e - 0x80)) else bad 3)
+
+      pub four_short : begun n b c d ≡ is.Short → Four n b c d x xs ≡ more
+      unfolding after_four
+      four_short h = stopped_short h (x ∷ xs) after_four
+
+      pub four_wrong : (w : ℕ) → begun n b c d ≡ is.Wrong w → Four n b c d x xs ≡ bad w
+      unfolding after_four
+      four_wrong w h = stopped_wrong w h (x ∷ xs) after_four
 
 -- the last byte
 module _ (n b c d : ℕ) (r : Right n b c d) (xs : List ℕ) where

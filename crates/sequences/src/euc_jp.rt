@@ -5,10 +5,10 @@ ghost use Rattle.standard.specs.Encodings.{lent};
 ghost use Rattle.standard.specs.Sequences.EucJp.{euc_jp, euc_jp_kana, euc_jp_three};
 ghost use Rattle.sequences.specs.Code.{next_of};
 
-use crate::{Sequence, code_point, gives, gives_pair, gives_trailed, waits, wrong};
+use crate::{Sequence, code_point, gives, gives_pair, gives_trailed, wrong};
 use layouts::{leads, within};
 
-pub fn euc_jp(t1: &[u32], t2: &[u32], b0: u8, b1: u8, b2: u8, have: usize) -> Sequence
+pub fn euc_jp(t1: &[u32], t2: &[u32], b0: u8, b1: u8, b2: u8, have: usize) -> Option<Sequence>
     ensures { (xs : List ℕ) → next_of result ≡ euc_jp (lent t1.now t2.now) (b0 ∷ take (have - 1) (b1 ∷ b2 ∷ xs)) }
 {
     if b0 < 0x80 {
@@ -19,7 +19,7 @@ pub fn euc_jp(t1: &[u32], t2: &[u32], b0: u8, b1: u8, b2: u8, have: usize) -> Se
     }
     if b0 == 0x8F {
         if have < 2 {
-            return waits();
+            return None;
         }
         return three(&*t2, b1, b2, have);
     }
@@ -40,7 +40,7 @@ fn katakana(c: u8) -> u32
 }
 
 // After 8F: a pair of jis0212.
-fn three(jis0212: &[u32], c: u8, d: u8, have: usize) -> Sequence
+fn three(jis0212: &[u32], c: u8, d: u8, have: usize) -> Option<Sequence>
     requires { 2 ≤ have }
     ensures { (xs : List ℕ) → next_of result ≡ euc_jp_three jis0212.now c (take (have - 2) (d ∷ xs)) }
 {
@@ -48,7 +48,7 @@ fn three(jis0212: &[u32], c: u8, d: u8, have: usize) -> Sequence
         return gives_pair(have, c, 0);
     }
     if have < 3 {
-        return waits();
+        return None;
     }
     gives_trailed(2, 3, d, code_point(32, &*jis0212, c, d))
 }

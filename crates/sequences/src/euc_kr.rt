@@ -8,7 +8,7 @@ ghost use Rattle.sequences.specs.Code.{next_of};
 use crate::{Sequence, code_point, gives, gives_pair, wrong};
 use layouts::leads;
 
-pub fn euc_kr(table: &[u32], b0: u8, b1: u8, have: usize) -> Sequence
+pub fn euc_kr(table: &[u32], b0: u8, b1: u8, have: usize) -> Option<Sequence>
     ensures { (xs : List ℕ) → next_of result ≡ euc_kr (lent table.now []) (b0 ∷ take (have - 1) (b1 ∷ xs)) }
 {
     if b0 < 0x80 {

@@ -7,12 +7,20 @@ ghost use Rattle.standard.specs.Layouts.{leads, gb18030_layout};
 ghost use Rattle.standard.specs.Sequences.Gb18030.{gb18030, gb18030_range, gb18030_four_code, gb18030_third};
 ghost use Rattle.sequences.specs.Code.{next_of};
 
-use crate::{Sequence, code_point, gives, gives_code, gives_pair, waits, wrong};
+use crate::{Sequence, code_point, gives, gives_code, gives_pair, wrong};
 use index::mapped;
 use layouts::gb18030::{four_pointer, gap};
 use layouts::{leads, within};
 
-pub fn gb18030(t1: &[u32], t2: &[u32], b0: u8, b1: u8, b2: u8, b3: u8, have: usize) -> Sequence
+pub fn gb18030(
+    t1: &[u32],
+    t2: &[u32],
+    b0: u8,
+    b1: u8,
+    b2: u8,
+    b3: u8,
+    have: usize,
+) -> Option<Sequence>
     ensures { (xs : List ℕ) → next_of result ≡ gb18030 (lent t1.now t2.now) (b0 ∷ take (have - 1) (b1 ∷ b2 ∷ b3 ∷ xs)) }
 {
     if b0 < 0x80 {
@@ -26,7 +34,7 @@ pub fn gb18030(t1: &[u32], t2: &[u32], b0: u8, b1: u8, b2: u8, b3: u8, have: usi
     }
     if within(0x30, b1, 0x39) {
         if have < 3 {
-            return waits();
+            return None;
         }
         return third(&*t2, b0, b1, b2, b3, have);
     }
@@ -34,7 +42,7 @@ pub fn gb18030(t1: &[u32], t2: &[u32], b0: u8, b1: u8, b2: u8, b3: u8, have: usi
 }
 
 // The third byte and the fourth: where one of them is another byte, all behind the first are put back.
-fn third(ranges: &[u32], b: u8, c: u8, d: u8, e: u8, have: usize) -> Sequence
+fn third(ranges: &[u32], b: u8, c: u8, d: u8, e: u8, have: usize) -> Option<Sequence>
     requires { (leads gb18030_layout b ≡ true) × (within 0x30 c 0x39 ≡ true) }
     ensures { (xs : List ℕ) → next_of result ≡ gb18030_third ranges.now b c d (take (have - 3) (e ∷ xs)) }
 {
@@ -42,7 +50,7 @@ fn third(ranges: &[u32], b: u8, c: u8, d: u8, e: u8, have: usize) -> Sequence
         return wrong(1);
     }
     if have < 4 {
-        return waits();
+        return None;
     }
     if !within(0x30, e, 0x39) {
         return wrong(1);
@@ -73,11 +81,8 @@ fn range_code(ranges: &[u32], p: u32) -> u64
     ensures { result ≡ gb18030_range ranges.now p 0 }
 {
     let mut found: u64 = 0;
-    let mut i = 0;
-    let n = ranges.len() / 2;
-    while i < n {
+    for i in 0..ranges.len() / 2 {
         found = range_next(ranges[i * 2], ranges[i * 2 + 1], p, found);
-        i += 1;
     }
     found
 }

@@ -15,14 +15,14 @@ pub mod utf8;
 pub mod utf_16;
 pub mod windows_1252;
 
-ghost use Rattle.std.specs.Prelude.{◌≡◌, true, false, ◌∷◌, [], ◌≤◌, ltb, eqb};
+ghost use Rattle.std.specs.Prelude.{◌≡◌, false, ◌∷◌, [], ltb, eqb};
 ghost use Rattle.standard.specs.Base.{◌then◌else◌};
 ghost use Rattle.standard.specs.Layouts.{pair_code};
 ghost use Rattle.standard.specs.Sequence.{more, bad, scalar, code, pair, trailed, item, shift, text, error};
 ghost use Rattle.standard.specs.Encodings.{family, lent};
-ghost use Rattle.standard.specs.Next.{next, unmarked};
+ghost use Rattle.standard.specs.Next.{next, unmark, unmarked};
 ghost use Rattle.layouts.specs.Rows.{layout_of};
-ghost use Rattle.sequences.specs.Code.{next_of, out_of, front};
+ghost use Rattle.sequences.specs.Code.{next_of, out_of, is_error, front};
 
 use crate::big5::big5;
 use crate::euc_jp::euc_jp;
@@ -39,64 +39,68 @@ use crate::windows_1252::windows_1252;
 use index::cell;
 use layouts::pointer;
 
-// A sequence: width 0 says that more bytes are wanted, count 3 says error. There is no padding.
+// What the bytes before leave behind: the output state of ISO-2022-JP, and a flag.
 #[derive(Clone, Copy)]
-pub struct Sequence {
-    pub first: u32,
-    pub second: u32,
-    pub width: u8,
+pub struct Shift {
     pub state: u8,
-    pub flag: u8,
-    pub count: u8,
+    pub flag: bool,
 }
 
-// More bytes are wanted.
-fn waits() -> Sequence
-    ensures { next_of result ≡ more }
-{
-    Sequence {
-        first: 0,
-        second: 0,
-        width: 0,
-        state: 0,
-        flag: 0,
-        count: 0,
+// The shift of the encodings that have none.
+const PLAIN: Shift = Shift {
+    state: 0,
+    flag: false,
+};
+
+// What a sequence gives: an error, or no scalar, one or two.
+#[derive(Clone, Copy)]
+pub enum Out {
+    Error,
+    Nothing,
+    One(u32),
+    Two(u32, u32),
+}
+
+impl Out {
+    pub fn is_error(self) -> bool
+        ensures { result ≡ is_error (out_of self) }
+    {
+        matches!(self, Out::Error)
     }
+}
+
+// A whole sequence: so many bytes, the shift that they leave, and what they give.
+#[derive(Clone, Copy)]
+pub struct Sequence {
+    pub width: u8,
+    pub shift: Shift,
+    pub out: Out,
 }
 
 // An error of so many bytes.
-fn wrong(width: u8) -> Sequence
-    requires { 1 ≤ width }
+fn wrong(width: u8) -> Option<Sequence>
     ensures { next_of result ≡ bad width }
 {
-    Sequence {
-        first: 0,
-        second: 0,
+    Some(Sequence {
         width,
-        state: 0,
-        flag: 0,
-        count: 3,
-    }
+        shift: PLAIN,
+        out: Out::Error,
+    })
 }
 
 // One scalar, of so many bytes.
-fn gives(width: u8, c: u32) -> Sequence
-    requires { 1 ≤ width }
+fn gives(width: u8, c: u32) -> Option<Sequence>
     ensures { next_of result ≡ scalar width c }
 {
-    Sequence {
-        first: c,
-        second: 0,
+    Some(Sequence {
         width,
-        state: 0,
-        flag: 0,
-        count: 1,
-    }
+        shift: PLAIN,
+        out: Out::One(c),
+    })
 }
 
 // A code point, where 0 is null.
-fn gives_code(width: u8, c: u32) -> Sequence
-    requires { 1 ≤ width }
+fn gives_code(width: u8, c: u32) -> Option<Sequence>
     ensures { next_of result ≡ code width c }
 {
     if c == 0 {
@@ -106,8 +110,7 @@ fn gives_code(width: u8, c: u32) -> Sequence
 }
 
 // A trail byte with its code point: without one, a trail byte below 80 is put back.
-fn gives_trailed(leads: u8, width: u8, trail: u8, c: u32) -> Sequence
-    requires { (1 ≤ leads) × (1 ≤ width) }
+fn gives_trailed(leads: u8, width: u8, trail: u8, c: u32) -> Option<Sequence>
     ensures { next_of result ≡ trailed leads width trail c }
 {
     if c != 0 {
@@ -120,16 +123,16 @@ fn gives_trailed(leads: u8, width: u8, trail: u8, c: u32) -> Sequence
 }
 
 // The second byte of a pair, if it is there.
-fn gives_pair(have: usize, trail: u8, c: u32) -> Sequence
+fn gives_pair(have: usize, trail: u8, c: u32) -> Option<Sequence>
     ensures { next_of result ≡ (ltb have 2 then more else pair trail c) }
 {
     if have < 2 {
-        return waits();
+        return None;
     }
     gives_trailed(1, 2, trail, c)
 }
 
-// The code point of a pair, 0 for none.
+// The code point of a pair, 0 for none. A number and not an Option, here and in the families: 0 is null in the definitions and in the tables.
 pub fn code_point(encoding: u8, table: &[u32], lead: u8, trail: u8) -> u32
     ensures { result ≡ pair_code (layout_of encoding) table.now lead trail }
 {
@@ -140,88 +143,66 @@ pub fn code_point(encoding: u8, table: &[u32], lead: u8, trail: u8) -> u32
     0
 }
 
+// What is given without a mark in front.
+fn unmark(out: Out) -> Out
+    ensures { out_of result ≡ unmark (out_of out) }
+{
+    match out {
+        Out::One(0xFEFF) => Out::Nothing,
+        Out::Two(0xFEFF, second) => Out::One(second),
+        _ => out,
+    }
+}
+
 // Rule "drop": the first scalar is dropped if it is a mark, where one is still to be dropped.
-pub fn drop_mark(q: Sequence, fresh: bool) -> Sequence
+pub fn drop_mark(q: Option<Sequence>, fresh: bool) -> Option<Sequence>
     ensures { next_of result ≡ unmarked fresh (next_of q) }
 {
     if !fresh {
         return q;
     }
-    if q.count == 3 {
-        return q;
-    }
-    if q.count == 0 {
-        return q;
-    }
-    if q.first != 0xFEFF {
-        return q;
-    }
-    if q.count == 1 {
-        return Sequence {
-            first: 0,
-            second: 0,
-            width: q.width,
-            state: q.state,
-            flag: q.flag,
-            count: 0,
-        };
-    }
-    Sequence {
-        first: q.second,
-        second: 0,
-        width: q.width,
-        state: q.state,
-        flag: q.flag,
-        count: 1,
-    }
+    let s = q?;
+    Some(Sequence {
+        width: s.width,
+        shift: s.shift,
+        out: unmark(s.out),
+    })
 }
 
 // An error that leaves a shift behind.
-fn fails(width: u8, state: u8, flag: u8) -> Sequence
-    requires { 1 ≤ width }
-    ensures { next_of result ≡ item width (shift state (eqb flag 1)) error }
+fn fails(width: u8, state: u8, flag: bool) -> Option<Sequence>
+    ensures { next_of result ≡ item width (shift state flag) error }
 {
-    Sequence {
-        first: 0,
-        second: 0,
+    Some(Sequence {
         width,
-        state,
-        flag,
-        count: 3,
-    }
+        shift: Shift { state, flag },
+        out: Out::Error,
+    })
 }
 
 // A scalar that leaves a shift behind.
-fn says(width: u8, state: u8, flag: u8, c: u32) -> Sequence
-    requires { 1 ≤ width }
-    ensures { next_of result ≡ item width (shift state (eqb flag 1)) (text (c ∷ [])) }
+fn says(width: u8, state: u8, flag: bool, c: u32) -> Option<Sequence>
+    ensures { next_of result ≡ item width (shift state flag) (text (c ∷ [])) }
 {
-    Sequence {
-        first: c,
-        second: 0,
+    Some(Sequence {
         width,
-        state,
-        flag,
-        count: 1,
-    }
+        shift: Shift { state, flag },
+        out: Out::One(c),
+    })
 }
 
 // No scalar, and a shift.
-fn says_nothing(width: u8, state: u8, flag: u8) -> Sequence
-    requires { 1 ≤ width }
-    ensures { next_of result ≡ item width (shift state (eqb flag 1)) (text []) }
+fn says_nothing(width: u8, state: u8, flag: bool) -> Option<Sequence>
+    ensures { next_of result ≡ item width (shift state flag) (text []) }
 {
-    Sequence {
-        first: 0,
-        second: 0,
+    Some(Sequence {
         width,
-        state,
-        flag,
-        count: 0,
-    }
+        shift: Shift { state, flag },
+        out: Out::Nothing,
+    })
 }
 
-// The sequence at the front of up to four bytes, by encoding number. Each family's answer has a name: returned without one it would go
+// The sequence at the front of up to four bytes, by encoding number; none where more bytes are wanted. Each family's answer has a name: returned without one it would go
 // through memory in parts, and be waited for. The tests part the numbers by halves: in a chain of twelve the compiler takes the last
 // families for rare, and leaves their functions apart.
 pub fn next(
@@ -235,11 +216,11 @@ pub fn next(
     b2: u8,
     b3: u8,
     have: usize,
-) -> Sequence
+) -> Option<Sequence>
     ensures { next_of result ≡ next (lent t1.now t2.now) (family encoding) (shift state (eqb flag 1)) (front have b0 b1 b2 b3) }
 {
     if have == 0 {
-        return waits();
+        return None;
     }
     if encoding <= 28 {
         if encoding == 0 {

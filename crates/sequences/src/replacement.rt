@@ -7,11 +7,11 @@ ghost use Rattle.sequences.specs.Code.{next_of};
 
 use crate::{Sequence, fails, says_nothing};
 
-pub fn replacement(flag: u8) -> Sequence
+pub fn replacement(flag: u8) -> Option<Sequence>
     ensures { (state b : ℕ) (xs : List ℕ) → next_of result ≡ replacement (shift state (eqb flag 1)) (b ∷ xs) }
 {
     if flag == 1 {
-        return says_nothing(1, 0, 1);
+        return says_nothing(1, 0, true);
     }
-    fails(1, 0, 1)
+    fails(1, 0, true)
 }

@@ -24,7 +24,7 @@ fn pair_code(table: &[u32], lead: u8, trail: u8) -> u32
     code_point(34, &*table, lead, trail)
 }
 
-pub fn shift_jis(table: &[u32], b0: u8, b1: u8, have: usize) -> Sequence
+pub fn shift_jis(table: &[u32], b0: u8, b1: u8, have: usize) -> Option<Sequence>
     ensures { (xs : List ℕ) → next_of result ≡ shift_jis (lent table.now []) (b0 ∷ take (have - 1) (b1 ∷ xs)) }
 {
     if b0 <= 0x80 {

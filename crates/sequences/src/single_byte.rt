@@ -7,7 +7,7 @@ ghost use Rattle.sequences.specs.Code.{next_of};
 use crate::{Sequence, gives, gives_code};
 use index::cell;
 
-pub fn single_byte(table: &[u32], b0: u8) -> Sequence
+pub fn single_byte(table: &[u32], b0: u8) -> Option<Sequence>
     ensures { (xs : List ℕ) → next_of result ≡ single_byte table.now (b0 ∷ xs) }
 {
     if b0 < 0x80 {

@@ -6,7 +6,7 @@ ghost use Rattle.sequences.specs.Code.{next_of};
 
 use crate::{Sequence, gives};
 
-pub fn user_defined(b0: u8) -> Sequence
+pub fn user_defined(b0: u8) -> Option<Sequence>
     ensures { (xs : List ℕ) → next_of result ≡ user_defined (b0 ∷ xs) }
 {
     if b0 < 0x80 {

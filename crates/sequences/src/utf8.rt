@@ -1,13 +1,13 @@
 // UTF-8.
 
-ghost use Rattle.std.specs.Prelude.{◌≡◌, List, ◌∷◌, ℕ, ◌-◌, ◌≤◌, eqb, take};
-ghost use Rattle.standard.specs.Base.{◌then◌else◌};
+ghost use Rattle.std.specs.Prelude.{◌≡◌, List, ◌∷◌, ℕ, ◌-◌, ◌≤◌, take};
 ghost use Rattle.standard.specs.Leads.{lead_length};
-ghost use Rattle.standard.specs.Sequence.{await, more, bad};
+ghost use Rattle.standard.specs.Sequence.{await};
 ghost use Rattle.standard.specs.Sequences.Utf8.{utf8, utf8_low, utf8_high, utf8_two, utf8_three, utf8_four};
 ghost use Rattle.sequences.specs.Code.{next_of, begun};
+ghost use Rattle.sequences.specs.declared.utf8.Beginning.TheVariants.{Right};
 
-use crate::{Sequence, gives, waits, wrong};
+use crate::{Sequence, gives, wrong};
 use layouts::within;
 
 // The length of the sequence that a byte leads: its number of leading one bits.
@@ -24,7 +24,7 @@ pub fn lead_length(b: u8) -> u32
     u8::leading_zeros(!b)
 }
 
-pub fn utf8(b0: u8, b1: u8, b2: u8, b3: u8, have: usize) -> Sequence
+pub fn utf8(b0: u8, b1: u8, b2: u8, b3: u8, have: usize) -> Option<Sequence>
     ensures { (xs : List ℕ) → next_of result ≡ utf8 (b0 ∷ take (have - 1) (b1 ∷ b2 ∷ b3 ∷ xs)) }
 {
     if b0 < 0x80 {
@@ -44,12 +44,12 @@ pub fn utf8(b0: u8, b1: u8, b2: u8, b3: u8, have: usize) -> Sequence
 }
 
 // A lead of two.
-fn two(b0: u8, b1: u8, have: usize) -> Sequence
+fn two(b0: u8, b1: u8, have: usize) -> Option<Sequence>
     requires { 0xC0 ≤ b0 }
     ensures { (xs : List ℕ) → next_of result ≡ await (take (have - 1) (b1 ∷ xs)) (λ c xs. utf8_two b0 c) }
 {
     if have < 2 {
-        return waits();
+        return None;
     }
     if !within(0x80, b1, 0xBF) {
         return wrong(1);
@@ -57,62 +57,66 @@ fn two(b0: u8, b1: u8, have: usize) -> Sequence
     gives(2, ((b0 - 0xC0) as u32) * 64 + ((b1 - 0x80) as u32))
 }
 
-// How three or four bytes begin: 0 where the first three are there and right, 3 where more are wanted, else the width of the error.
-fn begun(b0: u8, b1: u8, b2: u8, have: usize) -> u8
+// How three or four bytes begin: right as far as the third, or not yet there, or wrong, with the width of the error.
+#[derive(Clone, Copy)]
+enum Beginning {
+    Right,
+    Short,
+    Wrong(u8),
+}
+
+fn begun(b0: u8, b1: u8, b2: u8, have: usize) -> Beginning
     ensures { result ≡ begun have b0 b1 b2 }
 {
     if have < 2 {
-        return 3;
+        return Beginning::Short;
     }
     if !within(low(b0), b1, high(b0)) {
-        return 1;
+        return Beginning::Wrong(1);
     }
     if have < 3 {
-        return 3;
+        return Beginning::Short;
     }
     if within(0x80, b2, 0xBF) {
-        return 0;
+        return Beginning::Right;
     }
-    2
-}
-
-// Where they go no further.
-fn stops(k: u8) -> Sequence
-    requires { 1 ≤ k }
-    ensures { next_of result ≡ (eqb k 3 then more else bad k) }
-{
-    if k == 3 {
-        return waits();
-    }
-    wrong(k)
+    Beginning::Wrong(2)
 }
 
 // A lead of three.
-fn three(b0: u8, b1: u8, b2: u8, have: usize) -> Sequence
+fn three(b0: u8, b1: u8, b2: u8, have: usize) -> Option<Sequence>
     requires { 0xE0 ≤ b0 }
     ensures { (xs : List ℕ) → next_of result ≡ await (take (have - 1) (b1 ∷ b2 ∷ xs)) (λ c xs. utf8_three b0 c xs) }
 {
-    let k = begun(b0, b1, b2, have);
-    if k != 0 {
-        return stops(k);
+    match begun(b0, b1, b2, have) {
+        Beginning::Short => None,
+        Beginning::Wrong(width) => wrong(width),
+        Beginning::Right => gives(
+            3,
+            ((b0 - 0xE0) as u32) * 4096 + ((b1 - 0x80) as u32) * 64 + ((b2 - 0x80) as u32),
+        ),
     }
-    gives(
-        3,
-        ((b0 - 0xE0) as u32) * 4096 + ((b1 - 0x80) as u32) * 64 + ((b2 - 0x80) as u32),
-    )
 }
 
 // A lead of four.
-fn four(b0: u8, b1: u8, b2: u8, b3: u8, have: usize) -> Sequence
+fn four(b0: u8, b1: u8, b2: u8, b3: u8, have: usize) -> Option<Sequence>
     requires { 0xF0 ≤ b0 }
     ensures { (xs : List ℕ) → next_of result ≡ await (take (have - 1) (b1 ∷ b2 ∷ b3 ∷ xs)) (λ c xs. utf8_four b0 c xs) }
 {
-    let k = begun(b0, b1, b2, have);
-    if k != 0 {
-        return stops(k);
+    match begun(b0, b1, b2, have) {
+        Beginning::Short => None,
+        Beginning::Wrong(width) => wrong(width),
+        Beginning::Right => four_end(b0, b1, b2, b3, have),
     }
+}
+
+// The last byte of four, behind three that are right.
+fn four_end(b0: u8, b1: u8, b2: u8, b3: u8, have: usize) -> Option<Sequence>
+    requires { (0xF0 ≤ b0) × (begun have b0 b1 b2 ≡ Right) }
+    ensures { (xs : List ℕ) → next_of result ≡ await (take (have - 1) (b1 ∷ b2 ∷ b3 ∷ xs)) (λ c xs. utf8_four b0 c xs) }
+{
     if have < 4 {
-        return waits();
+        return None;
     }
     if !within(0x80, b3, 0xBF) {
         return wrong(3);

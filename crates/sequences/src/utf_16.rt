@@ -4,13 +4,13 @@ ghost use Rattle.std.specs.Prelude.{◌≡◌, List, ◌∷◌, ℕ, ◌-◌, �
 ghost use Rattle.standard.specs.Sequences.Utf16.{utf16, utf16_pair, unit};
 ghost use Rattle.sequences.specs.Code.{next_of};
 
-use crate::{Sequence, gives, waits, wrong};
+use crate::{Sequence, gives, wrong};
 
-pub fn utf_16(be: bool, b0: u8, b1: u8, b2: u8, b3: u8, have: usize) -> Sequence
+pub fn utf_16(be: bool, b0: u8, b1: u8, b2: u8, b3: u8, have: usize) -> Option<Sequence>
     ensures { (xs : List ℕ) → next_of result ≡ utf16 be (b0 ∷ take (have - 1) (b1 ∷ b2 ∷ b3 ∷ xs)) }
 {
     if have < 2 {
-        return waits();
+        return None;
     }
     let u = unit(be, b0, b1);
     if u < 0xD800 {
@@ -23,7 +23,7 @@ pub fn utf_16(be: bool, b0: u8, b1: u8, b2: u8, b3: u8, have: usize) -> Sequence
         return wrong(2);
     }
     if have < 4 {
-        return waits();
+        return None;
     }
     pair(u, unit(be, b2, b3))
 }
@@ -39,7 +39,7 @@ pub fn unit(be: bool, b: u8, c: u8) -> u32
 }
 
 // A unit after a leading surrogate.
-fn pair(lead: u32, u: u32) -> Sequence
+fn pair(lead: u32, u: u32) -> Option<Sequence>
     requires { (0xD800 ≤ lead) × (lead ≤ 0xDBFF) }
     ensures { next_of result ≡ utf16_pair lead u }
 {

@@ -8,7 +8,7 @@ ghost use Rattle.sequences.specs.Code.{next_of};
 use crate::{Sequence, gives};
 use index::IRREGULAR;
 
-pub fn windows_1252(b0: u8) -> Sequence
+pub fn windows_1252(b0: u8) -> Option<Sequence>
     ensures { (xs : List ℕ) → next_of result ≡ single_byte windows1252 (b0 ∷ xs) }
 {
     if b0 < 0x80 {

@@ -1,12 +1,14 @@
 -- What a buffer leaves, from what its calls leave. Assumes nothing.
-use mathlib.Core.Path.{◌≡◌, refl, ap, ◌∙◌}
+use mathlib.Core.Path.{◌≡◌, refl, sym, ap, ◌∙◌}
 use mathlib.Core.List.{List, [], ◌∷◌, ◌++◌}
 use Prim.Native.Nat.{ℕ, ◌+◌, ◌-◌, ◌*◌, ◌≤◌, ◌<◌}
 use native.Mathlib.Nat.{zero-add}
 use native.Mathlib.Omega.{arith}
 use lib.Dec.{ltb, eqb}
 use lib.ListN.{length, take, drop, length-append, length-take}
-use lib.Seq.{sets-eq}
+use lib.Seq.{sets-eq, take-append_seam}
+use Rattle.std.proofs.Common.{Result}
+use Rattle.program_text.proofs.Fronts.{front}
 use borrow.Author.Tests.{lt-ltb, le-ltb, eq-eqb, ne_eqb, ltb-true, ltb-false, eqb-true, eqb-false}
 use Rattle.standard.specs.Text.{bytes}
 use Rattle.standard.specs.Encodings.{Tables, no_tables}
@@ -24,26 +26,33 @@ use Rattle.demands.proofs.Rooms.{room_kept}
 use Rattle.showtext.specs.Output.{first_line, after_line, count, line, refused, scalar_lines}
 use Rattle.program_text.specs.Places.{Put}
 use Rattle.showtext.specs.Code.{label_refusal, heading, feeding_on}
-use Rattle.showtext.specs.Program.{Answers, Left, leave, lines_of, beginning, going_on, closing, turning}
-use Rattle.showtext.specs.declared.Shown.{Shown}
+use Rattle.showtext.specs.Refusals.{number}
+use Rattle.showtext.specs.Program.{Shown, Leaves, Answers, Left, Refused, Gives, Ends, leave, lines_of, beginning, going_on, closing}
+use Rattle.showtext.specs.declared.Progress.{Progress}
+use Rattle.showtext.specs.declared.Refusal.{Refusal}
+use Rattle.showtext.specs.declared.Refusal.TheVariants.{Label}
 use Rattle.showtext.proofs.Named.{name_few}
 use Rattle.showtext.proofs.Texts.{then_put, lines_few, number_few}
 
 -- An answer with a text at the front of out is what is to be left.
-pub left : {d : Decoder} {n number : ℕ} {out text : List ℕ} {shown : Shown} {after : List ℕ} {room room' : List ℕ} → Answers d n number out 0 text shown after → length text ≤ length out → room' ≡ room →
-    Left (leave d n number text room out) shown room' after
-left {d} {n} {number} {out} {text} {shown} {after} a h e = record {
-  answer = λ i. record { decoder = a.decoder i; count = a.count i; length = size i; refusal = a.refusal i };
+pub left : {d : Decoder} {n : ℕ} {out us : List ℕ} {p : Progress} {after : List ℕ} {room room' : List ℕ} → Answers d n out 0 us p after → length us ≤ length out → room' ≡ room →
+    Left (leave d n 0 us room out) p room' after
+left {d} {n} {out} {us} {p} {after} a h e = record {
+  answer = λ i. record { decoder = a.decoder i; count = a.count i; length = size i; refusal = 0 };
   scalars = e;
-  bytes = a.put.stands ∙ sets-eq text out 0 (omega (arith, h)) ∙ rw (zero-add (length text));
+  bytes = a.put.stands ∙ sets-eq us out 0 (omega (arith, h)) ∙ rw (zero-add (length us));
 }
   where
-    size : shown.length ≡ length text
-    size = a.put.behind ∙ zero-add (length text)
+    size : p.length ≡ length us
+    size = a.put.behind ∙ zero-add (length us)
+
+-- The line of a refusal is what is to be left.
+pub left_line : (d : Decoder) (r : Refusal) {k : ℕ} (room out : List ℕ) → k ≡ number r → 0 < k → Refused (leave d 0 k (refused k) room out) r
+left_line d r {k} room out e h = record { refusal = e; some = rw e at h; line = take-append_seam (refused k) (drop (length (refused k)) out) ∙ ap refused e }
 
 -- A text put in front of an answer's own.
-pub ahead : {d : Decoder} {n number : ℕ} {out mid us vs : List ℕ} {at : ℕ} {shown : Shown} {after : List ℕ} → Put out 0 us at mid → Answers d n number mid at vs shown after → Answers d n number out 0 (us ++ vs) shown after
-ahead p a = record { decoder = a.decoder; count = a.count; refusal = a.refusal; put = then_put p a.put }
+pub ahead : {d : Decoder} {n : ℕ} {out mid us vs : List ℕ} {at : ℕ} {p : Progress} {after : List ℕ} → Put out 0 us at mid → Answers d n mid at vs p after → Answers d n out 0 (us ++ vs) p after
+ahead p a = record { decoder = a.decoder; count = a.count; put = then_put p a.put }
 
 -- No more scalars are written than the room has cells.
 Few : List ℕ → Outcome → Type 0
@@ -120,19 +129,15 @@ module _ (us : List ℕ) (d : Decoder) (n : ℕ) (chunk room out : List ℕ) whe
         (λ z. rw (on_refused (eqb-false on.answer.refusal 0 z)) (omega arith, refused_few out on.answer.refusal (omega arith)))
 
     -- from the answers of the calls
-    module _ {a : Answer} {room' : List ℕ} (p : a ≡ on.answer) (q : room' ≡ on.room) {shown : Shown} {after : List ℕ} where
-      pub left_refused : (a.refusal ≡ 0 → ⊥) → Answers d 0 a.refusal out 0 (refused a.refusal) shown after →
-          Left (feeding_on us d n chunk room out) shown room' after
-      left_refused z s = rw (on_refused (rw p at z)) (left (rw p at s) (refused_few out on.answer.refusal (omega arith)) q)
+    pub left_fed : {a : Answer} {room' : List ℕ} → a ≡ on.answer → room' ≡ on.room → a.refusal ≡ 0 → {at : ℕ} {mid : List ℕ} → Put out 0 us at mid → {p : Progress} {after : List ℕ} →
+        Answers a.decoder (n + a.written) mid at (scalar_lines n (take a.written room')) p after → Left (feeding_on us d n chunk room out) p room' after
+    left_fed {a} {room'} e q z {at} {mid} b {p} {after} s =
+        let zero : on.answer.refusal ≡ 0 = rw e at z in
+        let s' : Answers on.answer.decoder (n + on.answer.written) mid at (lines_of n on) p after = rw (e, q) at s in
+        rw (on_fed zero) (left (ahead b s') text_few q)
 
-      pub left_fed : a.refusal ≡ 0 → {at : ℕ} {mid : List ℕ} → Put out 0 us at mid →
-          Answers a.decoder (n + a.written) a.refusal mid at (scalar_lines n (take a.written room')) shown after → Left
-          (feeding_on us d n chunk room out) shown room' after
-      left_fed z {at} {mid} b s =
-          let zero : on.answer.refusal ≡ 0 = rw p at z in
-          let s' : Answers on.answer.decoder (n + on.answer.written) on.answer.refusal mid at (lines_of n on) shown after = rw
-          (p, q) at s in
-          rw (on_fed zero) (left (ahead b (rw zero at s')) text_few q)
+  pub left_refused : (r : Refusal) → on.answer.refusal ≡ number r → 0 < number r → Refused (feeding_on us d n chunk room out) r
+  left_refused r e h = rw (on_refused (λ z. omega (arith, e, h, z))) (left_line d r on.room out e (omega (arith, e, h)))
 
 -- A further buffer.
 pub going_is : (d : Decoder) (n : ℕ) (chunk room out : List ℕ) → going_on d n chunk room out ≡ feeding_on [] d n chunk room out
@@ -140,16 +145,18 @@ unfolding going_on feeding_on
 going_is d n chunk room out = refl
 
 -- The end of input.
-pub closed_up : (d : Decoder) (n : ℕ) (room out : List ℕ) {a : Answer} {room' : List ℕ} {shown : Shown} {after after' : List ℕ} {end : ℕ} → a ≡ (finishing d no_tables room).answer → room' ≡ (finishing d no_tables room).room →
-    Answers a.decoder (n + a.written) a.refusal out 0 (scalar_lines n (take a.written room')) shown after → Put after shown.length (line (bytes "end") (count shown.count)) end after' →
-    32 * length room + 32 ≤ length out → Left (closing d n room out) (record { decoder = shown.decoder; refusal = shown.refusal; length = end; count = shown.count }) room' after'
+pub closed_up : (d : Decoder) (n : ℕ) (room out : List ℕ) {a : Answer} {room' : List ℕ} {p : Progress} {after after' : List ℕ} {end : ℕ} → a ≡ (finishing d no_tables room).answer → room' ≡ (finishing d no_tables room).room →
+    Answers a.decoder (n + a.written) out 0 (scalar_lines n (take a.written room')) p after → Put after p.length (line (bytes "end") (count p.count)) end after' →
+    32 * length room + 32 ≤ length out → length after' ≡ length out → Ends (closing d n room out) end after'
 unfolding closing bytes
-closed_up d n room out {a} {room'} {shown} {after} {after'} {end} p q s e h =
+closed_up d n room out {a} {room'} {p} {after} {after'} {end} e q s f h size =
     let o = finishing d no_tables room in
-    let s' : Answers o.answer.decoder (n + o.answer.written) o.answer.refusal out 0 (lines_of n o) shown after = rw (p, q) at s in
-    let f : Put after shown.length (line (bytes "end") (count (n + o.answer.written))) end after' = rw s'.count at e in
-    left (record { decoder = s'.decoder; count = s'.count; refusal = s'.refusal; put = then_put s'.put f })
-    (omega (arith, h, finish_few d room, shown_few n o.answer.written o.room, length-append (lines_of n o) (line (bytes "end") (count (n + o.answer.written))), number_few (bytes "end") (n + o.answer.written))) q
+    let s' : Answers o.answer.decoder (n + o.answer.written) out 0 (lines_of n o) p after = rw (e, q) at s in
+    let all = lines_of n o ++ line (bytes "end") (count (n + o.answer.written)) in
+    let f' : Put after p.length (line (bytes "end") (count (n + o.answer.written))) end after' = rw s'.count at f in
+    let put : Put out 0 all end after' = then_put s'.put f' in
+    let few : length all ≤ length out = omega (arith, h, finish_few d room, shown_few n o.answer.written o.room, length-append (lines_of n o) (line (bytes "end") (count (n + o.answer.written))), number_few (bytes "end") (n + o.answer.written)) in
+    record { printed = front put few ∙ sym (take-append_seam all (drop (length all) out)); few = omega (arith, put.behind, few, size) }
 
 -- The first buffer.
 module _ (input room out : List ℕ) where
@@ -201,52 +208,26 @@ module _ (input room out : List ℕ) where
       (let few = on_few (heading found.encoding) opened 0 (after_line input) room out (encoding_few found.encoding) h in (omega (arith, few.0), few.1)))
 
   -- the same from the answers of the calls
+  pub begun_refused : {r : ℕ} → r ≡ label_refusal input → r ≡ 1 → Refused (beginning input room out) Label
+  begun_refused q z = rw (begin_refused (rw q at z)) (left_line opened Label room out refl (omega arith))
+
   module _ {e r : ℕ} {o : Answer} (p : e ≡ found.encoding) (q : r ≡ label_refusal input) (u : o ≡ opening e 0 0) where
     opened_is : o.decoder ≡ opened
     opened_is = ap (λ (a : Answer). a.decoder) u ∙ ap (λ (n : ℕ). (opening n 0 0).decoder) p
 
-    pub begun_refused : 32 ≤ length out → r ≡ 1 → {shown : Shown} {after : List ℕ} →
-        Answers o.decoder 0 1 out 0 (refused 1) shown after → Left (beginning input room out) shown room after
-    begun_refused h z a = rw (begin_refused (rw q at z)) (left (rw opened_is at a) (refused_few out 1 h) refl)
-
-    pub begun_text : (r ≡ 1 → ⊥) → {rest : List ℕ} → rest ≡ after_line input → {shown : Shown} {room' after : List ℕ} →
-        Left (feeding_on (heading e) o.decoder 0 rest room out) shown room' after → Left (beginning input room out) shown room' after
-    begun_text z t l = rw (begin_text (rw q at z)) (rw (opened_is, p, t) at l)
+    pub begun_text : (r ≡ 1 → ⊥) → {rest : List ℕ} → rest ≡ after_line input → (g : Result Progress Refusal) (room' after : List ℕ) →
+        Gives (feeding_on (heading e) o.decoder 0 rest room out) g room' after → Gives (beginning input room out) g room' after
+    begun_text z t g room' after l = rw (begin_text (rw q at z)) (rw (opened_is, p, t) at l)
 
 -- How far the counts and the texts go.
-module _ {shown : Shown} {room' out' : List ℕ} where
-  begun_few : (input room out : List ℕ) → 32 * length room + 32 ≤ length out → Left (beginning input room out) shown room' out' →
-      (shown.count ≤ length room) × (shown.length ≤ length out)
-  begun_few input room out h l = rw l.answer (begin_few input room out h)
+module _ {p : Progress} {room' out' : List ℕ} where
+  left_few : {l : Leaves} {n m : ℕ} → Left l p room' out' → (l.shown.count ≤ n) × (l.shown.length ≤ m) → (p.count ≤ n) × (p.length ≤ m)
+  left_few l h = (omega (arith, h.0, ap (λ (s : Shown). s.count) l.answer), omega (arith, h.1, ap (λ (s : Shown). s.length) l.answer))
 
-  went_few : (d : Decoder) (n : ℕ) (chunk room out : List ℕ) → 32 * length room + 32 ≤ length out →
-      Left (going_on d n chunk room out) shown room' out' → (shown.count ≤ n + length room) × (shown.length ≤ length out)
-  went_few d n chunk room out h l = rw (l.answer, going_is d n chunk room out) (on_few [] d n chunk room out (omega arith) h)
+  pub begun_few : (input room out : List ℕ) → 32 * length room + 32 ≤ length out → Left (beginning input room out) p room' out' →
+      (p.count ≤ length room) × (p.length ≤ length out)
+  begun_few input room out h l = left_few l (begin_few input room out h)
 
-  closed_few : (d : Decoder) (n : ℕ) (room out : List ℕ) → 32 * length room + 32 ≤ length out →
-      Left (closing d n room out) shown room' out' →
-      (shown.count ≤ n + length room) × (shown.length ≤ length out)
-  unfolding closing bytes
-  closed_few d n room out h l =
-      let o = finishing d no_tables room in
-      let few = finish_few d room in
-      rw l.answer (
-        omega (arith, few),
-        omega (
-          arith,
-          h,
-          few,
-          shown_few n o.answer.written o.room,
-          length-append (lines_of n o) (line (bytes "end") (count (n + o.answer.written))),
-          number_few (bytes "end") (n + o.answer.written),
-        ),
-      )
-
-  pub turned_few : (step : ℕ) (s : Shown) (chunk room out : List ℕ) → 32 * length room + 32 ≤ length out → Left (turning step s chunk room out) shown room' out' →
-      (shown.count ≤ s.count + length room) × (shown.length ≤ length out)
-  unfolding turning
-  turned_few step s chunk room out h l = split (eqb step 0)
-      (λ e. let f = begun_few chunk room out h (rw e at l) in (omega (arith, f.0), f.1))
-      (λ e. split (eqb step 1)
-      (λ e'. went_few s.decoder s.count chunk room out h (rw (e, e') at l))
-      (λ e'. closed_few s.decoder s.count room out h (rw (e, e') at l)))
+  pub went_few : (d : Decoder) (n : ℕ) (chunk room out : List ℕ) → 32 * length room + 32 ≤ length out →
+      Left (going_on d n chunk room out) p room' out' → (p.count ≤ n + length room) × (p.length ≤ length out)
+  went_few d n chunk room out h l = left_few l (rw (going_is d n chunk room out) (on_few [] d n chunk room out (omega arith) h))

@@ -2,7 +2,7 @@
 use mathlib.Core.Path.{◌≡◌, refl, ap}
 use mathlib.Core.Bool.{Bool, true}
 use mathlib.Core.List.{List, ◌++◌}
-use Prim.Native.Nat.{ℕ, ◌-◌, ◌≤◌}
+use Prim.Native.Nat.{ℕ, ◌≤◌}
 use native.Mathlib.Omega.{arith}
 use lib.Dec.{leb, ltb}
 use lib.ListN.{length, take, drop}
@@ -42,7 +42,7 @@ module _ (e : ℕ) (room : List ℕ) (h : 20 ≤ length room) where
     part_few = omega (arith, ap (λ (n : Named). n.length) p, named.0, name_few e)
 
     -- the part that the call wrote is the name
-    pub part_is : take (r.length - 0) after ≡ name e
+    pub part_is : take r.length after ≡ name e
     part_is =
-        let z : r.length - 0 ≡ length (name e) = omega (arith, ap (λ (n : Named). n.length) p, named.0) in
+        let z : r.length ≡ length (name e) = omega (arith, ap (λ (n : Named). n.length) p, named.0) in
         rw (z, q, named.1) (take-append_seam (name e) (drop (length (name e)) room))

@@ -9,8 +9,11 @@ use Rattle.standard.specs.Base.{◌then◌else◌}
 use Rattle.standard.proofs.Tests.{split}
 use Rattle.program_text.proofs.FirstLine.{line_cut}
 use Rattle.showtext.specs.Output.{first_line, after_line, printed}
-use Rattle.showtext.specs.Program.{Leaves, Left, turning, next_step, text, by_step}
-use Rattle.showtext.specs.declared.Shown.{Shown}
+use Rattle.showtext.specs.Output.{refused}
+use Rattle.showtext.specs.Refusals.{number}
+use Rattle.showtext.specs.Program.{Shown, as_shown, Leaves, Left, Refused, Ends, beginning, going_on, closing, turning, next_step, text, by_step}
+use Rattle.showtext.specs.declared.Progress.{Progress}
+use Rattle.showtext.specs.declared.Refusal.{Refusal}
 use Rattle.showtext.specs.Statements.{joined, Filled, Whole}
 use Rattle.showtext.proofs.Buffers.{at_long}
 use Rattle.showtext.proofs.Theorems.{prints}
@@ -147,9 +150,9 @@ module _ (full step : ℕ) (s : Shown) (room out b xs : List ℕ) (f : 0 < full)
           t.still (b ∷ a.0) a.1.plan ∙ ap (λ us. written ++ us) (unrolled a.0 bs a.1) ∙ sym (append_assoc written (text l) (behind full next l.shown l.room l.out bs));
     }
 
--- The turns that are left are enough for every input that a decoder takes.
-abbrev most : ℕ
-most = 0x4_0000_0000_0000
+-- The reads that are left, with that of the first buffer, are enough for every input that a decoder takes.
+abbrev pub most : ℕ
+most = 0x4_0000_0000_0001
 
 pub record Far (step turns : ℕ) (all xs : List ℕ) : Type 0 where
   pub first : step ≡ 0 → (turns ≡ most) × (xs ≡ all)
@@ -273,27 +276,102 @@ module _ {full step : ℕ} {s : Shown} {room out b : List ℕ} {turns : ℕ} {al
       (λ m. let v = ltb-false (length b) full m in subst FarAt (sym (goes_on full step s room out b xs (omega (arith, w.low)) h k r v)) (far_on k r v)))
       (λ q. subst FarAt (sym (refuses full step s room out b xs (omega (arith, w.low)) h k (eqb-false went.shown.refusal 0 q))) far_over))
 
-  -- after it, with what it left
-  pub stepped : {shown : Shown} {room' out' : List ℕ} {step' : ℕ} → Left went shown room' out' → step' ≡ next_step step shown.refusal (length b) full →
-      State full step' shown room' out' (turns - 1) all xs' (written ++ take shown.length out')
-  stepped l e' = rw (e', l.answer, l.scalars, l.bytes) (record {
+  stepped : State full then_step went.shown went.room went.out (turns - 1) all xs' (written ++ text went)
+  stepped = record {
     prints = turned full step s room out b xs (omega (arith, w.low)) h xs' few e short none (printed all) written t.prints;
     far = far_after;
-  })
+  }
 
--- The same where the front of a buffer of `full` bytes was read.
-pub ran : {full step n turns step' cells : ℕ} {s shown : Shown} {room out room' out' : List ℕ} (buffer : List ℕ) → length buffer ≡ full → n ≤ full → step < 3 → (turns ≡ 0 → ⊥) → (step ≡ 2 → n ≡ 0) →
-    Left (turning step s (take (n - 0) buffer) room out) shown room' out' → step' ≡ next_step step shown.refusal n (length buffer) →
-    (all xs xs' written : List ℕ) → xs ≡ take n buffer ++ xs' → (step < 2 → n < full → xs' ≡ []) →
-    (Whole full cells all → State full step s room out turns all xs written) → Whole full cells all →
-    State full step' shown room' out' (turns - 1) all xs' (written ++ take shown.length out')
-ran {full} {step} {n} {turns} {step'} {cells} {s} {shown} {room} {out} {room'} {out'} buffer size few h left none u e all xs xs' written x short t w =
-    let b = take n buffer in
-    let k : length b ≡ n = length-take-le n buffer (omega (arith, size, few)) in
-    let m : n - 0 ≡ n = omega arith in
-    let l' : Left (turning step s b room out) shown room' out' = rw m at u in
-    let e' : step' ≡ next_step step shown.refusal (length b) full = e ∙ rw (size, k) refl in
-    stepped w h left (omega (arith, k, few)) x (λ z v. short z (omega (arith, v, k))) (λ z. ap (λ j. take j buffer) (none z)) (t w) l' e'
+  -- after it, with what it left
+  pub stepped_on : {p : Progress} {room' out' : List ℕ} → Left went p room' out' →
+      State full (next_step step 0 (length b) full) (as_shown p) room' out' (turns - 1) all xs' (written ++ take p.length out')
+  stepped_on {p} {room'} {out'} l = subst (λ (s : Shown). State full (next_step step s.refusal (length b) full) s room' out' (turns - 1) all xs' (written ++ take s.length out'))
+      (sym l.answer) (rw (l.scalars, l.bytes) stepped)
+
+  -- after it, if it was refused
+  pub stepped_last : step < 2 → {r : Refusal} → Refused went r → printed all ≡ written ++ refused (number r)
+  stepped_last k r =
+      let over = refuses full step s room out b xs (omega (arith, w.low)) h k (λ z. omega (arith, r.refusal, r.some, z)) in
+      ended (omega (arith, over)) stepped ∙ ap (λ us. written ++ us) r.line
+
+  -- after the last step
+  pub stepped_out : step ≡ 2 → {n : ℕ} {out' : List ℕ} → Ends went n out' → printed all ≡ written ++ take n out'
+  stepped_out z l =
+      let over = ends full step s room out b xs (omega (arith, w.low)) h z in
+      ended (omega (arith, over)) stepped ∙ ap (λ us. written ++ us) (sym l.printed)
+
+-- The step behind a buffer that is not refused: the end where it is not full, or a further buffer.
+abbrev pub after : ℕ → ℕ → ℕ
+after n full = next_step 1 0 n full
+
+module _ (n full : ℕ) where
+  pub is_last : n < full → after n full ≡ 2
+  is_last h = rw (lt-ltb n full h) refl
+
+  pub is_further : full ≤ n → after n full ≡ 1
+  is_further h = rw (le-ltb n full h) refl
+
+-- A step over the front of a buffer of `full` bytes.
+module _ {full n step turns cells : ℕ} {s : Shown} {room out : List ℕ} (buffer : List ℕ) (size : length buffer ≡ full) (few : n ≤ full) (h : step < 2) (left : 0 < turns)
+    (all xs xs' written : List ℕ) (x : xs ≡ take n buffer ++ xs') (short : step < 2 → n < full → xs' ≡ [])
+    (t : Whole full cells all → State full step s room out turns all xs written) (w : Whole full cells all) where
+  cut_size : length (take n buffer) ≡ n
+  cut_size = length-take-le n buffer (omega (arith, size, few))
+
+  pub ran : {p : Progress} {room' out' : List ℕ} → next_step step 0 n full ≡ after n full → Left (turning step s (take n buffer) room out) p room' out' →
+      State full (after n full) (as_shown p) room' out' (turns - 1) all xs' (written ++ take p.length out')
+  ran {p} {room'} {out'} e u =
+      subst (λ j. State full j (as_shown p) room' out' (turns - 1) all xs' (written ++ take p.length out')) (ap (λ j. next_step step 0 j full) cut_size ∙ e)
+      (stepped_on w (omega (arith, h)) (λ v. omega (arith, left, v)) (omega (arith, cut_size, few)) x (λ z v. short z (omega (arith, v, cut_size))) (λ v. absurd (omega (arith, v, h))) (t w) u)
+
+  pub ran_out : {r : Refusal} → Refused (turning step s (take n buffer) room out) r → printed all ≡ written ++ refused (number r)
+  ran_out u = stepped_last w (omega (arith, h)) (λ v. omega (arith, left, v)) (omega (arith, cut_size, few)) x (λ z v. short z (omega (arith, v, cut_size))) (λ v. absurd (omega (arith, v, h))) (t w) h u
+
+-- The first buffer.
+module _ {full n : ℕ} {s : Shown} {room out : List ℕ} (buffer : List ℕ) (size : length buffer ≡ full) (few : n ≤ full)
+    (all xs xs' written : List ℕ) (x : xs ≡ take n buffer ++ xs') (short : ◌<◌ 0 2 → n < full → xs' ≡ [])
+    (t : Whole full (length room) all → State full 0 s room out most all xs written) (w : Whole full (length room) all) where
+  pub first : {p : Progress} {room' out' : List ℕ} → Left (beginning (take n buffer) room out) p room' out' →
+      State full (after n full) (as_shown p) room' out' (most - 1) all xs' (written ++ take p.length out')
+  unfolding turning
+  first u = ran buffer size few (omega arith) (omega arith) all xs xs' written x short t w refl u
+
+  pub first_out : {r : Refusal} → Refused (beginning (take n buffer) room out) r → printed all ≡ written ++ refused (number r)
+  unfolding turning
+  first_out u = ran_out buffer size few (omega arith) (omega arith) all xs xs' written x short t w u
+
+-- Behind the first buffer and i further ones, m bytes having been read for the last of them.
+module _ {full cells : ℕ} (m i : ℕ) {s : Progress} {room out : List ℕ} (all xs xs' written : List ℕ)
+    (t : Whole full cells all → State full (after m full) (as_shown s) room out (most - 1 - i) all xs written) (w : Whole full cells all) where
+  at_step : (j : ℕ) → after m full ≡ j → Whole full cells all → State full j (as_shown s) room out (most - 1 - i) all xs written
+  at_step j e w = subst (λ j. State full j (as_shown s) room out (most - 1 - i) all xs written) e (t w)
+
+  -- A further buffer.
+  module _ {n : ℕ} (buffer : List ℕ) (size : length buffer ≡ full) (few : n ≤ full) (filled : full ≤ m) (left : i + 1 < most)
+      (x : xs ≡ take n buffer ++ xs') (short : ◌<◌ 1 2 → n < full → xs' ≡ []) where
+    pub further : {p : Progress} {room' out' : List ℕ} → Left (going_on s.decoder s.count (take n buffer) room out) p room' out' →
+        State full (after n full) (as_shown p) room' out' (most - 1 - (i + 1)) all xs' (written ++ take p.length out')
+    unfolding turning
+    further {p} {room'} {out'} u =
+        let e : most - 1 - i - 1 ≡ most - 1 - (i + 1) = omega arith in
+        subst (λ k. State full (after n full) (as_shown p) room' out' k all xs' (written ++ take p.length out')) e
+        (ran buffer size few (omega arith) (omega (arith, left)) all xs xs' written x short (at_step 1 (is_further m full filled)) w refl u)
+
+    pub further_out : {r : Refusal} → Refused (going_on s.decoder s.count (take n buffer) room out) r → printed all ≡ written ++ refused (number r)
+    unfolding turning
+    further_out u = ran_out buffer size few (omega arith) (omega (arith, left)) all xs xs' written x short (at_step 1 (is_further m full filled)) w u
+
+  -- The end of the input.
+  pub closed : m < full → i + 1 < most → xs ≡ [] ++ xs' → {n : ℕ} {out' : List ℕ} → Ends (closing s.decoder s.count room out) n out' → printed all ≡ written ++ take n out'
+  unfolding turning
+  closed short left x {n} {out'} u =
+      stepped_out w (omega arith) (λ v. omega (arith, left, v)) (omega arith) x (λ z v. absurd (omega (arith, z))) (λ v. refl) (at_step 2 (is_last m full short) w) refl u
+
+  -- It does not come to more buffers.
+  pub not_more : most - 1 - i ≡ 0 → ⊥
+  not_more z = split (ltb m full)
+      (λ e. let two = is_last m full (ltb-true m full e) in enough (omega (arith, two)) z w (t w))
+      (λ e. let one = is_further m full (ltb-false m full e) in enough (omega (arith, one)) z w (t w))
 
 -- Where an input is known: a claim about all of it, what is left of it, and what is written.
 abbrev pub Known : Option (List ℕ) → Option (List ℕ) → Option (List ℕ) → Option (List ℕ) → (List ℕ → List ℕ → List ℕ → Type 0) → Type 0
@@ -321,3 +399,12 @@ pub known_end : (r₀ r w₀ w : Option (List ℕ)) (P : List ℕ → List ℕ �
 known_end None r w₀ w P Q us f k = tt
 known_end (Some all) None w₀ w P Q us f k = absurd k
 known_end (Some all) (Some xs) w₀ w P Q us f k = λ q. subst (Appends w₀ w) (sym (f all xs k.0 k.2 q)) k.1
+
+-- Behind a last write.
+pub known_last : (r₀ r r' w₀ w w' : Option (List ℕ)) (step n full : ℕ) (b us : List ℕ) (P : List ℕ → List ℕ → List ℕ → Type 0) (Q : List ℕ → Type 0) (goal : List ℕ → List ℕ) →
+    Consumes r r' b → (step < 2 → n < full → IsAtEnd r') → Appends w w' us →
+    ((all xs xs' written : List ℕ) → xs ≡ b ++ xs' → (step < 2 → n < full → xs' ≡ []) → P all xs written → Q all → goal all ≡ written ++ us) →
+    Known r₀ r w₀ w P → IfSome r₀ (λ all. Q all → Appends w₀ w' (goal all))
+known_last r₀ r r' w₀ w w' step n full b us P Q goal c e a f k =
+    known_end r₀ r' w₀ w' (λ all xs written. Q all → goal all ≡ written) Q goal (λ all xs written p q. p q)
+    (known_next r₀ r r' w₀ w w' step n full b us P (λ all xs written. Q all → goal all ≡ written) c e a f k)

@@ -1,7 +1,7 @@
 -- What is written into a room of bytes, from a place on. Assumes nothing.
 use mathlib.Core.Path.{◌≡◌, refl, sym, ap, ◌∙◌}
 use mathlib.Core.List.{List, [], ◌∷◌, ◌++◌, append_assoc, append-nil}
-use Prim.Native.Nat.{ℕ, suc, ◌+◌, ◌-◌, ◌*◌, ◌≤◌, ◌<◌}
+use Prim.Native.Nat.{ℕ, suc, ◌+◌, ◌*◌, ◌≤◌, ◌<◌}
 use native.Mathlib.Nat.{add-zero}
 use native.Mathlib.Numerals.{add-one}
 use native.Mathlib.Omega.{arith}
@@ -54,7 +54,3 @@ module _ (n : ℕ) (cs : List ℕ) (i : ℕ) (h : i < length cs) where
 pub no_lines : (n : ℕ) {room : List ℕ} {at : ℕ} → Put room at (scalar_lines n []) at room
 unfolding scalar_lines
 no_lines n = nothing
-
--- the lines of the first w cells
-pub shown_part : (w n : ℕ) (room : List ℕ) {out : List ℕ} {at o : ℕ} {after : List ℕ} → Put out at (scalar_lines n (take (w - 0) room)) o after → Put out at (scalar_lines n (take w room)) o after
-shown_part w n room p = let z : w - 0 ≡ w = omega arith in rw z at p

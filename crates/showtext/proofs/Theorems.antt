@@ -37,8 +37,7 @@ use Rattle.demands.proofs.Cutting.{cut_is_whole}
 use Rattle.demands.proofs.Rooms.{roomy, room_kept}
 use Rattle.program_text.proofs.FirstLine.{line_longer, after_few, line_cut, known_below}
 use Rattle.showtext.specs.Output.{first_line, after_line, digits, count, line, refused, scalar_lines, printed}
-use Rattle.showtext.specs.Program.{Leaves, leave, lines_of, beginning, going_on, closing, turning, next_step, text, later, program, by_step}
-use Rattle.showtext.specs.declared.Shown.{Shown}
+use Rattle.showtext.specs.Program.{Shown, Leaves, leave, lines_of, beginning, going_on, closing, turning, next_step, text, later, program, by_step}
 use Rattle.showtext.specs.Statements.{joined, Small, Filled, Prints}
 use Rattle.showtext.proofs.Texts.{scalar_lines-append}
 use Rattle.showtext.proofs.Buffers.{feed_few, finish_few, found, opened, fed, on_fed, going_is, at_long, at_unknown, at_refused, at_fed}

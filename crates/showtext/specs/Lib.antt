@@ -1,4 +1,5 @@
 pub mod Code
 pub mod Output
+pub mod Refusals
 pub mod Program
 pub mod Statements

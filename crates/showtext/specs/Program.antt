@@ -1,5 +1,5 @@
 -- What the program's calls leave, buffer after buffer, and what they print in all. Assumes nothing.
-use Rattle.std.specs.Prelude.{◌≡◌, List, [], ◌∷◌, ◌++◌, ℕ, ◌+◌, ltb, eqb, length, take, drop}
+use Rattle.std.specs.Prelude.{◌≡◌, List, [], ◌∷◌, ◌++◌, ℕ, ◌+◌, ◌≤◌, ◌<◌, ltb, eqb, length, take, drop, Result, Ok, Err}
 use Rattle.standard.specs.Base.{◌then◌else◌}
 use Rattle.standard.specs.Text.{bytes}
 use Rattle.standard.specs.Encodings.{no_tables}
@@ -8,7 +8,20 @@ use Rattle.decoder.specs.Calls.{Outcome, opening, feeding, finishing}
 use Rattle.decoder.specs.declared.Decoder.{Decoder}
 use Rattle.showtext.specs.Output.{first_line, after_line, count, line, refused, scalar_lines}
 use Rattle.program_text.specs.Places.{Put}
-use Rattle.showtext.specs.declared.Shown.{Shown}
+use Rattle.showtext.specs.Refusals.{number}
+use Rattle.showtext.specs.declared.Progress.{Progress}
+use Rattle.showtext.specs.declared.Refusal.{Refusal}
+
+-- What a buffer leaves in numbers: the decoder, a refusal number or 0, how many bytes of text there are, and the scalars so far.
+pub record Shown : Type 0 where
+  pub decoder : Decoder
+  pub refusal : ℕ
+  pub length : ℕ
+  pub count : ℕ
+
+-- The code's value, which has no refusal.
+abbrev pub as_shown : Progress → Shown
+as_shown p = record { decoder = p.decoder; refusal = 0; length = p.length; count = p.count }
 
 -- What a call leaves: its answer, the room of the scalars, and the room of the text.
 pub record Leaves : Type 0 where
@@ -16,12 +29,15 @@ pub record Leaves : Type 0 where
   pub room : List ℕ
   pub out : List ℕ
 
--- An answer with a refusal number, after n scalars in all, with a text put into out from a place on.
-pub record Answers (d : Decoder) (n number : ℕ) (out : List ℕ) (at : ℕ) (text : List ℕ) (shown : Shown) (after : List ℕ) : Type 0 where
-  pub decoder : shown.decoder ≡ d
-  pub count : shown.count ≡ n
-  pub refusal : shown.refusal ≡ number
-  pub put : Put out at text shown.length after
+-- What a call prints.
+abbrev pub text : Leaves → List ℕ
+text l = take l.shown.length l.out
+
+-- An answer after n scalars in all, with a text put into out from a place on.
+pub record Answers (d : Decoder) (n : ℕ) (out : List ℕ) (at : ℕ) (text : List ℕ) (p : Progress) (after : List ℕ) : Type 0 where
+  pub decoder : p.decoder ≡ d
+  pub count : p.count ≡ n
+  pub put : Put out at text p.length after
 
 -- A text written at the front of out, after n scalars in all.
 abbrev pub leave : Decoder → ℕ → ℕ → List ℕ → List ℕ → List ℕ → Leaves
@@ -29,10 +45,25 @@ leave d n refusal text room out =
     record { shown = record { decoder = d; count = n; length = length text; refusal = refusal }; room = room; out = text ++ drop (length text) out }
 
 -- This answer, room and out are what a call is to leave.
-pub record Left (l : Leaves) (shown : Shown) (room out : List ℕ) : Type 0 where
-  pub answer : shown ≡ l.shown
+pub record Left (l : Leaves) (p : Progress) (room out : List ℕ) : Type 0 where
+  pub answer : as_shown p ≡ l.shown
   pub scalars : room ≡ l.room
   pub bytes : out ≡ l.out
+
+-- What a call is to leave is the line of this refusal.
+pub record Refused (l : Leaves) (r : Refusal) : Type 0 where
+  pub refusal : l.shown.refusal ≡ number r
+  pub some : 0 < number r
+  pub line : text l ≡ refused (number r)
+
+abbrev pub Gives : Leaves → Result Progress Refusal → List ℕ → List ℕ → Type 0
+Gives l (Ok p) room out = Left l p room out
+Gives l (Err r) room out = Refused l r
+
+-- What a call is to print stands in so many bytes at the front of out.
+pub record Ends (l : Leaves) (n : ℕ) (out : List ℕ) : Type 0 where
+  pub printed : take n out ≡ text l
+  pub few : n ≤ length out
 
 -- The lines of the scalars that a feed or finish wrote, n having come before.
 abbrev pub lines_of : ℕ → Outcome → List ℕ
@@ -81,10 +112,6 @@ abbrev pub next_step : ℕ → ℕ → ℕ → ℕ → ℕ
 next_step step refusal n full =
     eqb step 2 then 3 else
     eqb refusal 0 then (ltb n full then 2 else 1) else 3
-
--- What a call prints.
-abbrev pub text : Leaves → List ℕ
-text l = take l.shown.length l.out
 
 -- Further buffers, and then the end of input.
 unfoldable pub later : Leaves → List (List ℕ) → List ℕ

@@ -4,8 +4,7 @@ use Rattle.standard.specs.Text.{bytes}
 use Rattle.standard.specs.Encodings.{no_tables}
 use Rattle.decoder.specs.Calls.{feed_refusal}
 use Rattle.showtext.specs.Output.{after_line, printed}
-use Rattle.showtext.specs.Program.{program, by_step}
-use Rattle.showtext.specs.declared.Shown.{Shown}
+use Rattle.showtext.specs.Program.{Shown, program, by_step}
 
 -- Buffers joined.
 unfoldable pub joined : List (List ℕ) → List ℕ

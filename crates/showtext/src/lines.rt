@@ -1,6 +1,7 @@
-// The lines that are printed, written into a lent room of bytes.
+// The lines that are printed, written into a lent room of bytes. By hand and not by `write!`: the contract of a line says each byte and where it
+// stands, and a buffer's lines go out in one write.
 
-ghost use Rattle.std.specs.Prelude.{◌≡◌, ◌+◌, ◌*◌, ◌≤◌, ◌<◌, ◌^◌, length};
+ghost use Rattle.std.specs.Prelude.{◌+◌, ◌*◌, ◌≤◌, ◌<◌, ◌^◌, length};
 ghost use Rattle.standard.specs.Text.{bytes};
 ghost use Rattle.labels_spec.specs.Labels.{name};
 ghost use Rattle.program_text.specs.Places.{Put};
@@ -14,11 +15,11 @@ fn put_scalar(out: &mut [u8], at: usize, n: u64, c: u32) -> usize
     ensures { Put out.old at (line (count n) (code_point c)) result out.new }
 {
     let tab = put_count(out, at, n);
-    out[tab] = 0x09;
+    out[tab] = b'\t';
     out[tab + 1] = b'U';
     out[tab + 2] = b'+';
     let end = put_hexadecimal(out, tab + 3, c);
-    out[end] = 0x0A;
+    out[end] = b'\n';
     end + 1
 }
 
@@ -28,10 +29,8 @@ pub(crate) fn put_scalars(out: &mut [u8], at: usize, n: u64, scalars: &[u32]) ->
     ensures { Put out.old at (scalar_lines n scalars.now) result out.new }
 {
     let mut o = at;
-    let mut i: usize = 0;
-    while i < scalars.len() {
-        o = put_scalar(out, o, n + i as u64, scalars[i]);
-        i += 1;
+    for (i, c) in scalars.iter().enumerate() {
+        o = put_scalar(out, o, n + i as u64, *c);
     }
     o
 }
@@ -42,9 +41,9 @@ fn put_words(out: &mut [u8], at: usize, first: &[u8], second: &[u8]) -> usize
     ensures { Put out.old at (line first.now second.now) result out.new }
 {
     let tab = put_bytes(out, at, first);
-    out[tab] = 0x09;
+    out[tab] = b'\t';
     let end = put_bytes(out, tab + 1, second);
-    out[end] = 0x0A;
+    out[end] = b'\n';
     end + 1
 }
 
@@ -56,5 +55,5 @@ pub(crate) fn put_encoding(out: &mut [u8], encoding: u8) -> usize
     let mut name = [0u8; 20];
     let named = labels::name(encoding, &mut name);
     let n = named.length;
-    put_words(out, 0, b"encoding", &name[0..n])
+    put_words(out, 0, b"encoding", &name[..n])
 }

@@ -15,7 +15,7 @@ use Rattle.standard.specs.Next.{next, unmarked}
 use Rattle.standard.specs.Sequences.Utf8.{utf8, utf8_low, utf8_high}
 use Rattle.standard.proofs.Tests.{split, within_low, within_high, in_range}
 use Rattle.standard.proofs.Leads.{in_two, in_three, utf8_two_lem, utf8_three_lem, utf8_four_lem, utf8_none}
-use Rattle.sequences.specs.Code.{next_of, front}
+use Rattle.sequences.specs.Code.{item_of, front}
 use Rattle.sequences.specs.declared.Sequence.{Sequence}
 use Rattle.runs.specs.Run.{Gives}
 use Rattle.runs.proofs.Running.{gives_scalar}
@@ -111,7 +111,7 @@ module _ (m : ℕ) (xs : List ℕ) {k : ℕ} where
   pub gives_wrong : utf8 xs ≡ bad k → (m ≡ 1 → ⊥) → Gives m (next no_tables UTF-8 plain xs) k plain 0xFFFD
   gives_wrong e n = gives_bad m (plain_utf8 no_tables xs ∙ e) n
 
-pub found_front : (q : Sequence) (chunk : List ℕ) (i : ℕ) → i + 4 ≤ length chunk → next_of q ≡ utf8 (front 4 (get_or chunk i 0) (get_or chunk (i + 1) 0) (get_or chunk (i + 2) 0) (get_or chunk (i + 3) 0)) →
-    next_of q ≡ next no_tables UTF-8 plain (drop i chunk)
+pub found_front : (q : Sequence) (chunk : List ℕ) (i : ℕ) → i + 4 ≤ length chunk → item_of q ≡ utf8 (front 4 (get_or chunk i 0) (get_or chunk (i + 1) 0) (get_or chunk (i + 2) 0) (get_or chunk (i + 3) 0)) →
+    item_of q ≡ next no_tables UTF-8 plain (drop i chunk)
 found_front q chunk i h e =
     e ∙ sym (plain_utf8 no_tables (front 4 (get_or chunk i 0) (get_or chunk (i + 1) 0) (get_or chunk (i + 2) 0) (get_or chunk (i + 3) 0))) ∙ front_four no_tables UTF-8 plain chunk i h

@@ -2,7 +2,7 @@
 // A slice that is passed on is lent anew (`&*`): docs/DECISIONS.md, 45.
 #![tactic(auto)]
 
-ghost use Rattle.std.specs.Prelude.{◌≡◌, true, List, ◌∷◌, ℕ, ◌+◌, ◌-◌, ◌*◌, ◌≤◌};
+ghost use Rattle.std.specs.Prelude.{◌≡◌, true, List, ◌∷◌, ℕ, ◌+◌, ◌-◌, ◌*◌, ◌≤◌, IfSome};
 ghost use Rattle.standard.specs.Base.{within};
 ghost use Rattle.standard.specs.Encodings.{Tables, UTF-8};
 ghost use Rattle.standard.specs.Sequence.{scalar, bad};
@@ -14,50 +14,50 @@ use runs::ascii::copy_ascii;
 use runs::{Place, plain_scalar_of, ready_plain};
 use sequences::utf8::{high, lead_length, low, utf8};
 
-// The scalar of two bytes, 0 if they are no sequence.
+// The scalar of two bytes, if they are a sequence.
 // Here and below the length of a lead is compared by `<` on both sides: the compiler makes one range test of the byte of the two.
-fn two(b0: u8, b1: u8) -> u32
-    ensures { (result ≡ 0 → ⊥) → (xs : List ℕ) → utf8 (b0 ∷ b1 ∷ xs) ≡ scalar 2 result }
+fn two(b0: u8, b1: u8) -> Option<u32>
+    ensures { IfSome result (λ c. (xs : List ℕ) → utf8 (b0 ∷ b1 ∷ xs) ≡ scalar 2 c) }
 {
     if lead_length(b0) < 2 {
-        return 0;
+        return None;
     }
     if 2 < lead_length(b0) {
-        return 0;
+        return None;
     }
     if within(0x80, b1, 0xBF) {
-        return ((b0 - 0xC0) as u32) * 64 + ((b1 - 0x80) as u32);
+        return Some(((b0 - 0xC0) as u32) * 64 + ((b1 - 0x80) as u32));
     }
-    0
+    None
 }
 
 // Of three bytes. A second byte that the first does not allow shows in the scalar: it is below 800, or a surrogate.
-fn three(b0: u8, b1: u8, b2: u8) -> u32
-    ensures { (result ≡ 0 → ⊥) → (xs : List ℕ) → utf8 (b0 ∷ b1 ∷ b2 ∷ xs) ≡ scalar 3 result }
+fn three(b0: u8, b1: u8, b2: u8) -> Option<u32>
+    ensures { IfSome result (λ c. (xs : List ℕ) → utf8 (b0 ∷ b1 ∷ b2 ∷ xs) ≡ scalar 3 c) }
 {
     if lead_length(b0) < 3 {
-        return 0;
+        return None;
     }
     if 3 < lead_length(b0) {
-        return 0;
+        return None;
     }
     if !within(0x80, b1, 0xBF) {
-        return 0;
+        return None;
     }
     if !within(0x80, b2, 0xBF) {
-        return 0;
+        return None;
     }
     let c = three_bits(b0, b1, b2);
     if c < 0x800 {
-        return 0;
+        return None;
     }
     if c < 0xD800 {
-        return c;
+        return Some(c);
     }
     if c <= 0xDFFF {
-        return 0;
+        return None;
     }
-    c
+    Some(c)
 }
 
 // The number that three bytes have.
@@ -69,36 +69,38 @@ fn three_bits(b0: u8, b1: u8, b2: u8) -> u32
 }
 
 // Of four bytes.
-fn four(b0: u8, b1: u8, b2: u8, b3: u8) -> u32
-    ensures { (result ≡ 0 → ⊥) → (xs : List ℕ) → utf8 (b0 ∷ b1 ∷ b2 ∷ b3 ∷ xs) ≡ scalar 4 result }
+fn four(b0: u8, b1: u8, b2: u8, b3: u8) -> Option<u32>
+    ensures { IfSome result (λ c. (xs : List ℕ) → utf8 (b0 ∷ b1 ∷ b2 ∷ b3 ∷ xs) ≡ scalar 4 c) }
 {
     if lead_length(b0) < 4 {
-        return 0;
+        return None;
     }
     if 4 < lead_length(b0) {
-        return 0;
+        return None;
     }
     if within(low(b0), b1, high(b0)) {
         return four_end(b0, b1, b2, b3);
     }
-    0
+    None
 }
 
 // The third and the fourth byte of four.
-fn four_end(b0: u8, b1: u8, b2: u8, b3: u8) -> u32
+fn four_end(b0: u8, b1: u8, b2: u8, b3: u8) -> Option<u32>
     requires { (0xF0 ≤ b0) × (0x80 ≤ b1) }
-    ensures { (result ≡ 0 → ⊥) → (within 0x80 b2 0xBF ≡ true) × (within 0x80 b3 0xBF ≡ true)
-        × (result ≡ (b0 - 0xF0) * 262144 + (b1 - 0x80) * 4096 + (b2 - 0x80) * 64 + (b3 - 0x80)) }
+    ensures { IfSome result (λ c. (within 0x80 b2 0xBF ≡ true) × (within 0x80 b3 0xBF ≡ true)
+        × (c ≡ (b0 - 0xF0) * 262144 + (b1 - 0x80) * 4096 + (b2 - 0x80) * 64 + (b3 - 0x80))) }
 {
     if within(0x80, b2, 0xBF) {
         if within(0x80, b3, 0xBF) {
-            return ((b0 - 0xF0) as u32) * 262144
-                + ((b1 - 0x80) as u32) * 4096
-                + ((b2 - 0x80) as u32) * 64
-                + ((b3 - 0x80) as u32);
+            return Some(
+                ((b0 - 0xF0) as u32) * 262144
+                    + ((b1 - 0x80) as u32) * 4096
+                    + ((b2 - 0x80) as u32) * 64
+                    + ((b3 - 0x80) as u32),
+            );
         }
     }
-    0
+    None
 }
 
 // Is the first of two bytes alone an error, which is replaced?
@@ -130,23 +132,20 @@ fn sequences(mode: u8, chunk: &[u8], from: usize, room: &mut [u32], place: usize
             o += k;
             continue;
         }
-        let c2 = two(b, chunk[i + 1]);
-        if c2 != 0 {
-            room[o] = c2;
+        if let Some(c) = two(b, chunk[i + 1]) {
+            room[o] = c;
             i += 2;
             o += 1;
             continue;
         }
-        let c3 = three(b, chunk[i + 1], chunk[i + 2]);
-        if c3 != 0 {
-            room[o] = c3;
+        if let Some(c) = three(b, chunk[i + 1], chunk[i + 2]) {
+            room[o] = c;
             i += 3;
             o += 1;
             continue;
         }
-        let c4 = four(b, chunk[i + 1], chunk[i + 2], chunk[i + 3]);
-        if c4 != 0 {
-            room[o] = c4;
+        if let Some(c) = four(b, chunk[i + 1], chunk[i + 2], chunk[i + 3]) {
+            room[o] = c;
             i += 4;
             o += 1;
             continue;
@@ -157,11 +156,12 @@ fn sequences(mode: u8, chunk: &[u8], from: usize, room: &mut [u32], place: usize
             o += 1;
             continue;
         }
-        let q = utf8(b, chunk[i + 1], chunk[i + 2], chunk[i + 3], 4);
-        let u = plain_scalar_of(mode, q);
-        if u == 0 {
+        let Some(q) = utf8(b, chunk[i + 1], chunk[i + 2], chunk[i + 3], 4) else {
             break;
-        }
+        };
+        let Some(u) = plain_scalar_of(mode, q) else {
+            break;
+        };
         room[o] = u;
         o += 1;
         i += q.width as usize;

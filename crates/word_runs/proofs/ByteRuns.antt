@@ -163,6 +163,10 @@ pub windows_at : (t : Tables) (m : ℕ) (chunk : List ℕ) (i : ℕ) → i < len
 unfolding next
 windows_at t m chunk i h l = rw (byte_at chunk i h) (windows_gives m (get_or chunk i 0) (drop (i + 1) chunk) l)
 
+-- a mapped cell is a scalar
+pub no_scalar : (c : ℕ) → mapped c ≡ true → c ≡ 0x110000 → ⊥
+no_scalar c m e = let no : false ≡ true = rw e at m in cc
+
 -- the scalar of a byte, by the cell that its lower seven bits name
 module _ (m : ℕ) (cells : List ℕ) (b : ℕ) where
   pub byte_ascii : b < 0x80 → b ≡ byte_scalar m cells b

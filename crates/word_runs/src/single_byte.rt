@@ -1,55 +1,43 @@
 // Runs of the single-byte encodings: by a table of 256 scalars, or byte by byte.
 
-ghost use Rattle.std.specs.Prelude.{◌≡◌, ◌∷◌, [], true, ℕ, ◌+◌, ◌-◌, ◌*◌, ◌/◌, ◌%◌, ◌≤◌, ◌<◌, ltb, length, get_or};
+ghost use Rattle.std.specs.Prelude.{◌≡◌, ◌∷◌, [], true, ℕ, ◌+◌, ◌-◌, ◌*◌, ◌/◌, ◌%◌, ◌≤◌, ◌<◌, length, get_or, MatchOption};
 ghost use Rattle.std.proofs.lemmas.List.Edits.{sets};
 ghost use Rattle.standard.specs.Base.{◌then◌else◌, mapped, line_feeds};
 ghost use Rattle.standard.specs.Encodings.{Tables, lent, single-byte, windows-1252};
 ghost use Rattle.standard.specs.Indexes.{irregular};
 ghost use Rattle.line_feeds.specs.Parts.{part};
 ghost use Rattle.runs.specs.Run.{Run, Ready, placed, patch};
-ghost use Rattle.runs.specs.Counts.{counted, Counts};
+ghost use Rattle.runs.specs.Counts.{Counts};
 ghost use Rattle.word_runs.specs.Units.{values};
 ghost use Rattle.word_runs.specs.Bytes.{unmapped, byte_scalar, windows_scalar, Halves, byte_of, Through, Gapless, Sound};
 
+use crate::unread;
 use crate::words::read_words;
 use index::{IRREGULAR, mapped};
 use line_feeds::{in_block, in_bytes};
 use runs::ascii::Stretch;
 use runs::{Counted, Place, ready_plain};
 
-// One of two scalars, by whether a byte is ASCII.
-fn choose(b: u8, ascii: u32, other: u32) -> u32
-    ensures { result ≡ (ltb b 0x80 then ascii else other) }
-{
-    if b < 0x80 {
-        return ascii;
-    }
-    other
-}
-
-// What an unmapped byte gives: U+FFFD, and 0x110000, which is no scalar, in mode 1.
-fn unmapped(mode: u8) -> u32
-    ensures { result ≡ unmapped mode }
-{
-    if mode == 1 {
-        return 0x110000;
-    }
-    0xFFFD
-}
-
-// The scalar of a byte. The cell is read for ASCII too, so that no branch tells the two apart.
-fn scalar(mode: u8, cells: &[u32], b: u8) -> u32
+// The scalar of a byte, and None for an error in mode 1. The cell is read for ASCII too, so that no branch tells the two apart.
+fn scalar(mode: u8, cells: &[u32], b: u8) -> Option<u32>
     requires { 128 ≤ length cells.now }
-    ensures { result ≡ byte_scalar mode cells.now b }
+    ensures { MatchOption result (byte_scalar mode cells.now b ≡ 0x110000)
+        (λ c. (c ≡ byte_scalar mode cells.now b) × (c ≡ 0x110000 → ⊥)) }
 {
-    let c = cells[(b % 128) as usize];
+    let c = cells[usize::from(b % 128)];
     if mapped(c) {
-        return choose(b, b as u32, c);
+        if b < 0x80 {
+            Some(u32::from(b))
+        } else {
+            Some(c)
+        }
+    } else if b < 0x80 {
+        Some(u32::from(b))
+    } else if mode == 1 {
+        None
+    } else {
+        Some(0xFFFD)
     }
-    if b < 0x80 {
-        return b as u32;
-    }
-    unmapped(mode)
 }
 
 // The scalar of a byte in windows-1252. A cell is read for each byte, so that no branch tells them apart.
@@ -57,105 +45,90 @@ fn windows_scalar(cells: &[u32], b: u8) -> u32
     requires { cells.now ≡ irregular }
     ensures { (result ≡ windows_scalar b) × (b < 256) }
 {
-    let c = cells[(b % 32) as usize];
-    if b < 0x80 {
-        return b as u32;
+    let c = cells[usize::from(b % 32)];
+    if 0x80 <= b && b < 0xA0 {
+        c
+    } else {
+        u32::from(b)
     }
-    if b < 0xA0 {
-        return c;
+}
+
+// Each place of a table, as its cell.
+fn places(table: &mut [u32; 256])
+    ensures { (j : ℕ) → j < 256 → get_or table.new j 0 ≡ j }
+{
+    for b in 0..256 {
+        table[b] = b as u32;
     }
-    b as u32
 }
 
 // The scalar of a cell, or another where the cell is unmapped.
 fn mapped_or(c: u32, other: u32) -> u32
     ensures { result ≡ (mapped c then c else other) }
 {
-    if mapped(c) {
-        return c;
-    }
-    other
+    if mapped(c) { c } else { other }
 }
 
-// Each place of a table, as its cell.
-fn places(table: &mut [u32])
-    requires { length table.old ≡ 256 }
-    ensures { (j : ℕ) → j < 256 → get_or table.new j 0 ≡ j }
+// What an unmapped byte gives: U+FFFD, and 0x110000, which is no scalar, in mode 1. A number and not an Option: cells of a table hold it.
+fn unmapped(mode: u8) -> u32
+    ensures { result ≡ unmapped mode }
 {
-    let mut b: usize = 0;
-    while b < 256 {
-        table[b] = b as u32;
-        b += 1;
-    }
+    if mode == 1 { 0x110000 } else { 0xFFFD }
 }
 
 // The scalar of each byte, into a table.
-fn fill(mode: u8, cells: &[u32], table: &mut [u32])
-    requires { (128 ≤ length cells.now) × (length table.old ≡ 256) }
+fn fill(mode: u8, cells: &[u32], table: &mut [u32; 256])
+    requires { 128 ≤ length cells.now }
     ensures { (j : ℕ) → j < 256 → get_or table.new j 0 ≡ byte_scalar mode cells.now j }
 {
     places(table);
     let other = unmapped(mode);
-    let mut k: usize = 0;
-    while k < 128 {
+    for k in 0..128 {
         table[k + 128] = mapped_or(cells[k], other);
-        k += 1;
     }
 }
 
 // The scalar of each byte in windows-1252, into a table.
-fn fill_windows(cells: &[u32], table: &mut [u32])
-    requires { (cells.now ≡ irregular) × (length table.old ≡ 256) }
+fn fill_windows(cells: &[u32], table: &mut [u32; 256])
+    requires { cells.now ≡ irregular }
     ensures { (j : ℕ) → j < 256 → get_or table.new j 0 ≡ windows_scalar j }
 {
     places(table);
-    let mut k: usize = 0;
-    while k < 32 {
+    for k in 0..32 {
         table[k + 128] = cells[k];
-        k += 1;
     }
 }
 
-// The place of a byte in a table.
-fn place_of(b: u8) -> usize
-    ensures { (result ≡ b) × (b < 256) }
-{
-    b as usize
-}
-
-// A cell as a wider number.
-fn wide(c: u32) -> u64
-    ensures { (result ≡ c) × (c < 4294967296) }
-{
-    c as u64
-}
-
 // The scalars of a table in the upper half of a number.
-fn halves(table: &[u32], high: &mut [u64])
-    requires { (length table.now ≡ 256) × (length high.old ≡ 256) }
+fn halves(table: &[u32; 256], high: &mut [u64; 256])
     ensures { Halves table.now high.new }
 {
-    let mut b: usize = 0;
-    while b < 256 {
-        high[b] = wide(table[b]) * 4294967296;
-        b += 1;
+    for b in 0..256 {
+        high[b] = u64::from(table[b]) * 0x100000000;
     }
 }
 
 // The scalars of a word's two bytes. They make one number, which is stored at once.
-fn put_word(table: &[u32], high: &[u64], word: u16, room: &mut [u32], o: usize)
-    requires { (length table.now ≡ 256) × (length high.now ≡ 256) × Halves table.now high.now × (o + 2 ≤ length room.old) }
+fn put_word(table: &[u32; 256], high: &[u64; 256], word: u16, room: &mut [u32], o: usize)
+    requires { (Halves table.now high.now) × (o + 2 ≤ length room.old) }
     ensures { room.new ≡ sets room.old o (get_or table.now (word % 256) 0 ∷ get_or table.now (word / 256) 0 ∷ []) }
 {
-    let w = word as usize;
-    let both = table[w % 256] as u64 + high[w / 256];
-    room[o] = (both % 4294967296) as u32;
-    room[o + 1] = (both / 4294967296) as u32;
+    let w = usize::from(word);
+    let both = u64::from(table[w % 256]) + high[w / 256];
+    room[o] = (both % 0x100000000) as u32;
+    room[o + 1] = (both / 0x100000000) as u32;
 }
 
-// The scalars of four words.
-fn put_four(table: &[u32], high: &[u64], words: &[u16], j: usize, room: &mut [u32], o: usize)
-    requires { (length table.now ≡ 256) × (length high.now ≡ 256) × Halves table.now high.now × (j + 4 ≤ length words.now) × (o + 8 ≤ length room.old) }
+// The scalars of four words. Written out, as sixteen are: a turn of sixteen words is faster than one of four or of one.
+fn put_four(
+    table: &[u32; 256],
+    high: &[u64; 256],
+    words: &[u16],
+    j: usize,
+    room: &mut [u32],
+    o: usize,
+)
+    requires { (Halves table.now high.now) × (j + 4 ≤ length words.now) × (o + 8 ≤ length room.old) }
     ensures { room.new ≡ patch o (values (λ (k : ℕ). get_or table.now (byte_of words.now (j * 2 + k)) 0) 8) room.old }
 {
     put_word(table, high, words[j], room, o);
@@ -165,8 +138,15 @@ fn put_four(table: &[u32], high: &[u64], words: &[u16], j: usize, room: &mut [u3
 }
 
 // The scalars of sixteen words.
-fn put_sixteen(table: &[u32], high: &[u64], words: &[u16], j: usize, room: &mut [u32], o: usize)
-    requires { (length table.now ≡ 256) × (length high.now ≡ 256) × Halves table.now high.now × (j + 16 ≤ length words.now) × (o + 32 ≤ length room.old) }
+fn put_sixteen(
+    table: &[u32; 256],
+    high: &[u64; 256],
+    words: &[u16],
+    j: usize,
+    room: &mut [u32],
+    o: usize,
+)
+    requires { (Halves table.now high.now) × (j + 16 ≤ length words.now) × (o + 32 ≤ length room.old) }
     ensures { room.new ≡ patch o (values (λ (k : ℕ). get_or table.now (byte_of words.now (j * 2 + k)) 0) 32) room.old }
 {
     put_four(table, high, words, j, room, o);
@@ -176,14 +156,12 @@ fn put_sixteen(table: &[u32], high: &[u64], words: &[u16], j: usize, room: &mut 
 }
 
 // The scalars of 192 words, sixteen at a time.
-fn put_words(table: &[u32], high: &[u64], words: &[u16], room: &mut [u32], o: usize)
-    requires { (length table.now ≡ 256) × (length high.now ≡ 256) × Halves table.now high.now × (length words.now ≡ 192) × (o + 384 ≤ length room.old) }
+fn put_words(table: &[u32; 256], high: &[u64; 256], words: &[u16; 192], room: &mut [u32], o: usize)
+    requires { (Halves table.now high.now) × (o + 384 ≤ length room.old) }
     ensures { room.new ≡ patch o (values (λ (k : ℕ). get_or table.now (byte_of words.now k) 0) 384) room.old }
 {
-    let mut j: usize = 0;
-    while j < 192 {
-        put_sixteen(table, high, words, j, room, o + j * 2);
-        j += 16;
+    for t in 0..12 {
+        put_sixteen(table, high, words, t * 16, room, o + t * 32);
     }
 }
 
@@ -192,14 +170,18 @@ fn block_feeds(chunk: &[u8], at: usize) -> usize
     requires { at + 384 ≤ length chunk.now }
     ensures { result ≡ line_feeds (part chunk.now at 384) }
 {
-    let first = in_block(chunk, at);
-    let second = in_block(chunk, at + 192);
-    first + second
+    in_block(chunk, at) + in_block(chunk, at + 192)
 }
 
 // Bytes through a table in blocks of 384, each counted while it is near; how many, and their line feeds.
-fn put_blocks(table: &[u32], chunk: &[u8], from: usize, room: &mut [u32], place: usize) -> Stretch
-    requires { (length table.now ≡ 256) × (Ready chunk.now from room.old place) }
+fn put_blocks(
+    table: &[u32; 256],
+    chunk: &[u8],
+    from: usize,
+    room: &mut [u32],
+    place: usize,
+) -> Stretch
+    requires { Ready chunk.now from room.old place }
     ensures { (result.length ≤ length chunk.now - from)
         × (Through (λ (b : ℕ). get_or table.now b 0) chunk.now from result.length place room.old room.new)
         × (result.lines ≡ line_feeds (part chunk.now from result.length)) }
@@ -208,32 +190,39 @@ fn put_blocks(table: &[u32], chunk: &[u8], from: usize, room: &mut [u32], place:
     let mut high = [0u64; 256];
     halves(table, &mut high);
     let mut words = [0u16; 192];
-    let mut k: usize = 0;
-    let mut lines: usize = 0;
-    while n - k >= 384 {
+    let mut lines = 0;
+    for t in 0..n / 384 {
+        let k = t * 384;
         read_words(chunk, from + k, &mut words);
         lines += block_feeds(chunk, from + k);
         put_words(table, &high, &words, room, place + k);
-        k += 384;
     }
-    Stretch { length: k, lines }
+    Stretch {
+        length: n / 384 * 384,
+        lines,
+    }
 }
 
 // So many bytes through a table, one by one.
-fn put_bytes(table: &[u32], chunk: &[u8], from: usize, n: usize, room: &mut [u32], place: usize)
-    requires { (length table.now ≡ 256) × (Ready chunk.now from room.old place) × (n ≤ length chunk.now - from) }
+fn put_bytes(
+    table: &[u32; 256],
+    chunk: &[u8],
+    from: usize,
+    n: usize,
+    room: &mut [u32],
+    place: usize,
+)
+    requires { (Ready chunk.now from room.old place) × (n ≤ length chunk.now - from) }
     ensures { Through (λ (b : ℕ). get_or table.now b 0) chunk.now from n place room.old room.new }
 {
-    let mut k: usize = 0;
-    while k < n {
-        room[place + k] = table[place_of(chunk[from + k])];
-        k += 1;
+    for k in 0..n {
+        room[place + k] = table[usize::from(chunk[from + k])];
     }
 }
 
 // Each byte through a table; their line feeds. Two scalars are stored at once: from an even place on no store reaches over two lines of the cache.
-fn look_up(table: &[u32], chunk: &[u8], from: usize, room: &mut [u32], place: usize) -> usize
-    requires { (length table.now ≡ 256) × (Ready chunk.now from room.old place) × (from < length chunk.now) }
+fn look_up(table: &[u32; 256], chunk: &[u8], from: usize, room: &mut [u32], place: usize) -> usize
+    requires { (Ready chunk.now from room.old place) × (from < length chunk.now) }
     ensures { (Through (λ (b : ℕ). get_or table.now b 0) chunk.now from (length chunk.now - from) place room.old room.new)
         × (result ≡ line_feeds (part chunk.now from (length chunk.now - from))) }
 {
@@ -267,26 +256,21 @@ fn single_bytes(
     requires { (128 ≤ length t1.now) × (Ready chunk.now from room.old place) }
     ensures { Run (lent t1.now t2.now) single-byte mode chunk.now (placed from place 0 0) result room.old room.new }
 {
-    let n = chunk.len();
-    let mut i = from;
-    let mut o = place;
-    while i < n {
-        let c = scalar(mode, t1, chunk[i]);
-        if c == 0x110000 {
+    for (k, b) in chunk[from..].iter().enumerate() {
+        let Some(c) = scalar(mode, t1, *b) else {
             return Place {
-                at: i,
-                written: o,
+                at: from + k,
+                written: place + k,
                 state: 0,
                 flag: 0,
             };
-        }
-        room[o] = c;
-        i += 1;
-        o += 1;
+        };
+        room[place + k] = c;
     }
+    let n = chunk.len() - from;
     Place {
-        at: i,
-        written: o,
+        at: from + n,
+        written: place + n,
         state: 0,
         flag: 0,
     }
@@ -297,57 +281,34 @@ fn windows_bytes(cells: &[u32], chunk: &[u8], from: usize, room: &mut [u32], pla
     requires { (cells.now ≡ irregular) × (Ready chunk.now from room.old place) }
     ensures { Through windows_scalar chunk.now from (length chunk.now - from) place room.old room.new }
 {
-    let n = chunk.len() - from;
-    let mut k: usize = 0;
-    while k < n {
+    for k in 0..chunk.len() - from {
         room[place + k] = windows_scalar(cells, chunk[from + k]);
-        k += 1;
     }
 }
 
 // Is each cell of a table a scalar?
-fn gapless(table: &[u32]) -> bool
-    requires { length table.now ≡ 256 }
+fn gapless(table: &[u32; 256]) -> bool
     ensures { result ≡ true → Gapless table.now 256 }
 {
-    let mut b: usize = 0;
-    while b < 256 {
-        if table[b] == 0x110000 {
-            return false;
-        }
-        b += 1;
-    }
-    true
+    !table.contains(&0x110000)
 }
 
 // Has each byte from a place on a scalar in a table?
-fn has_scalars(table: &[u32], chunk: &[u8], from: usize) -> bool
-    requires { (length table.now ≡ 256) × (from ≤ length chunk.now) }
+fn has_scalars(table: &[u32; 256], chunk: &[u8], from: usize) -> bool
+    requires { from ≤ length chunk.now }
     ensures { result ≡ true → Sound table.now chunk.now from (length chunk.now - from) }
 {
-    let n = chunk.len() - from;
-    let mut k: usize = 0;
-    while k < n {
-        if table[place_of(chunk[from + k])] == 0x110000 {
-            return false;
-        }
-        k += 1;
-    }
-    true
+    chunk[from..]
+        .iter()
+        .all(|b| table[usize::from(*b)] != 0x110000)
 }
 
 // May each byte from a place on go through a table? In mode 1 none is unmapped.
-fn sound(mode: u8, table: &[u32], chunk: &[u8], from: usize) -> bool
-    requires { (length table.now ≡ 256) × (from ≤ length chunk.now) }
+fn sound(mode: u8, table: &[u32; 256], chunk: &[u8], from: usize) -> bool
+    requires { from ≤ length chunk.now }
     ensures { result ≡ true → mode ≡ 1 → Sound table.now chunk.now from (length chunk.now - from) }
 {
-    if mode != 1 {
-        return true;
-    }
-    if gapless(table) {
-        return true;
-    }
-    has_scalars(table, chunk, from)
+    mode != 1 || gapless(table) || has_scalars(table, chunk, from)
 }
 
 // The same with its line feeds.
@@ -406,19 +367,6 @@ fn single_byte_text(
     }
 }
 
-// A place where nothing is read.
-fn unread(p: Place) -> Counted
-    ensures { result ≡ counted p 0 }
-{
-    Counted {
-        at: p.at,
-        written: p.written,
-        lines: 0,
-        state: p.state,
-        flag: p.flag,
-    }
-}
-
 // A run of a single-byte encoding with its line feeds, whose table is lent.
 pub fn single_byte_run(
     mode: u8,
@@ -430,10 +378,7 @@ pub fn single_byte_run(
 ) -> Counted
     ensures { Counts (lent t1.now t2.now) single-byte mode chunk.now p result room.old room.new }
 {
-    if !ready_plain(chunk.len(), room.len(), p) {
-        return unread(p);
-    }
-    if t1.len() < 128 {
+    if !ready_plain(chunk.len(), room.len(), p) || t1.len() < 128 {
         return unread(p);
     }
     single_byte_text(mode, chunk, t1, t2, p.at, room, p.written)

@@ -8,7 +8,7 @@ ghost use Rattle.word_runs.specs.Units.{values, unit_at};
 fn word(b: u8, c: u8) -> u16
     ensures { (result ≡ unit false b c) × (b < 256) × (c < 256) }
 {
-    (c as u16) * 256 + (b as u16)
+    u16::from(c) * 256 + u16::from(b)
 }
 
 // As many words as there is room for, from a place of the chunk on.
@@ -17,10 +17,7 @@ pub(crate) fn read_words(chunk: &[u8], at: usize, words: &mut [u16])
     ensures { ((j : ℕ) → j < length words.old → (get_or chunk.now (at + j * 2) 0 < 256) × (get_or chunk.now (at + j * 2 + 1) 0 < 256))
         × (words.new ≡ values (unit_at false chunk.now at) (length words.old)) }
 {
-    let n = words.len();
-    let mut k: usize = 0;
-    while k < n {
+    for k in 0..words.len() {
         words[k] = word(chunk[at + k * 2], chunk[at + k * 2 + 1]);
-        k += 1;
     }
 }

@@ -1,97 +1,91 @@
-use mathlib.Core.Path.{◌≡◌, refl, sym, ◌∙◌}
+use mathlib.Core.Path.{◌≡◌, refl, sym, ap, ◌∙◌}
 use mathlib.Core.List.{List, [], ◌++◌}
-use Prim.Native.Nat.{ℕ, ◌+◌, ◌-◌, ◌≤◌}
+use Prim.Native.Nat.{ℕ, ◌+◌, ◌≤◌}
 use native.Mathlib.Omega.{arith}
-use lib.ListN.{length, take, drop, length-take, length-drop, drop_of_length-le}
+use Rattle.std.proofs.Common.{rules}
+use lib.ListN.{length, length-append}
+use Rattle.std.specs.Slice.Iter.{chunks_rest}
+use Rattle.std.proofs.lemmas.List.{nil_from_length}
+use Rattle.std.proofs.lemmas.Result.{err_from_is_err_and}
 use Rattle.standard.specs.Encodings.{Tables, lent}
 use Rattle.clean.specs.Checking.{checking}
 use Rattle.clean.specs.declared.Checked.{Checked}
 use Rattle.clean.proofs.Theorems.{accepted}
-use Rattle.clean.proofs.Walking.{Walked, walked_none, cut_at, walked_on, walked_fault, walked_end_fault, walked_clean}
+use Rattle.clean.proofs.Walking.{Walked, walked_none, walked_on, walked_fault, walked_end_fault, walked_clean}
 use Rattle.clean.proofs.walk.Goals as goal
-use Rattle.clean.proofs.walk.Goals.{After-feed-fed, After-finish-last, At-loop-at}
+use Rattle.clean.proofs.walk.Goals.{After-feed-fed, After-finish-last, At-loop-part}
 
 -- what is lent, and the answer
-abbrev list : At-loop-at → List ℕ
-list c = c.args.bytes.now
-
-abbrev tables : At-loop-at → Tables
+abbrev tables : At-loop-part → Tables
 tables c = lent c.args.t1.now c.args.t2.now
 
-abbrev answer : At-loop-at → Checked
-answer c = checking c.args.encoding (tables c) (list c)
+abbrev answer : At-loop-part → Checked
+answer c = checking c.args.encoding (tables c) c.args.bytes.now
 
 -- the part that is fed, and what is left behind it
-abbrev part : After-feed-fed → List ℕ
-part f = take (f.part_end-end.result - f.loop-at.at) (drop f.loop-at.at (list (goal.at.After-feed-fed f).At-loop-at))
-
 abbrev rest : After-feed-fed → List ℕ
-rest f = drop f.part_end-end.result (list (goal.at.After-feed-fed f).At-loop-at)
+rest f = chunks_rest f.next.new.self
 
-walked : (f : After-feed-fed) → Walked (tables (goal.at.After-feed-fed f).At-loop-at) (answer (goal.at.After-feed-fed f).At-loop-at) (part f ++ rest f) f.loop-at.decoder
-walked f = rw (cut_at f.loop-at.at f.part_end-end.result (list (goal.at.After-feed-fed f).At-loop-at) (omega arith)) at f.loop-at.invariant.4
+walked : (f : After-feed-fed) → Walked (tables (goal.at.After-feed-fed f).At-loop-part) (answer (goal.at.After-feed-fed f).At-loop-part) (f.in-Some.part.now ++ rest f) f.loop-part.decoder
+walked f = rw f.in-Some.ensures.steps.1.0 at f.loop-part.invariant.4
 
--- the part is as short as its room and the list want it
-part_length : (f : After-feed-fed) → length (part f) ≡ f.part_end-end.result - f.loop-at.at
-part_length f = simp (length-take, length-drop) (omega arith)
+few : (f : After-feed-fed) → length f.in-Some.part.now ≤ 65536
+few f = omega (arith, f.in-Some.ensures.steps.1.1)
 
-few : (f : After-feed-fed) → length (part f) ≤ 65536
-few f = omega (arith, part_length f)
+fits : (f : After-feed-fed) → length f.in-Some.part.now + 3 ≤ length f.loop-part.room
+fits f = omega (arith, f.in-Some.ensures.steps.1.1)
 
-fits : (f : After-feed-fed) → length (part f) + 3 ≤ length f.loop-at.room
-fits f = omega (arith, part_length f)
+less : (f : After-feed-fed) → length (rest f) ≤ 65536
+less f = omega (arith, ap length f.in-Some.ensures.steps.1.0, length-append {A = ℕ})
 
 -- at the finish nothing is left
-done : (f : After-finish-last) → Walked (tables (goal.at.After-finish-last f).At-loop-at) (answer (goal.at.After-finish-last f).At-loop-at) [] f.loop-at.decoder
-done f = rw (drop_of_length-le (list (goal.at.After-finish-last f).At-loop-at) f.loop-at-test.false) at f.loop-at.invariant.4
+done : (f : After-finish-last) → Walked (tables (goal.at.After-finish-last f).At-loop-part) (answer (goal.at.After-finish-last f).At-loop-part) [] f.loop-part.decoder
+done f = rw (nil_from_length (chunks_rest f.loop-part.part-iterator) f.in-None.ensures.steps.1.0) at f.loop-part.invariant.4
 
-enough : (f : After-finish-last) → 3 ≤ length f.loop-at.room
-enough f = omega (arith, f.loop-at.invariant)
+enough : (f : After-finish-last) → 3 ≤ length f.loop-part.room
+enough f = omega (arith, f.loop-part.invariant)
 
-pub loop-at-init : goal.loop-at-init
-loop-at-init c =
+pub loop-part-init : goal.loop-part-init
+loop-part-init c =
     let t = lent c.args.t1.now c.args.t2.now in
-    let xs = c.args.bytes.now in (
-      omega arith,
-      (accepted c.args.encoding t xs c.requires.0).few,
+    let xs = c.args.bytes.now in
+    let all : chunks_rest c.into_iter-part-iterator.result ≡ xs = ap chunks_rest c.into_iter-part-iterator.ensures.into_iter_gives ∙ c.chunks-part-items.ensures.rest in (
+      rw all (accepted c.args.encoding t xs c.requires.0).few,
       refl,
       c.requires.1,
-      rw c.open-opened.ensures (walked_none c.args.encoding t xs c.requires.0),
+      search rules,
+      rw (all, c.open.ensures) (walked_none c.args.encoding t xs c.requires.0),
     )
 
-pub shape_of-room-then-fed-eq11 : goal.shape_of-room-then-fed-eq11
-shape_of-room-then-fed-eq11 c = c.feed-fed.auto.room ∙ c.loop-at.invariant.2
+pub returns-in_err-decoder : goal.returns-in_err-decoder
+returns-in_err-decoder c =
+    let p = err_from_is_err_and c.from_residual.result c.from_residual.ensures.1 in
+    let f = (goal.at.returns-in_err-decoder c).After-feed-fed in
+    rw (p.1, p.2, c.in_err-decoder.ensures.1)
+    (sym (walked_fault (tables (goal.at.After-feed-fed f).At-loop-part) (answer (goal.at.After-feed-fed f).At-loop-part) c.loop-part.decoder c.in-Some.part.now c.loop-part.room (rest f)
+    (walked f) (few f) (fits f) c.feed-fed.result c.feed-fed.ensures.0 (less f) c.in_err-decoder.ensures.0))
 
-pub returns-then-fed-eq11 : goal.returns-then-fed-eq11
-returns-then-fed-eq11 c =
-    c.faulty.ensures ∙
-    sym (walked_fault (tables (goal.at.returns-then-fed-eq11 c).At-loop-at) (answer (goal.at.returns-then-fed-eq11 c).At-loop-at) c.loop-at.decoder (part (goal.at.returns-then-fed-eq11 c).After-feed-fed) c.loop-at.room (rest (goal.at.returns-then-fed-eq11 c).After-feed-fed)
-    (walked (goal.at.returns-then-fed-eq11 c).After-feed-fed) (few (goal.at.returns-then-fed-eq11 c).After-feed-fed) (fits (goal.at.returns-then-fed-eq11 c).After-feed-fed) c.feed-fed.result c.feed-fed.ensures.0 (simp length-drop (omega arith)) c.if-fed-eq11.true)
-
-pub loop-at-preserved : goal.loop-at-preserved
-loop-at-preserved c = (
-  c.part_end-end.ensures.1,
-  c.loop-at.invariant.1,
-  c.feed-fed.auto.room ∙ c.loop-at.invariant.2,
-  c.loop-at.invariant.3,
-  walked_on (tables (goal.at.loop-at-preserved c).At-loop-at) (answer (goal.at.loop-at-preserved c).At-loop-at) c.loop-at.decoder (part (goal.at.loop-at-preserved c).After-feed-fed) c.loop-at.room (rest (goal.at.loop-at-preserved c).After-feed-fed)
-      (walked (goal.at.loop-at-preserved c).After-feed-fed) (few (goal.at.loop-at-preserved c).After-feed-fed) (fits (goal.at.loop-at-preserved c).After-feed-fed) c.feed-fed.result c.feed-fed.ensures.0 c.if-fed-eq11.false,
+pub loop-part-preserved : goal.loop-part-preserved
+loop-part-preserved c = (
+  less (goal.at.loop-part-preserved c).After-feed-fed,
+  c.feed-fed.auto.room ∙ c.loop-part.invariant.1,
+  c.loop-part.invariant.2,
+  c.in-Some.ensures.steps.0 ∙ c.loop-part.invariant.3,
+  let f = (goal.at.loop-part-preserved c).After-feed-fed in
+      rw c.in_ok-decoder.ensures.1
+      (walked_on (tables (goal.at.After-feed-fed f).At-loop-part) (answer (goal.at.After-feed-fed f).At-loop-part) c.loop-part.decoder c.in-Some.part.now c.loop-part.room (rest f)
+      (walked f) (few f) (fits f) c.feed-fed.result c.feed-fed.ensures.0 c.in_ok-decoder.ensures.0),
 )
 
-pub shape_of-room-then-last-eq11 : goal.shape_of-room-then-last-eq11
-shape_of-room-then-last-eq11 c = c.finish-last.auto.room ∙ c.loop-at.invariant.2
-
-pub returns-then-last-eq11 : goal.returns-then-last-eq11
-returns-then-last-eq11 c =
-    c.faulty-then-last-eq11.ensures ∙
-    sym (walked_end_fault (tables (goal.at.returns-then-last-eq11 c).At-loop-at) (answer (goal.at.returns-then-last-eq11 c).At-loop-at) c.loop-at.decoder c.loop-at.room (done (goal.at.returns-then-last-eq11 c).After-finish-last) (enough (goal.at.returns-then-last-eq11 c).After-finish-last)
-    c.finish-last.result c.finish-last.ensures.0 c.if-last-eq11.true)
-
-pub shape_of-room : goal.shape_of-room
-shape_of-room c = c.finish-last.auto.room ∙ c.loop-at.invariant.2
+pub returns-in_err-passed : goal.returns-in_err-passed
+returns-in_err-passed c =
+    let p = err_from_is_err_and c.from_residual-in_err-passed.result c.from_residual-in_err-passed.ensures.1 in
+    let f = (goal.at.returns-in_err-passed c).After-finish-last in
+    rw (p.1, p.2, c.in_err-passed.ensures.1)
+    (sym (walked_end_fault (tables (goal.at.After-finish-last f).At-loop-part) (answer (goal.at.After-finish-last f).At-loop-part) c.loop-part.decoder c.loop-part.room (done f) (enough f)
+    c.finish-last.result c.finish-last.ensures.0 c.in_err-passed.ensures.0))
 
 pub returns : goal.returns
 returns c =
-    c.clean.ensures ∙
-    sym (walked_clean (tables (goal.at.returns c).At-loop-at) (answer (goal.at.returns c).At-loop-at) c.loop-at.decoder c.loop-at.room (done (goal.at.returns c).After-finish-last) (enough (goal.at.returns c).After-finish-last)
-    c.finish-last.result c.finish-last.ensures.0 c.if-last-eq11.false)
+    sym (walked_clean (tables (goal.at.returns c).At-loop-part) (answer (goal.at.returns c).At-loop-part) c.loop-part.decoder c.loop-part.room (done (goal.at.returns c).After-finish-last) (enough (goal.at.returns c).After-finish-last)
+    c.finish-last.result c.finish-last.ensures.0 c.in_ok-passed.ensures.0)

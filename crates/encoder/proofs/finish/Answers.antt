@@ -4,10 +4,10 @@ use native.Mathlib.Omega.{arith}
 use Rattle.encoder.proofs.finish.Goals as goal
 
 pub returns-then-state-gt2 : goal.returns-then-state-gt2
-returns-then-state-gt2 c = finish_5 _ _ c.if-state-gt2.true
+returns-then-state-gt2 c = rw c.refused.ensures (finish_5 _ _ c.if-state-gt2.true)
 
 pub returns-then-room-size : goal.returns-then-room-size
-returns-then-room-size c = finish_7 _ _ c.if-state-gt2.false (omega (arith, c.if-room-size.true, c.size.ensures.0))
+returns-then-room-size c = rw c.refused-then-room-size.ensures (finish_7 _ _ c.if-state-gt2.false (omega (arith, c.if-room-size.true, c.size.ensures.0)))
 
 pub put-written-requires : goal.put-written-requires
 put-written-requires c = omega (arith, c.if-room-size.false, c.size.ensures.0)

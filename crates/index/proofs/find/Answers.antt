@@ -1,23 +1,13 @@
-use Rattle.index.proofs.Search.{stretch_end, stretch_past}
-use mathlib.Core.Path.{◌∙◌}
-use native.Mathlib.Omega.{arith}
+use mathlib.Core.Path.{◌≡◌, ap, ◌∙◌}
+use Prim.Native.Nat.{ℕ, ◌+◌}
+use borrow.Author.Rules.{rules}
+use Rattle.std.specs.Prelude.{Option, option_map}
+use Rattle.index.proofs.Search.{position_behind}
 use Rattle.index.proofs.find.Goals as goal
-
-pub returns-then-end-i-lt16 : goal.returns-then-end-i-lt16
-returns-then-end-i-lt16 c = c.find_each.ensures ∙ c.loop-i.invariant
-
-pub returns-then-among-ne0 : goal.returns-then-among-ne0
-returns-then-among-ne0 c = c.find_each-then-among-ne0.ensures ∙ c.loop-i.invariant
-
-pub loop-i-preserved : goal.loop-i-preserved
-loop-i-preserved c =
-    let t = c.before.before.before in
-    let s = t.before.before.before in
-    stretch_past s.args.table.now s.args.end s.args.c s.requires.1 16 t.loop-i.i (omega (arith, c.if-end-i-lt16.false))
-    (c.among.ensures (omega (arith, c.if-among-ne0.false))) ∙
-    t.loop-i.invariant
 
 pub returns : goal.returns
 returns c =
-    let args = c.args in
-    stretch_end args.table.now args.end args.c c.loop-i.i c.loop-i-test.false ∙ c.loop-i.invariant
+    let passed = c.passed_over-passed in
+    let behind : c.map.result ≡ option_map (λ (i : ℕ). passed.result + i) c.find_each.result = search rules in
+    behind ∙ ap (λ (o : Option ℕ). option_map (λ (i : ℕ). passed.result + i) o) c.find_each.ensures ∙
+    position_behind _ _ _ passed.ensures.within passed.ensures.lacks

@@ -1,49 +1,35 @@
 use native.Mathlib.Omega.{arith}
 use mathlib.Core.Path.{◌≡◌, refl, sym, ap, ◌∙◌}
 use mathlib.Core.List.{[]}
-use Prim.Native.Nat.{◌+◌}
+use lib.Dec.{lit≤}
 use lib.ListN.{drop, drop_of_length-le}
-use Rattle.index_loading.specs.Steps.{Place, placed, on_bytes}
-use Rattle.index_loading.proofs.Bytes.{stays, one_on}
-use borrow.Author.Rules.{rules}
+use Rattle.std.proofs.Common.{rules, Err}
+use Rattle.index_loading.specs.Steps.{at, placed, on_bytes}
+use Rattle.index_loading.proofs.Bytes.{step_on, step_fault}
 use Rattle.index_loading.proofs.load_bytes.Goals as goal
 
-pub loop-i-init : goal.loop-i-init
-loop-i-init c = (omega arith, c.requires.0, c.requires.1, refl, refl, refl)
+pub returns-in_err-n : goal.returns-in_err-n
+returns-in_err-n c =
+    let fault = c.in_err-n.ensures in
+    let e : c.from_residual.result ≡ Err c.in_err-n.field-0.0 = search rules in
+    rw e (record {
+      few = lit≤ tt;
+      stands = sym (c.loop-b.invariant.same ∙ step_fault _ _ c.loop-b.b-index c.loop-b-test.true _ _ _ fault.stands (fault.fault _ refl));
+    })
 
-pub shape_of-line-then-place-ne0 : goal.shape_of-line-then-place-ne0
-shape_of-line-then-place-ne0 c = c.loop-i.invariant.3
-
-pub shape_of-table-then-place-ne0 : goal.shape_of-table-then-place-ne0
-shape_of-table-then-place-ne0 c = c.loop-i.invariant.4
-
-pub returns-then-place-ne0 : goal.returns-then-place-ne0
-returns-then-place-ne0 c = let l = c.loop-i in
+pub loop-b-preserved : goal.loop-b-preserved
+loop-b-preserved c =
+    let inv = c.loop-b.invariant in
+    let step = c.in_ok-n.ensures.stands in
     record {
-      few = l.invariant.1;
-      stands = sym
-          (l.invariant.5 ∙ stays (placed l.place l.line l.table)
-          (drop l.i c.args.bytes.now) (search rules));
+      few = step.few;
+      room = omega (arith, c.load_byte.auto.line, inv.room);
+      same = inv.same ∙ step_on _ _ c.loop-b.b-index c.loop-b-test.true _ _ _ step;
     }
-
-pub load_byte-place-requires : goal.load_byte-place-requires
-load_byte-place-requires c = let l = c.loop-i in (l.invariant.1, omega arith, l.invariant.2)
-
-pub loop-i-preserved : goal.loop-i-preserved
-loop-i-preserved c =
-    let l = c.loop-i in
-    let f = c.load_byte-place in
-    (omega arith, f.ensures.few, omega (arith, f.auto.line, l.invariant.2), f.auto.line ∙ l.invariant.3, f.auto.table ∙ l.invariant.4, l.invariant.5 ∙ one_on _ _ l.i (omega arith) ∙ ap (λ (p : Place). on_bytes p (drop (l.i + 1) c.args.bytes.now)) (sym f.ensures.stands))
-
-pub shape_of-line : goal.shape_of-line
-shape_of-line c = c.loop-i.invariant.3
-
-pub shape_of-table : goal.shape_of-table
-shape_of-table c = c.loop-i.invariant.4
 
 pub returns : goal.returns
 unfolding on_bytes
-returns c = let l = c.loop-i in
-    let e : drop l.i c.args.bytes.now ≡ [] = drop_of_length-le
-    c.args.bytes.now {i = l.i} (omega arith) in
-    record { few = l.invariant.1; stands = sym (l.invariant.5 ∙ ap (on_bytes (placed l.place l.line l.table)) e) }
+returns c =
+    let l = c.loop-b in
+    let e : drop l.b-index c.args.bytes.now ≡ [] = drop_of_length-le c.args.bytes.now {i = l.b-index} c.loop-b-test.false in
+    record { few = l.invariant.few; stands = sym (l.invariant.same ∙ ap (on_bytes (placed (at l.n 0) l.line l.table)) e) }

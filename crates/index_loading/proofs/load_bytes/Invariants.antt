@@ -1,14 +1,11 @@
-use mathlib.Core.Path.{◌≡◌}
-use Prim.Native.Nat.{◌-◌, ◌≤◌}
-use lib.ListN.{length, drop}
-use Rattle.index_loading.specs.Steps.{placed, on_bytes}
+-- `load_bytes`. The loop's invariant: what is to be loaded is what this byte and those behind it give from here. Assumes nothing.
+use Rattle.std.proofs.Common.{◌≡◌, ◌≤◌, length, drop}
+use Rattle.index_loading.specs.Steps.{at, placed, on_bytes}
 use Rattle.index_loading.proofs.load_bytes.Given as goal
 
--- The invariant: what is to be loaded is what the bytes from i on give from here.
--- The bytes left fall by one at each turn.
-abbrev pub invariant-loop-i : goal.invariant-loop-i
-invariant-loop-i l = (l.i ≤ length l.bytes) × (l.place.length ≤ 1025) × (1025 ≤ length l.line) × (length l.line ≡ length l.initial.line) × (length l.table ≡ length l.initial.table) ×
-    (on_bytes (placed l.initial.place l.initial.line l.initial.table) l.bytes ≡ on_bytes (placed l.place l.line l.table) (drop l.i l.bytes))
-
-abbrev pub decreases-loop-i : goal.decreases-loop-i
-decreases-loop-i l = length l.bytes - l.i
+abbrev pub invariant-loop-b : goal.invariant-loop-b
+invariant-loop-b l = record {
+  few : l.n ≤ 1025;
+  room : 1025 ≤ length l.line;
+  same : on_bytes (placed (at l.initial.n 0) l.initial.line l.initial.table) l.bytes ≡ on_bytes (placed (at l.n 0) l.line l.table) (drop l.b-index l.bytes);
+}

@@ -11,21 +11,25 @@ use Rattle.iso_2022_jp_runs.proofs.stretch.Goals.{After-eights-r}
 come : (c : After-eights-r) →
     let args = c.args in
     let r = c.eights-r.result in
-    Going (lent args.t1.now args.t2.now) ISO-2022-JP args.mode args.chunk.now args.from r.at
-    (shift 0 (eqb args.flag 1)) (shift 0 (eqb r.flag 1)) args.place r.written args.room.now c.eights-r.new.room
+    Going (lent args.t1.now args.t2.now) ISO-2022-JP args.mode args.chunk.now args.p.at r.at
+    (shift 0 (eqb args.p.flag 1)) (shift 0 (eqb r.flag 1)) args.p.written r.written args.room.now c.eights-r.new.room
 come c =
     going_runs (going_start c.requires) (c.eights-r.ensures (lent c.args.t1.now c.args.t2.now))
 
 pub bytes-requires : goal.bytes-requires
 bytes-requires c = (come (goal.at.bytes-requires c).After-eights-r).here
 
-pub returns-then-state-eq0 : goal.returns-then-state-eq0
-returns-then-state-eq0 c =
-    let e : c.args.state ≡ 0 = omega arith in
-    rw e (going_runs (come (goal.at.returns-then-state-eq0 c).After-eights-r) c.bytes.ensures).runs
+pub returns-then-p-eq0 : goal.returns-then-p-eq0
+returns-then-p-eq0 c =
+    let args = c.args in
+    let e : args.p.state ≡ 0 = omega arith in
+    rw e (going_runs (come (goal.at.returns-then-p-eq0 c).After-eights-r) (c.bytes.ensures (lent args.t1.now args.t2.now))).runs
 
-pub returns-then-state-eq3 : goal.returns-then-state-eq3
-returns-then-state-eq3 c = let e : c.args.state ≡ 3 = omega arith in rw e c.pairs.ensures
+pub returns-then-p-eq3 : goal.returns-then-p-eq3
+returns-then-p-eq3 c =
+    let args = c.args in
+    let e : args.p.state ≡ 3 = omega arith in
+    rw e (c.pairs.ensures args.t2.now)
 
 pub returns : goal.returns
 returns c =

@@ -1,12 +1,16 @@
-use Prim.Native.Nat.{◌+◌, ◌-◌, ◌≤◌, ◌<◌}
-use lib.ListN.{length}
-use Rattle.line_feeds.proofs.Parts.{Counted}
+use Rattle.std.proofs.Common.{◌≡◌, ◌+◌, ◌*◌, ◌≤◌, map, length, drop}
+use Rattle.std.specs.Slice.Iter.{chunks_exact_rest, chunks_exact_size}
+use Rattle.standard.specs.Base.{line_feeds}
 use Rattle.line_feeds.proofs.in_many.Given as goal
 
--- The invariant: `count` line feeds are among the first k of the n bytes.
--- What is left of n falls by a block at each turn.
-abbrev pub invariant-loop-k : goal.invariant-loop-k
-invariant-loop-k l = (l.k ≤ l.n) × (l.at + l.n ≤ length l.bytes) × (length l.bytes < 18446744073709551616) × Counted l.bytes l.at l.k l.count
-
-abbrev pub decreases-loop-k : goal.decreases-loop-k
-decreases-loop-k l = l.n - l.k
+-- The invariant: `count` and the line feeds among what the blocks have left are all; so many blocks are behind.
+abbrev pub invariant-loop-block : goal.invariant-loop-block
+invariant-loop-block g l =
+    let number = g.T.Element.number in
+    let left = chunks_exact_rest l.block-iterator in
+    record {
+      size : chunks_exact_size l.block-iterator ≡ g.T.Element.BLOCK;
+      place : left ≡ drop (length l.yielded * g.T.Element.BLOCK) l.elements;
+      inside : length l.yielded * g.T.Element.BLOCK ≤ length l.elements;
+      all : l.count + line_feeds (map number left) ≡ line_feeds (map number l.elements);
+    }

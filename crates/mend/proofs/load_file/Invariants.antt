@@ -4,13 +4,10 @@ use Rattle.index_loading.specs.Steps.{on_bytes, Stands}
 use Rattle.index_loading.specs.Statements.{fresh}
 use Rattle.mend.proofs.load_file.Given as goal
 
--- The buffer keeps its length, and loading stands behind the bytes that were read. What falls is the turns that are left.
-abbrev pub invariant-loop-turns : goal.invariant-loop-turns
-invariant-loop-turns g l = record {
+-- The buffer keeps its length, and loading stands behind the bytes that were read.
+abbrev pub invariant-loop : goal.invariant-loop
+invariant-loop g l = record {
   buffer : length l.buffer ≡ length l.fn.buffer;
   bytes : (bytes : List ℕ) × Consumes (g.R.Read.remaining l.fn.file) (g.R.Read.remaining l.file) bytes ×
       (1025 ≤ length l.fn.line → Stands (on_bytes (fresh l.fn.table) bytes) l.s l.line l.table);
 }
-
-abbrev pub decreases-loop-turns : goal.decreases-loop-turns
-decreases-loop-turns g l = l.turns

@@ -1,11 +1,8 @@
-use Rattle.program_text.proofs.FirstLine.{after_more, after_none}
-use native.Mathlib.Omega.{arith}
+use Rattle.program_text.proofs.FirstLine.{after_feed, after_none}
 use Rattle.program_text.proofs.after_line.Goals as goal
 
-pub returns-then-n-input : goal.returns-then-n-input
-returns-then-n-input c = let l = c.before.before in after_more l.args.input.now l.first_line-n.result
-    l.first_line-n.ensures.0
+pub returns-in-Some : goal.returns-in-Some
+returns-in-Some c = after_feed c.args.input.now c.in-Some.end c.in-Some.ensures
 
-pub returns : goal.returns
-returns c = let l = c.before.before in after_none l.args.input.now l.first_line-n.result
-    l.first_line-n.ensures.0 (omega arith)
+pub returns-in-None : goal.returns-in-None
+returns-in-None c = after_none c.args.input.now c.in-None.ensures

@@ -2,8 +2,7 @@ use native.Mathlib.Omega.{arith}
 use mathlib.Core.Path.{sym, ap, ◌∙◌}
 use mathlib.Core.List.{[]}
 use Prim.Native.Nat.{◌+◌, ◌-◌, ◌*◌}
-use native.Mathlib.Nat.{sub-zero}
-use lib.ListN.{length}
+use lib.ListN.{length, length-take}
 use borrow.Author.Tests.{ltb-false}
 use Rattle.standard.specs.Encodings.{lent}
 use Rattle.decoder.specs.declared.Answer.{Answer}
@@ -57,6 +56,22 @@ slice_bounds-tell-end c =
     let k = O.fits z (sym (ap (λ (b : Answer). b.refusal) c.feed-answer-2.ensures.0) ∙ omega arith) in
     omega (arith, w, r, k)
 
+pub slice_bounds-tell-end-2 : goal.slice_bounds-tell-end-2
+slice_bounds-tell-end-2 c =
+    let a = c.args in
+    let t = lent a.t1.now a.t2.now in
+    let n = length a.chunk.now + a.d.held in
+    let is = (read_on a.d t a.chunk.now).items in
+    let O = fed_out_lem a.d t a.chunk.now a.room.now in
+    let z = taken_0 a.d a.d.mode (feed_refusal a.d t a.chunk.now a.room.now) n is a.room.now a.spans.now _ O
+    (replaced (a.d.taken - a.d.held) is)
+    (sym c.short.ensures ∙
+    c.if-short.false) c.feed-answer-2.ensures.0 (omega arith) in
+    let w = ap (λ (b : Answer). b.written) c.feed-answer-2.ensures.0 in
+    let r = ap length c.feed-answer-2.ensures.1 in
+    let k = O.fits z (sym (ap (λ (b : Answer). b.refusal) c.feed-answer-2.ensures.0) ∙ omega arith) in
+    simp length-take (omega (arith, w, r, k))
+
 pub tell-count-requires : goal.tell-count-requires
 tell-count-requires c =
     let a = c.args in
@@ -71,7 +86,7 @@ tell-count-requires c =
     record {
       accepted = (a.room.now, z);
       space = omega (arith, ltb-false (length a.spans.now) (2 * n) k);
-      wrote = λ h. rw (sub-zero, c.feed-answer-2.ensures.0, c.feed-answer-2.ensures.1) (O.wrote z h);
+      wrote = λ h. rw (c.feed-answer-2.ensures.0, c.feed-answer-2.ensures.1) (O.wrote z h);
     }
 
 pub returns : goal.returns

@@ -1,18 +1,18 @@
-use native.Mathlib.Omega.{arith}
-use mathlib.Core.Path.{◌∙◌}
+use mathlib.Core.Path.{sym, ap, ◌∙◌}
 use lib.Dec.{eqb}
 use Rattle.standard.specs.Sequence.{shift}
 use Rattle.standard.proofs.Families.{by_33}
+use Rattle.sequences.specs.Code.{next_of}
 use Rattle.replacements.proofs.Told.{last_waits, last_item}
-use borrow.Author.Rules.{rules}
 use Rattle.replacements.proofs.last_is_error.Goals as goal
 
-pub returns-then-q-eq0 : goal.returns-then-q-eq0
-returns-then-q-eq0 c = last_waits _ (shift c.args.state
-    (eqb c.args.flag 1)) c.args.b
-    c.next-q.result (c.next-q.ensures ∙ by_33 _ _ _) (omega arith)
+pub returns-in-Some : goal.returns-in-Some
+returns-in-Some c =
+    let a = c.args in
+    c.is_error.ensures ∙
+    last_item _ (shift a.state (eqb a.flag 1)) a.b c.in-Some.q (ap next_of (sym c.in-Some.is) ∙ c.next.ensures ∙ by_33 _ _ _)
 
-pub returns : goal.returns
-returns c = last_item _ (shift c.args.state
-    (eqb c.args.flag 1)) c.args.b
-    c.next-q.result (c.next-q.ensures ∙ by_33 _ _ _) (search rules)
+pub returns-in-None : goal.returns-in-None
+returns-in-None c =
+    let a = c.args in
+    last_waits _ (shift a.state (eqb a.flag 1)) a.b (ap next_of (sym c.in-None.is) ∙ c.next.ensures ∙ by_33 _ _ _)

@@ -1,14 +1,16 @@
 use native.Mathlib.Omega.{arith}
-use mathlib.Core.Path.{sym}
-use Prim.Native.Nat.{◌+◌, ◌*◌}
-use borrow.Author.Tests.{lt-ltb, le-ltb}
+use mathlib.Core.Path.{sym, ◌∙◌}
+use Prim.Native.Nat.{◌+◌, ◌*◌, ◌/◌}
+use lib.Dec.{ltb}
+use borrow.Author.Tests.{lt-ltb, le-ltb, ltb-true, ltb-false}
+use Rattle.standard.proofs.Tests.{split}
 use Rattle.replacements.proofs.short.Goals as goal
 
-pub returns-then-most-held : goal.returns-then-most-held
-returns-then-most-held c = let a = c.args in sym (lt-ltb a.cells (2 * (a.bytes + a.held)) (omega arith))
-
-pub returns-then-most-held-2 : goal.returns-then-most-held-2
-returns-then-most-held-2 c = let a = c.args in sym (lt-ltb a.cells (2 * (a.bytes + a.held)) (omega arith))
-
 pub returns : goal.returns
-returns c = let a = c.args in sym (le-ltb a.cells (2 * (a.bytes + a.held)) (omega arith))
+returns c =
+    let a = c.args in
+    split (ltb a.cells (2 * (a.bytes + a.held)))
+    (λ e. lt-ltb (a.cells / 2) c.saturating_add.result
+    (omega (arith, c.saturating_add.ensures, c.from.ensures, ltb-true a.cells (2 * (a.bytes + a.held)) e)) ∙ sym e)
+    (λ e. le-ltb (a.cells / 2) c.saturating_add.result
+    (omega (arith, c.saturating_add.ensures, c.from.ensures, ltb-false a.cells (2 * (a.bytes + a.held)) e)) ∙ sym e)

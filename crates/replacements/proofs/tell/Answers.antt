@@ -10,62 +10,65 @@ use Rattle.reading.proofs.Loop.{all_count}
 use Rattle.decoder.specs.Record.{held_of}
 use Rattle.decoder.specs.Code.{held_in}
 use Rattle.replacements.proofs.Adding.{adds_none}
-use Rattle.replacements.proofs.Told.{Accepted, feed_accepted, refusing_none, replacing_all, unshown_none, Begins, begins, walked}
+use Rattle.replacements.proofs.Told.{Accepted, feed_accepted, refusing_none, replacing_all, unshown_none, begins_waiting, begins, walked}
 use borrow.Author.Rules.{rules}
 use Rattle.replacements.proofs.tell.Goals as goal
-use Rattle.replacements.proofs.tell.Goals.{After-starting-s}
+use Rattle.replacements.proofs.tell.Goals.{After-starting}
 
 -- what the accepted feed says
-abbrev Facts : After-starting-s → Type 0
+abbrev Facts : After-starting → Type 0
 Facts c = let a = c.args in Accepted a.d × (length a.chunk.now ≤ 65536) × (a.d.taken + length a.chunk.now ≤ 4294967295)
 
-facts : (c : After-starting-s) → Facts c
+facts : (c : After-starting) → Facts c
 facts c = let a = c.args in let F = c.requires in
     feed_accepted a.d (lent a.t1.now a.t2.now) a.chunk.now F.accepted.0 F.accepted.1
 
 -- the bytes held are the record's
-count : (c : After-starting-s) → c.held-before.result.count ≡ c.args.d.held
+count : (c : After-starting) → c.held-before.result.count ≡ c.args.d.held
 count c = ap (λ (h : Held). h.count) c.held-before.ensures
 
-abbrev Begun : After-starting-s → Type 0
-Begun c = let a = c.args in
-    Begins (lent a.t1.now a.t2.now) a.d.encoding a.d.stage a.d.state a.d.flag (a.d.taken - a.d.held)
-    (held_of a.d ++ a.chunk.now) c.starting-s.result
-
-begun : (c : After-starting-s) → Begun c
-begun c = let a = c.args in
-    begins (lent a.t1.now a.t2.now) a.d.encoding a.d.stage a.d.state a.d.flag (a.d.taken - a.d.held)
-    (held_of a.d ++ a.chunk.now)
-    (c.starting-s.ensures (omega (arith, count c, (facts c).0.few)) (facts c).1 ∙
-    ap (λ (h : Held). start_of a.d.encoding a.d.stage a.d.state a.d.flag (bytes_of h ++ a.chunk.now)) c.held-before.ensures)
+-- where reading starts, by the record
+found : (c : After-starting) → let a = c.args in
+    c.starting.result ≡ start_of a.d.encoding a.d.stage a.d.state a.d.flag (held_of a.d ++ a.chunk.now)
+found c = let a = c.args in
+    c.starting.ensures (omega (arith, count c, (facts c).0.few)) (facts c).1 ∙
+    ap (λ (h : Held). start_of a.d.encoding a.d.stage a.d.state a.d.flag (bytes_of h ++ a.chunk.now)) c.held-before.ensures
 
 pub returns-then-d-eq1 : goal.returns-then-d-eq1
 returns-then-d-eq1 c = let a = c.args in
     adds_none a.spans.now 0 _ (refusing_none a.d.mode _ _ (omega arith))
 
-pub returns-then-s-eq1 : goal.returns-then-s-eq1
-returns-then-s-eq1 c =
+pub returns-in_default : goal.returns-in_default
+returns-in_default c =
     let a = c.args in
-    adds_none a.spans.now 0 _ (replacing_all a.d.mode _ _ (search rules) ∙ (begun (goal.at.returns-then-s-eq1 c).After-starting-s).waits (omega arith))
+    let waiting = begins_waiting (lent a.t1.now a.t2.now) a.d.encoding a.d.stage a.d.state a.d.flag (a.d.taken - a.d.held)
+    (held_of a.d ++ a.chunk.now)
+    (sym c.in_default.is ∙ found (goal.at.returns-in_default c).After-starting) in
+    adds_none a.spans.now 0 _ (replacing_all a.d.mode _ _ (search rules) ∙ waiting)
 
 pub overflow_sub-from : goal.overflow_sub-from
-overflow_sub-from c = let h = facts (goal.at.overflow_sub-from c).After-starting-s in omega (arith, h.0.held)
+overflow_sub-from c = let h = facts (goal.at.overflow_sub-from c).After-starting in omega (arith, h.0.held)
 
 pub walk-w-requires : goal.walk-w-requires
 walk-w-requires c =
     let a = c.args in
-    let h = facts (goal.at.walk-w-requires c).After-starting-s in
-    let q = count (goal.at.walk-w-requires c).After-starting-s in
-    let m = (begun (goal.at.walk-w-requires c).After-starting-s).there in
+    let h = facts (goal.at.walk-w-requires c).After-starting in
+    let q = count (goal.at.walk-w-requires c).After-starting in
+    let begun = begins (lent a.t1.now a.t2.now) a.d.encoding a.d.stage a.d.state a.d.flag (a.d.taken - a.d.held)
+    (held_of a.d ++ a.chunk.now)
+    c.in-Some.s (sym c.in-Some.is ∙ found (goal.at.walk-w-requires c).After-starting) in
     let n = all_count (held_in a.d) a.chunk.now h.0.few in
     let s = c.requires.space in
-    (omega (arith, q, h.0.few), h.1, omega (arith, q, m, n), omega (arith, q, h.2, h.0.held), omega (arith, q, s))
+    (omega (arith, q, h.0.few), h.1, omega (arith, q, begun.there, n), omega (arith, q, h.2, h.0.held), omega (arith, q, s))
 
 pub returns-then-has_replacement : goal.returns-then-has_replacement
 returns-then-has_replacement c =
     let a = c.args in
-    walked {t = lent a.t1.now a.t2.now} (replacing_all a.d.mode _ _ (search rules) ∙ (begun (goal.at.returns-then-has_replacement c).After-starting-s).reads (search rules))
-    (rw c.held-before.ensures at c.walk-w.ensures)
+    let begun = begins (lent a.t1.now a.t2.now) a.d.encoding a.d.stage a.d.state a.d.flag (a.d.taken - a.d.held)
+    (held_of a.d ++ a.chunk.now)
+    c.in-Some.s (sym c.in-Some.is ∙ found (goal.at.returns-then-has_replacement c).After-starting) in
+    walked {t = lent a.t1.now a.t2.now} (replacing_all a.d.mode _ _ (search rules) ∙ begun.reads)
+    (rw (c.held-before.ensures, c.from.ensures) at c.walk-w.ensures)
 
 pub returns : goal.returns
 returns c =

@@ -1,8 +1,8 @@
+use lib.ListN.{length-take}
 use native.Mathlib.Omega.{arith}
 use mathlib.Core.Path.{sym}
 use mathlib.Core.List.{◌∷◌, []}
 use Prim.Native.Nat.{◌-◌}
-use native.Mathlib.Nat.{sub-zero}
 use lib.Seq.{length-take-le}
 use Rattle.standard.specs.Encodings.{lent}
 use Rattle.decoder.specs.Calls.{read_end}
@@ -21,11 +21,11 @@ returns-then-d-eq1 c = let a = c.args in adds_none a.spans.now 0 _ (refusing_non
 pub overflow_sub-from : goal.overflow_sub-from
 overflow_sub-from c = let h = facts (goal.at.overflow_sub-from c).Else-d-eq1 in omega (arith, h.held)
 
-pub slice_bounds-tell_waiting-count : goal.slice_bounds-tell_waiting-count
-slice_bounds-tell_waiting-count c = let h = facts (goal.at.slice_bounds-tell_waiting-count c).Else-d-eq1 in omega (arith, h.few)
-
 pub slice_bounds-tell_waiting-end : goal.slice_bounds-tell_waiting-end
-slice_bounds-tell_waiting-end c = let h = facts (goal.at.slice_bounds-tell_waiting-end c).Else-d-eq1 in omega (arith, h.few)
+slice_bounds-tell_waiting-end c = let h = facts (goal.at.slice_bounds-tell_waiting-end c).Else-d-eq1 in simp length-take (omega (arith, h.few, c.from-n.ensures))
+
+pub slice_bounds-bytes-end : goal.slice_bounds-bytes-end
+slice_bounds-bytes-end c = let h = facts (goal.at.slice_bounds-bytes-end c).Else-d-eq1 in omega (arith, h.few, c.from-n.ensures)
 
 pub tell_waiting-requires : goal.tell_waiting-requires
 tell_waiting-requires c =
@@ -33,7 +33,7 @@ tell_waiting-requires c =
     let s = c.requires.space in
     let d = c.args.d in
     let n = length-take-le d.held (d.first ∷ d.second ∷ d.third ∷ []) h.few in
-    rw (sub-zero d.held) (omega (arith, n, h.few), omega (arith, n, h.held), omega (arith, n, s))
+    rw (c.from-n.ensures, c.from.ensures) (omega (arith, n, h.few), omega (arith, n, h.held), omega (arith, n, s))
 
 pub returns-then-d-eq1-2 : goal.returns-then-d-eq1-2
 returns-then-d-eq1-2 c =
@@ -42,13 +42,13 @@ returns-then-d-eq1-2 c =
       replacing_all a.d.mode (a.d.taken - a.d.held) (read_end a.d (lent a.t1.now a.t2.now)) (search rules),
       end_waits
           a.d (lent a.t1.now a.t2.now) (omega arith),
-    ) (rw (sub-zero a.d.held) at c.tell_waiting.ensures)
-
-pub slice_bounds-tell_rest-count : goal.slice_bounds-tell_rest-count
-slice_bounds-tell_rest-count c = let h = facts (goal.at.slice_bounds-tell_rest-count c).Else-d-eq1 in omega (arith, h.few)
+    ) (rw (c.from-n.ensures, c.from.ensures) at c.tell_waiting.ensures)
 
 pub slice_bounds-tell_rest-end : goal.slice_bounds-tell_rest-end
-slice_bounds-tell_rest-end c = let h = facts (goal.at.slice_bounds-tell_rest-end c).Else-d-eq1 in omega (arith, h.few)
+slice_bounds-tell_rest-end c = let h = facts (goal.at.slice_bounds-tell_rest-end c).Else-d-eq1 in simp length-take (omega (arith, h.few, c.from-n.ensures))
+
+pub slice_bounds-bytes-end-2 : goal.slice_bounds-bytes-end-2
+slice_bounds-bytes-end-2 c = let h = facts (goal.at.slice_bounds-bytes-end-2 c).Else-d-eq1 in omega (arith, h.few, c.from-n.ensures)
 
 pub tell_rest-requires : goal.tell_rest-requires
 tell_rest-requires c =
@@ -56,7 +56,7 @@ tell_rest-requires c =
     let s = c.requires.space in
     let d = c.args.d in
     let n = length-take-le d.held (d.first ∷ d.second ∷ d.third ∷ []) h.few in
-    rw (sub-zero d.held) (omega (arith, n, h.few), omega (arith, n, h.held), omega (arith, n, s))
+    rw (c.from-n.ensures, c.from.ensures) (omega (arith, n, h.few), omega (arith, n, h.held), omega (arith, n, s))
 
 pub returns : goal.returns
 returns c =
@@ -65,4 +65,4 @@ returns c =
       replacing_all a.d.mode (a.d.taken - a.d.held) (read_end a.d (lent a.t1.now a.t2.now)) (search rules),
       end_reads a.d (lent a.t1.now a.t2.now) (search rules),
       sym c.reader-reads.ensures,
-    ) (rw (sub-zero a.d.held) at c.tell_rest.ensures)
+    ) (rw (c.from-n.ensures, c.from.ensures) at c.tell_rest.ensures)

@@ -10,9 +10,9 @@ use Rattle.replacements.proofs.walk.Given as goal
 
 -- The invariant: n sequences are told, and what is told in all is those and the ones from `at` on.
 -- The bytes behind `at` fall at each turn, since a sequence has a byte or more.
-abbrev pub invariant-loop-held : goal.invariant-loop-held
-invariant-loop-held l = Walking (lent l.t1 l.t2) l.encoding l.from l.mark (shift l.state (eqb l.flag 1)) (bytes_of l.held ++ l.chunk) l.initial.spans l.spans l.at l.n (shift l.s (eqb l.f 1)) ×
+abbrev pub invariant-loop-q : goal.invariant-loop-q
+invariant-loop-q l = Walking (lent l.t1 l.t2) l.encoding l.from l.mark (shift l.state (eqb l.flag 1)) (bytes_of l.held ++ l.chunk) l.initial.spans l.spans l.at l.n (shift l.s (eqb l.f 1)) ×
     (l.held.count ≤ 3) × (length l.chunk ≤ 65536) × (l.from + l.held.count + length l.chunk ≤ 4294967295)
 
-abbrev pub decreases-loop-held : goal.decreases-loop-held
-decreases-loop-held l = l.held.count + length l.chunk - l.at
+abbrev pub decreases-loop-q : goal.decreases-loop-q
+decreases-loop-q l = l.held.count + length l.chunk - l.at

@@ -1,23 +1,13 @@
 -- `pointer_outside`: by the index, or by the search. Assumes nothing.
-use mathlib.Core.Path.{◌∙◌}
-use Rattle.standard.proofs.Tests.{fails, holds}
-use Rattle.reverse_index.proofs.Answers.{look_unfit, look_search, look_walk}
-use Rattle.std.proofs.lemmas.Bool.{not_from_true, not_from_false}
+use mathlib.Core.Path.{◌≡◌}
+use Rattle.std.proofs.Common.{rules, MatchOption, Some}
+use Rattle.standard.specs.Search.{search as sought, pass_over, first}
+use Rattle.index.specs.IndexCode.{pointer_of}
+use Rattle.reverse_index.proofs.Answers.{looked_up}
 use Rattle.reverse_index.proofs.pointer_outside.Goals as goal
-
-pub returns-then-not-fits : goal.returns-then-not-fits
-returns-then-not-fits c = c.pointer_outside.ensures ∙ look_unfit _ _ _ _ _ (fails c.fits.ensures (not_from_false _ c.if-not-fits.true))
-
-pub first-link-requires : goal.first-link-requires
-first-link-requires c = holds c.fits.ensures (not_from_true _ c.if-not-fits.false)
-
-pub returns-then-link-eq0 : goal.returns-then-link-eq0
-returns-then-link-eq0 c =
-    let w = c.before.before in
-    c.pointer_outside-then-link-eq0.ensures ∙
-    look_search _ _ _ _ _ (holds w.fits.ensures (not_from_true _ w.if-not-fits.false)) _ w.first-link.ensures c.if-link-eq0.true
 
 pub returns : goal.returns
 returns c =
-    let w = c.before in
-    look_walk _ _ _ _ _ (holds w.fits.ensures (not_from_true _ w.if-not-fits.false)) _ w.first-link.ensures c.if-link-eq0.false
+    let a = c.args in
+    let found : MatchOption c.walk.result (pointer_of c.or_else.result ≡ sought first (pass_over a.low a.high) a.table.now a.c) (λ p. c.or_else.result ≡ Some p) = search rules in
+    looked_up a.table.now a.index.now first (pass_over a.low a.high) a.c _ _ c.walk.ensures found

@@ -33,7 +33,7 @@ some o =
 pub returns-then-have-eq0 : goal.returns-then-have-eq0
 returns-then-have-eq0 c =
     let args = c.args in
-    c.waits.ensures ∙ sym (ap (next (lent args.t1.now args.t2.now) (family args.encoding) (shift args.state (eqb args.flag 1))) (front_none args.have args.b0 args.b1 args.b2 args.b3 (omega arith)) ∙ empty (lent args.t1.now args.t2.now) (family args.encoding) (shift args.state (eqb args.flag 1)))
+    sym (ap (next (lent args.t1.now args.t2.now) (family args.encoding) (shift args.state (eqb args.flag 1))) (front_none args.have args.b0 args.b1 args.b2 args.b3 (omega arith)) ∙ empty (lent args.t1.now args.t2.now) (family args.encoding) (shift args.state (eqb args.flag 1)))
 
 pub returns-then-encoding-eq0 : goal.returns-then-encoding-eq0
 returns-then-encoding-eq0 c =

@@ -1,20 +1,21 @@
 use Rattle.showtext.proofs.Buffers.{fed_fits, encoding_few, left_refused, left_fed}
 use Rattle.showtext.specs.Code.{heading}
 use native.Mathlib.Omega.{arith}
+use Rattle.std.proofs.lemmas.Result.{err_from_is_err_and}
 use Rattle.showtext.proofs.begin_text.Goals as goal
 
-pub returns-then-first-ne0 : goal.returns-then-first-ne0
-returns-then-first-ne0 c =
+pub returns-in_err-first : goal.returns-in_err-first
+returns-in_err-first c =
     let a = c.args in
-    left_refused (heading a.encoding) a.decoder 0 a.chunk.now a.room.now a.out.now (encoding_few a.encoding)
-    c.requires
-    c.feed-first.ensures.0 c.feed-first.ensures.1 c.if-first-ne0.true c.refuse.ensures
+    let r = c.in_err-first.ensures.refused in
+    let p = err_from_is_err_and c.from_residual.result c.from_residual.ensures.1 in
+    rw (p.1, p.2) (left_refused (heading a.encoding) a.decoder 0 a.chunk.now a.room.now a.out.now _ r.0 r.1)
 
 pub show-requires : goal.show-requires
 show-requires c =
     let a = c.args in
     let pre = c.requires in
-    let fits = fed_fits a.decoder a.chunk.now a.room.now c.feed-first.ensures.0 c.feed-first.ensures.1 in (
+    let fits = fed_fits a.decoder a.chunk.now a.room.now c.in_ok-first.ensures.fed.0 c.in_ok-first.ensures.room in (
       fits.1,
       omega (arith, fits.0, pre, c.put_encoding-at.ensures.behind, encoding_few a.encoding, c.put_encoding-at.auto.out),
       omega (arith, fits.0, pre),
@@ -23,5 +24,6 @@ show-requires c =
 pub returns : goal.returns
 returns c =
     let a = c.args in
+    let f = c.in_ok-first.ensures in
     left_fed (heading a.encoding) a.decoder 0 a.chunk.now a.room.now a.out.now (encoding_few a.encoding) c.requires
-    c.feed-first.ensures.0 c.feed-first.ensures.1 c.if-first-ne0.false c.put_encoding-at.ensures c.show.ensures
+    f.fed.0 f.room f.fed.1 c.put_encoding-at.ensures c.show.ensures

@@ -3,6 +3,7 @@ use Prim.Native.Nat.{◌+◌, ◌≤◌}
 use lib.ListN.{length}
 use Rattle.standard.specs.Text.{bytes}
 use native.Mathlib.Omega.{arith}
+use mathlib.Core.Path.{◌∙◌}
 use Rattle.showtext.proofs.close.Goals as goal
 use Rattle.showtext.proofs.close.Goals.{After-show-s}
 
@@ -36,3 +37,4 @@ returns c =
     let at_end = c.put_number in
     closed_up c.args.decoder c.args.count c.args.room.now c.args.out.now
     at-finish.ensures.0 at-finish.ensures.1 c.show-s.ensures (at_end.ensures.put (room_left (goal.at.returns c).After-show-s)) (omega (arith, c.requires.0))
+    (at_end.auto.out ∙ c.show-s.auto.out)

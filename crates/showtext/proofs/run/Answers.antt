@@ -1,41 +1,108 @@
-use Rattle.std.proofs.Common.{◌∙◌, ◌+◌, ◌≤◌, length, arith, rules}
-use Rattle.showtext.proofs.Buffers.{turned_few}
-use Rattle.showtext.proofs.Runs.{starting, ran, ended, enough, known_first, known_next, known_end}
-use Rattle.showtext.proofs.run.Given.{Over}
+use Rattle.std.proofs.Common.{◌≡◌, sym, ◌∙◌, ◌≤◌, ◌<◌, [], length, length-take-le, arith}
+use Rattle.std.proofs.KnownBytes.{Consumes-nil}
+use Rattle.std.proofs.lemmas.Result.{on_ok_weaker}
+use Rattle.decoder.specs.Calls.{opening}
+use Rattle.showtext.specs.Program.{Shown}
+use Rattle.showtext.specs.Statements.{Whole}
+use Rattle.showtext.proofs.Buffers.{begun_few, went_few}
+use Rattle.showtext.proofs.Runs.{State, most, starting, first, first_out, further, further_out, closed, not_more, known_first, known_next, known_end, known_last}
 use Rattle.showtext.proofs.run.Goals as goal
-use Rattle.showtext.proofs.run.Goals.{After-turn-s}
 
--- How far its count and its text go.
-few : (g : Over) (c : After-turn-s g) → (c.turn-s.result.count ≤ c.loop-step.s.count + length c.loop-step.room) × (c.turn-s.result.length ≤ length c.loop-step.out)
-few g c = let l = c.loop-step in turned_few l.step l.s _ l.room l.out (omega arith) c.turn-s.ensures
+-- What the first step is handed is not looked at.
+any : Shown
+any = record { decoder = (opening 0 0 0).decoder; refusal = 0; length = 0; count = 0 }
 
-pub print-requires : goal.print-requires
-print-requires g c = omega (arith, (few g (goal.at.print-requires g c).After-turn-s).1, c.turn-s.auto.out)
+pub slice_bounds-write_all-end : goal.slice_bounds-write_all-end
+slice_bounds-write_all-end g c =
+    let f = begun_few _ c.args.room.now c.args.out.now (omega arith) c.in-Ok.ensures in omega (arith, f.1, c.begin.auto.out)
 
-pub loop-step-init : goal.loop-step-init
-loop-step-init g c = record {
-  buffer = search rules;
-  count = search rules;
-  known = known_first _ _ _ (λ all w. starting (length c.args.buffer.now) c.idle-s.result c.args.room.now c.args.out.now all w);
-}
+pub slice_bounds-write_all-end-2 : goal.slice_bounds-write_all-end-2
+slice_bounds-write_all-end-2 g c =
+    let f = begun_few _ c.args.room.now c.args.out.now (omega arith) c.in-Ok.ensures in
+    sym (length-take-le _ _ (omega (arith, f.1, c.begin.auto.out)))
 
-pub loop-step-preserved : goal.loop-step-preserved
-loop-step-preserved g c = record {
-  buffer = search rules;
-  count = omega (arith, (few g (goal.at.loop-step-preserved g c).After-turn-s).0, c.loop-step.invariant.count, c.if-turns-eq0.false);
-  known =
-      let l = c.loop-step in
-      let full = length c.args.buffer.now in
-      let size = l.invariant.buffer in
-      let read = c.in_ok-n.ensures in
-      known_next _ _ _ _ _ _ l.step c.in_ok-n.n full _ _ _ _ read.bytes (λ z m. read.end z (omega (arith, m, size))) c.in_ok-print.ensures
-      (λ all xs xs' written x short t w.
-      ran c.fill.new.buffer (c.fill.auto.buffer ∙ size) (omega (arith, read.few, size)) c.loop-step-test.true c.if-turns-eq0.false read.last c.turn-s.ensures c.next_step-step.ensures all xs xs' written x short t w) l.invariant.known;
-}
+pub slice_bounds-write_all-end-in-loop : goal.slice_bounds-write_all-end-in-loop
+slice_bounds-write_all-end-in-loop g c =
+    let l = c.loop in
+    let f = went_few l.s.decoder l.s.count _ l.room l.out (omega arith) c.in-Ok-go_on.ensures in omega (arith, f.1, c.go_on.auto.out)
 
-pub returns-clause-bytes : goal.returns-clause-bytes
-returns-clause-bytes g c = known_end _ _ _ _ _ _ _ (λ all xs written t w. ended c.loop-step-test.false (t w)) c.loop-step.invariant.known
+pub slice_bounds-write_all-end-in-loop-2 : goal.slice_bounds-write_all-end-in-loop-2
+slice_bounds-write_all-end-in-loop-2 g c =
+    let l = c.loop in
+    let f = went_few l.s.decoder l.s.count _ l.room l.out (omega arith) c.in-Ok-go_on.ensures in
+    sym (length-take-le _ _ (omega (arith, f.1, c.go_on.auto.out)))
 
-pub returns-then-turns-eq0-clause-bytes : goal.returns-then-turns-eq0-clause-bytes
-returns-then-turns-eq0-clause-bytes g c =
-    known_end _ _ _ _ _ _ _ (λ all xs written t w. absurd (enough c.loop-step-test.true c.if-turns-eq0.true w (t w))) c.loop-step.invariant.known
+pub loop-init : goal.loop-init
+loop-init g c =
+    let a = c.args in
+    let full = length a.buffer.now in
+    let read = c.in_ok-n.ensures in
+    let f = begun_few _ a.room.now a.out.now (omega arith) c.in-Ok.ensures in
+    record {
+      buffer = c.fill.auto.buffer;
+      count = omega (arith, f.0, c.requires.0);
+      known = known_next _ _ _ _ _ _ 0 c.in_ok-n.n full _ _ (λ all xs written. Whole full (length a.room.now) all → State full 0 any a.room.now a.out.now most all xs written) _
+          read.bytes (λ z m. read.end m) c.in_ok-write_all.ensures.bytes
+          (λ all xs xs' written x short t w. first c.fill.new.buffer c.fill.auto.buffer read.few all xs xs' written x short t w c.in-Ok.ensures)
+          (known_first _ _ _ (λ all w. starting full any a.room.now a.out.now all w));
+    }
+
+pub returns-in-Err : goal.returns-in-Err
+returns-in-Err g c =
+    let a = c.args in
+    let full = length a.buffer.now in
+    let read = c.in_ok-n.ensures in
+    on_ok_weaker c.refuse.result
+    (λ e. known_last _ _ _ _ _ _ 0 c.in_ok-n.n full _ _ (λ all xs written. Whole full (length a.room.now) all → State full 0 any a.room.now a.out.now most all xs written) _ _
+    read.bytes (λ z m. read.end m) e
+    (λ all xs xs' written x short t w. first_out c.fill.new.buffer c.fill.auto.buffer read.few all xs xs' written x short t w c.in-Err.ensures)
+    (known_first _ _ _ (λ all w. starting full any a.room.now a.out.now all w)))
+    c.refuse.ensures
+
+pub loop-preserved : goal.loop-preserved
+loop-preserved g c =
+    let l = c.loop in
+    let i = l.invariant in
+    let full = length c.args.buffer.now in
+    let read = c.in_ok-n-2.ensures in
+    let buffer = c.fill-in-loop.new.buffer in
+    let size : length buffer ≡ full = c.fill-in-loop.auto.buffer ∙ i.buffer in
+    let few : c.in_ok-n-2.n ≤ full = omega (arith, read.few, i.buffer) in
+    let filled : full ≤ l.n = omega (arith, c.if-n-buffer.false, i.buffer) in
+    let f = went_few l.s.decoder l.s.count _ l.room l.out (omega arith) c.in-Ok-go_on.ensures in
+    record {
+      buffer = size;
+      count = omega (arith, f.0, i.count, c.requires.0, l.auto.room, c.loop-test.true);
+      known = known_next _ _ _ _ _ _ 1 c.in_ok-n-2.n full _ _ _ _
+          read.bytes (λ z m. read.end (omega (arith, m, i.buffer))) c.in_ok-write_all-3.ensures.bytes
+          (λ all xs xs' written x short t w. further l.n l.counter all xs xs' written t w buffer size few filled (omega (arith, c.loop-test.true)) x short c.in-Ok-go_on.ensures) i.known;
+    }
+
+pub returns-in-Err-go_on : goal.returns-in-Err-go_on
+returns-in-Err-go_on g c =
+    let l = c.loop in
+    let i = l.invariant in
+    let full = length c.args.buffer.now in
+    let read = c.in_ok-n-2.ensures in
+    let buffer = c.fill-in-loop.new.buffer in
+    let size : length buffer ≡ full = c.fill-in-loop.auto.buffer ∙ i.buffer in
+    let few : c.in_ok-n-2.n ≤ full = omega (arith, read.few, i.buffer) in
+    let filled : full ≤ l.n = omega (arith, c.if-n-buffer.false, i.buffer) in
+    on_ok_weaker c.refuse-in-Err-go_on.result
+    (λ e. known_last _ _ _ _ _ _ 1 c.in_ok-n-2.n full _ _ _ _ _
+    read.bytes (λ z m. read.end (omega (arith, m, i.buffer))) e
+    (λ all xs xs' written x short t w. further_out l.n l.counter all xs xs' written t w buffer size few filled (omega (arith, c.loop-test.true)) x short c.in-Err-go_on.ensures) i.known)
+    c.refuse-in-Err-go_on.ensures
+
+pub returns-then-n-buffer : goal.returns-then-n-buffer
+returns-then-n-buffer g c =
+    let l = c.loop in
+    let i = l.invariant in
+    let full = length c.args.buffer.now in
+    let short : l.n < full = omega (arith, c.if-n-buffer.true, i.buffer) in
+    known_last _ _ _ _ _ _ 2 0 full [] _ _ _ _ (Consumes-nil _) (λ z m. absurd (omega (arith, z))) c.in_ok-write_all-2.ensures.bytes
+    (λ all xs xs' written x none t w. closed l.n l.counter all xs xs' written t w short (omega (arith, c.loop-test.true)) x c.close-length.ensures) i.known
+
+pub returns : goal.returns
+returns g c =
+    known_end _ _ _ _ _ _ _ (λ all xs written t w. absurd (not_more c.loop.n c.loop.counter all xs [] written t w (omega (arith, c.loop-test.false)))) c.loop.invariant.known

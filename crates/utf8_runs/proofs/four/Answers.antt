@@ -1,4 +1,4 @@
-use mathlib.Core.Path.{◌≡◌, refl, sym, ap, ◌∙◌}
+use mathlib.Core.Path.{◌≡◌, sym, ap, ◌∙◌}
 use mathlib.Core.Bool.{true}
 use Rattle.standard.proofs.FamilyLaws.{low_least}
 use Rattle.standard.proofs.Leads.{in_four}
@@ -7,6 +7,7 @@ use Rattle.standard.specs.Base.{within}
 use Rattle.standard.specs.Leads.{lead_length}
 use Rattle.standard.specs.Sequence.{scalar}
 use Rattle.standard.specs.Sequences.Utf8.{utf8_low, utf8_high}
+use Rattle.std.proofs.lemmas.Option.{IfSome_then}
 use Rattle.utf8_runs.proofs.GoodUtf8.{good_four}
 use native.Mathlib.Omega.{arith}
 use Rattle.utf8_runs.proofs.four.Goals as goal
@@ -22,12 +23,6 @@ second c =
     let e = sym c.within.ensures ∙ c.if-within.true in
     rw (c.low.ensures, c.high.ensures) at e
 
-pub returns-then-lead_length-lt4 : goal.returns-then-lead_length-lt4
-returns-then-lead_length-lt4 c = λ n. absurd (n refl)
-
-pub returns-then-lead_length-gt4 : goal.returns-then-lead_length-gt4
-returns-then-lead_length-gt4 c = λ n. absurd (n refl)
-
 pub four_end-requires : goal.four_end-requires
 four_end-requires c =
     let args = c.args in
@@ -38,10 +33,7 @@ four_end-requires c =
 pub returns-then-within : goal.returns-then-within
 returns-then-within c =
     let args = c.args in
-    λ n xs.
-    let rest = c.four_end.ensures n in
-    good_four args.b0 (omega arith) args.b1 xs args.b2 args.b3 (leads (goal.at.returns-then-within c).Then-within) (second (goal.at.returns-then-within c).Then-within) rest.0 rest.1
-    ∙ ap (scalar 4) (sym rest.2)
-
-pub returns : goal.returns
-returns c = λ n. absurd (n refl)
+    let at = (goal.at.returns-then-within c).Then-within in
+    IfSome_then c.four_end.result c.four_end.ensures (λ u rest xs.
+    good_four args.b0 (omega arith) args.b1 xs args.b2 args.b3 (leads at) (second at) rest.0 rest.1
+    ∙ ap (scalar 4) (sym rest.2))

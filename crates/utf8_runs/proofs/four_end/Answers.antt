@@ -28,12 +28,4 @@ returns-then-within-2 c =
     let fourth = sym c.within-then-within.ensures ∙ c.if-within-2.true in
     let low2 = within_low 0x80 args.b2 0xBF third in
     let low3 = within_low 0x80 args.b3 0xBF fourth in
-    λ n. (third, fourth, refl)
-
-pub returns-else-within-2 : goal.returns-else-within-2
-returns-else-within-2 c =
-    λ n. absurd (n refl)
-
-pub returns-else-within : goal.returns-else-within
-returns-else-within c =
-    λ n. absurd (n refl)
+    (third, fourth, refl)

@@ -1,5 +1,5 @@
 use native.Mathlib.Omega.{arith}
-use mathlib.Core.Path.{◌≡◌, refl}
+use mathlib.Core.Path.{◌≡◌}
 use mathlib.Core.Bool.{true}
 use Rattle.standard.specs.Base.{within}
 use Rattle.standard.specs.Leads.{lead_length}
@@ -21,18 +21,6 @@ second c = holds c.within.ensures (not_from_true _ c.if-not-within.false)
 third : (c : Else-not-within-2) → within 0x80 c.args.b2 0xBF ≡ true
 third c = holds c.within-2.ensures (not_from_true _ c.if-not-within-2.false)
 
-pub returns-then-lead_length-lt3 : goal.returns-then-lead_length-lt3
-returns-then-lead_length-lt3 c = λ n. absurd (n refl)
-
-pub returns-then-lead_length-gt3 : goal.returns-then-lead_length-gt3
-returns-then-lead_length-gt3 c = λ n. absurd (n refl)
-
-pub returns-then-not-within : goal.returns-then-not-within
-returns-then-not-within c = λ n. absurd (n refl)
-
-pub returns-then-not-within-2 : goal.returns-then-not-within-2
-returns-then-not-within-2 c = λ n. absurd (n refl)
-
 pub three_bits-c-requires : goal.three_bits-c-requires
 three_bits-c-requires c =
     let args = c.args in
@@ -44,26 +32,20 @@ three_bits-c-requires c =
       within_low 0x80 args.b2 0xBF (third c),
     )
 
-pub returns-then-c-lt2048 : goal.returns-then-c-lt2048
-returns-then-c-lt2048 c = λ n. absurd (n refl)
-
 pub returns-then-c-lt55296 : goal.returns-then-c-lt55296
 returns-then-c-lt55296 c =
     let at = c.before.before.before in
     let args = at.args in
     let e = c.three_bits-c.ensures in
-    λ n xs.
+    λ xs.
     let good = three_below args.b0 (omega arith) args.b1 xs args.b2 (leads (goal.at.returns-then-c-lt55296 c).Else-not-within-2) (second (goal.at.returns-then-c-lt55296 c).Else-not-within-2) (third (goal.at.returns-then-c-lt55296 c).Else-not-within-2) in
     rw e (good (omega (arith, e)) (omega (arith, e)))
-
-pub returns-then-c-le57343 : goal.returns-then-c-le57343
-returns-then-c-le57343 c = λ n. absurd (n refl)
 
 pub returns : goal.returns
 returns c =
     let at = c.before.before.before.before in
     let args = at.args in
     let e = c.three_bits-c.ensures in
-    λ n xs.
+    λ xs.
     let good = three_above args.b0 (omega arith) args.b1 xs args.b2 (leads (goal.at.returns c).Else-not-within-2) (second (goal.at.returns c).Else-not-within-2) (third (goal.at.returns c).Else-not-within-2) in
     rw e (good (omega (arith, e)) (omega (arith, e)))

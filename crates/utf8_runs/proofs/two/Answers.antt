@@ -1,13 +1,10 @@
-use mathlib.Core.Path.{◌≡◌, refl, sym, ◌∙◌}
+use mathlib.Core.Path.{◌≡◌, sym, ◌∙◌}
 use Rattle.standard.specs.Leads.{lead_length}
 use Rattle.standard.proofs.Leads.{in_two}
 use Rattle.standard.proofs.Tests.{within_low}
 use Rattle.utf8_runs.proofs.GoodUtf8.{good_two}
 use native.Mathlib.Omega.{arith}
 use Rattle.utf8_runs.proofs.two.Goals as goal
-
-pub returns-then-lead_length-lt2 : goal.returns-then-lead_length-lt2
-returns-then-lead_length-lt2 c = λ n. absurd (n refl)
 
 pub overflow_sub-result : goal.overflow_sub-result
 overflow_sub-result c =
@@ -26,7 +23,4 @@ returns-then-within c =
     let args = c.args in
     let leads : lead_length args.b0 ≡ 2 = omega (arith, c.lead_length.ensures, c.lead_length-2.ensures) in
     let follows = sym c.within.ensures ∙ c.if-within.true in
-    λ n xs. good_two args.b0 (omega arith) args.b1 xs leads follows
-
-pub returns : goal.returns
-returns c = λ n. absurd (n refl)
+    λ xs. good_two args.b0 (omega arith) args.b1 xs leads follows

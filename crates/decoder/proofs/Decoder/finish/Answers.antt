@@ -1,48 +1,37 @@
 use mathlib.Core.Path.{◌≡◌, sym, ap, ◌∙◌}
 use Prim.Native.Nat.{ℕ}
 use Rattle.standard.specs.Encodings.{Tables, lent}
-use Rattle.reading.specs.Reading.{Result}
+use Rattle.reading.specs.Reading.{ReadOutcome}
 use Rattle.reading.specs.Reading.{read_end as reading_end}
 use Rattle.reading.specs.declared.Held.{Held}
 use Rattle.decoder.specs.Calls.{Outcome}
 use Rattle.decoder.specs.Code.{refusing, record_refusal}
-use Rattle.decoder.proofs.Checks.{finish_record, finish_tables, finish_read, end_read}
+use Rattle.decoder.proofs.Checks.{finish_read, end_read}
 use Rattle.decoder.proofs.Totals.{finish_small}
 use Rattle.decoder.proofs.Decoder.finish.Goals as goal
-use Rattle.decoder.proofs.Decoder.finish.Goals.{After-end-left, After-misfits, Start}
+use Rattle.decoder.proofs.Decoder.finish.Goals.{After-end-left, Start}
 
 abbrev tables : Start → Tables
 tables c = lent c.args.t1.now c.args.t2.now
 
-pub returns-then-n-ne0 : goal.returns-then-n-ne0
-returns-then-n-ne0 c =
-    let a = c.args in
-    let n = c.record_refusal-n.ensures in
-    let e = finish_record a.self (tables (goal.at.returns-then-n-ne0 c).Start) a.room.now (λ z. c.if-n-ne0.true (n ∙ z)) in (
-      c.refused.ensures ∙ ap (λ (k : ℕ). refusing k a.self) n ∙ ap (λ (o : Outcome). o.answer) (sym e),
-      ap (λ (o : Outcome). o.room) (sym e),
-    )
+pub returns-in-Err : goal.returns-in-Err
+returns-in-Err c =
+    let e = c.in-Err.ensures c.args.room.now in
+    (c.refused.ensures ∙ ap (λ (n : ℕ). refusing n c.args.self) c.from.ensures ∙ ap (λ (o : Outcome). o.answer) (sym e), ap (λ (o : Outcome). o.room) (sym e))
 
-abbrev good : (c : After-misfits) → record_refusal c.args.self ≡ 0
-good c = sym c.record_refusal-n.ensures ∙ c.if-n-ne0.false
-
-pub returns-then-misfits : goal.returns-then-misfits
-returns-then-misfits c =
-    let a = c.args in
-    let amiss = sym c.misfits.ensures ∙ c.if-misfits.true in
-    let e = finish_tables a.self (tables (goal.at.returns-then-misfits c).Start) a.room.now (good (goal.at.returns-then-misfits c).After-misfits) amiss in
-    (c.refused-then-misfits.ensures ∙ ap (λ (o : Outcome). o.answer) (sym e), ap (λ (o : Outcome). o.room) (sym e))
+abbrev good : (c : After-end-left) → record_refusal c.args.self ≡ 0
+good c = c.in_default.ensures.0
 
 -- what the end leaves, as the laws say it
-abbrev as_read : Start → Held → Result
+abbrev as_read : Start → Held → ReadOutcome
 as_read c held =
     let a = c.args in
     reading_end a.self.encoding a.self.mode a.self.stage a.self.state a.self.flag held (tables c) a.room.now
 
-abbrev whole : After-end-left → Result
+abbrev whole : After-end-left → ReadOutcome
 whole c =
     let a = c.args in
-    end_read a.self (tables (goal.at.After-end-left c).Start) a.room.now (good (goal.at.After-end-left c).After-misfits)
+    end_read a.self (tables (goal.at.After-end-left c).Start) a.room.now (good c)
 
 left : (c : After-end-left) → c.end-left.result ≡ (whole c).left
 left c = c.end-left.ensures.0 ∙ ap (λ (held : Held). (as_read (goal.at.After-end-left c).Start held).left) c.held-before.ensures
@@ -50,7 +39,7 @@ left c = c.end-left.ensures.0 ∙ ap (λ (held : Held). (as_read (goal.at.After-
 pub end_answer-requires : goal.end_answer-requires
 end_answer-requires c =
     let a = c.args in
-    finish_small a.self (tables (goal.at.end_answer-requires c).Start) a.room.now (good (goal.at.end_answer-requires c).After-misfits) (left (goal.at.end_answer-requires c).After-end-left)
+    finish_small a.self (tables (goal.at.end_answer-requires c).Start) a.room.now (good (goal.at.end_answer-requires c).After-end-left) (left (goal.at.end_answer-requires c).After-end-left)
 
 pub returns : goal.returns
 returns c =
@@ -59,8 +48,8 @@ returns c =
     a.self
     (tables (goal.at.returns c).Start)
     a.room.now
-    (good (goal.at.returns c).After-misfits)
-    (sym c.misfits.ensures ∙ c.if-misfits.false)
+    (good (goal.at.returns c).After-end-left)
+    c.in_default.ensures.1
     c.end_answer.ensures
     (left (goal.at.returns c).After-end-left)
     (c.end-left.ensures.1 ∙ ap (λ (held : Held). (as_read (goal.at.returns c).Start held).room) c.held-before.ensures)

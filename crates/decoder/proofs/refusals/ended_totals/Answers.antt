@@ -14,20 +14,21 @@ most c = most_lines c.args.encoding c.args.n
 pub returns-then-l-most : goal.returns-then-l-most
 returns-then-l-most c =
     let args = c.args in
-    sym (totals_is args.encoding args.n args.l ∙
-    rw (le-leb args.l (most (goal.at.returns-then-l-most c).Start) (omega (arith, c.most_lines-most.ensures))))
+    rw c.most_lines-most.ensures
+    (let few = le-leb args.l (most (goal.at.returns-then-l-most c).Start) (omega (arith, c.most_lines-most.ensures)) in
+    rw few (sym (totals_is args.encoding args.n args.l ∙ rw few)))
 
-pub returns-then-n-lt3 : goal.returns-then-n-lt3
-returns-then-n-lt3 c =
-    let args = c.args in
-    sym (totals_is args.encoding args.n args.l ∙
-    rw (
-      lt-leb args.l (most (goal.at.returns-then-n-lt3 c).Start) (omega (arith, c.most_lines-most.ensures)),
-      lt-leb (args.l + 3) args.n (omega arith),
-    ))
-
-pub returns : goal.returns
-returns c =
+pub returns-then-n-ge3 : goal.returns-then-n-ge3
+returns-then-n-ge3 c =
     let args = c.args in
     behind_mark_lem args.n args.l (omega arith) ∙ sym (totals_is args.encoding args.n args.l ∙
-    rw (lt-leb args.l (most (goal.at.returns c).Start) (omega (arith, c.most_lines-most.ensures))))
+    rw (lt-leb args.l (most (goal.at.returns-then-n-ge3 c).Start) (omega (arith, c.most_lines-most.ensures))))
+
+pub returns-else-n-ge3 : goal.returns-else-n-ge3
+returns-else-n-ge3 c =
+    let args = c.args in
+    rw (lt-leb 3 args.n (omega arith))
+    (sym (totals_is args.encoding args.n args.l ∙ rw (
+      lt-leb args.l (most (goal.at.returns-else-n-ge3 c).Start) (omega (arith, c.most_lines-most.ensures)),
+      lt-leb (args.l + 3) args.n (omega arith),
+    )))

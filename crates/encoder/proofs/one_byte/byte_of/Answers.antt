@@ -1,30 +1,18 @@
 -- `one_byte::byte_of`, by the encoding number. Assumes nothing.
+use mathlib.Core.Path.{◌∙◌}
+use native.Mathlib.Omega.{arith}
 use Rattle.encoder.proofs.Scalars.{of_windows_1252, of_single_byte, of_user_defined}
 use Rattle.reverse_index_spec.specs.ReverseIndex.{look_up}
-use native.Mathlib.Omega.{arith}
-use mathlib.Core.Path.{◌∙◌}
 use Rattle.encoder.proofs.one_byte.byte_of.Goals as goal
 
-pub returns-then-encoding-eq21 : goal.returns-then-encoding-eq21
-returns-then-encoding-eq21 c =
-    let at-windows-1252 = c.windows_1252 in
-    let args = c.args in
-    let at-if1 = c.if-encoding-eq21 in
-    at-windows-1252.ensures ∙ of_windows_1252 args.encoding (look_up args.table.now args.links.now) args.c at-if1.true
+pub returns-in-21 : goal.returns-in-21
+returns-in-21 c =
+    c.windows_1252.ensures ∙ of_windows_1252 c.args.encoding (look_up c.args.table.now c.args.links.now) c.args.c c.in-21.is
 
-pub returns-then-encoding-le28 : goal.returns-then-encoding-le28
-returns-then-encoding-le28 c =
-    let at-byte-of = c.byte_of in
-    let args = c.args in
-    let at_pre = c.requires in
-    let at-if1 = c.if-encoding-eq21 in
-    let at-if2 = c.if-encoding-le28 in
-    at-byte-of.ensures ∙ of_single_byte args.encoding (look_up args.table.now args.links.now) args.c
-    (λ z. omega (arith, at_pre.0, z)) at-if1.false at-if2.true
+pub returns-in-0-to-28 : goal.returns-in-0-to-28
+returns-in-0-to-28 c =
+    c.byte_of.ensures ∙ of_single_byte c.args.encoding (look_up c.args.table.now c.args.links.now) c.args.c
+    (λ z. omega (arith, c.requires.0, z)) (λ z. omega (arith, z)) (omega arith)
 
-pub returns : goal.returns
-returns c =
-    let at-byte-of2 = c.byte_of-2 in
-    let args = c.args in
-    let at-if2 = c.if-encoding-le28 in
-    at-byte-of2.ensures ∙ of_user_defined args.encoding (look_up args.table.now args.links.now) args.c at-if2.false
+pub returns-in_default : goal.returns-in_default
+returns-in_default c = c.byte_of-in_default.ensures ∙ of_user_defined c.args.encoding (look_up c.args.table.now c.args.links.now) c.args.c (omega arith)

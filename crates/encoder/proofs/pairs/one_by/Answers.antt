@@ -3,10 +3,10 @@ use mathlib.Core.Path.{◌∙◌}
 use Rattle.encoder.proofs.PairSlots.{kept_told, keeps_ready}
 use Rattle.encoder.proofs.pairs.one_by.Goals as goal
 
-pub returns-then-v-ge256 : goal.returns-then-v-ge256
-returns-then-v-ge256 c =
-    let known = c.kept-v.ensures c.if-v-ge256.true in
-    (c.recalled.ensures ∙ kept_told c.args.encoding _ _ _ _ c.args.c _ c.requires.0 known c.if-v-ge256.true, c.requires.0)
+pub returns-in-Some : goal.returns-in-Some
+returns-in-Some c =
+    let known = c.in-Some.ensures in
+    (c.recalled.ensures ∙ kept_told c.args.encoding _ _ _ _ c.args.c _ c.requires.0 (known.1, known.2) known.0, c.requires.0)
 
 pub returns : goal.returns
 returns c =

@@ -5,6 +5,3 @@ use Rattle.encoder.proofs.pairs.one_of.Goals as goal
 
 pub returns-then-c-lt128 : goal.returns-then-c-lt128
 returns-then-c-lt128 c = c.ascii.ensures ∙ pair_80 _ _ _ _ c.if-c-lt128.true
-
-pub returns : goal.returns
-returns c = let p = c.requires in c.bytes_of.ensures p.0 p.1

@@ -1,11 +1,6 @@
--- `others`. The loop's invariant: at most one for each number before i has been counted.
--- What falls at each turn is the number of numbers left. Assumes nothing.
-use Prim.Native.Nat.{◌-◌, ◌≤◌}
-use lib.ListN.{length}
+-- `others`. The loop's invariant: at most one for each number before this one has been counted. Assumes nothing.
+use Prim.Native.Nat.{◌≤◌}
 use Rattle.encoder.proofs.pairs.others.Given as goal
 
-abbrev pub invariant-loop-i : goal.invariant-loop-i
-invariant-loop-i l = (l.n ≤ l.i) × (l.i ≤ length l.scalars)
-
-abbrev pub decreases-loop-i : goal.decreases-loop-i
-decreases-loop-i l = length l.scalars - l.i
+abbrev pub invariant-loop-c : goal.invariant-loop-c
+invariant-loop-c l = l.n ≤ l.c-index

@@ -13,7 +13,7 @@ use Rattle.encoder.proofs.Ones.{pair_answered, pair_bytes, pair_named, plain_byt
 use Rattle.encoder.proofs.PairSlots.{ready_stays}
 use native.Mathlib.Omega.{arith}
 use Rattle.encoder.proofs.pairs.write_by.Goals as goal
-use Rattle.encoder.proofs.pairs.write_by.Goals.{After-one_by-one, After-run-r, After-state_for-to, Else-mode-eq1, In-loop-i, Start, Then-one-ne0, Then-plain}
+use Rattle.encoder.proofs.pairs.write_by.Goals.{After-one_by-one, After-run-r, After-state_for-to, In-loop-i, Start, Then-plain, in-Unwritable-2, in_default}
 
 abbrev one : Start → ℕ → ℕ → One
 one c = pair_of c.args.encoding (look_up c.args.table.now c.args.links.now) c.args.second.now
@@ -93,25 +93,9 @@ one_by-one-requires c =
 abbrev way : After-state_for-to → List ℕ
 way c = shift_to c.loop-i.s c.state_for-to.result
 
-abbrev bytes : Then-one-ne0 → List ℕ
-bytes c = bytes_of c.one_by-one.result
-
-abbrev refers : Else-mode-eq1 → List ℕ
-refers c = reference c.one_by-one.result.named
-
 abbrev Writes : After-state_for-to → List ℕ → Type 0
 Writes c us =
     Here (one (goal.at.After-state_for-to c).Start) c.args.mode c.args.scalars.now c.loop-i.s c.loop-i.i c.state_for-to.result (way c ++ us)
-
-bytes_here : (c : Then-one-ne0) → Writes (goal.at.Then-one-ne0 c).After-state_for-to (bytes c)
-bytes_here c =
-    let wrote = pair_bytes c.one_by-one.result _ _ _ _ _ c.one_by-one.ensures.0 _ c.state_for-to.ensures c.if-one-ne0.true in
-    here_bytes _ _ _ _ _ c.loop-i-test.true wrote
-
-reference_here : (c : Else-mode-eq1) → Writes (goal.at.Else-mode-eq1 c).After-state_for-to (refers c)
-reference_here c =
-    let named = pair_named c.one_by-one.result _ _ _ _ _ c.one_by-one.ensures.0 _ c.state_for-to.ensures c.if-one-ne0.false in
-    here_reference _ _ _ _ _ c.loop-i-test.true named c.if-mode-eq1.false
 
 -- the way has room, whatever comes behind it
 way_room : (c : After-state_for-to) →
@@ -126,58 +110,39 @@ way_room c =
 pub put-o-requires : goal.put-o-requires
 put-o-requires c = way_room (goal.at.put-o-requires c).After-state_for-to
 
-pub put-o-requires-then-one-ne0 : goal.put-o-requires-then-one-ne0
-put-o-requires-then-one-ne0 c =
-    running_room_both _ _ _ _ _ _ _ _ _ (still (goal.at.put-o-requires-then-one-ne0 c).After-one_by-one) _ (way (goal.at.put-o-requires-then-one-ne0 c).After-state_for-to) (bytes (goal.at.put-o-requires-then-one-ne0 c).Then-one-ne0) (bytes_here (goal.at.put-o-requires-then-one-ne0 c).Then-one-ne0) c.requires.1 _ _
-    c.put-o.ensures.0 c.put-o.ensures.1
+pub returns-in-Unwritable : goal.returns-in-Unwritable
+returns-in-Unwritable c =
+    let named = pair_named c.one_by-one.result _ _ _ _ _ c.one_by-one.ensures.0 _ c.state_for-to.ensures _ c.in-Unwritable.is in
+    running_stop _ _ _ _ _ _ _ _ _ (still (goal.at.returns-in-Unwritable c).After-one_by-one) (here_stop _ _ _ _ _ c.loop-i-test.true named c.if-mode-eq1.true)
+    (way_room (goal.at.returns-in-Unwritable c).After-state_for-to) _ _ c.put-o.ensures.0 c.put-o.ensures.1
 
-pub overflow_add-i-then-one-ne0 : goal.overflow_add-i-then-one-ne0
-overflow_add-i-then-one-ne0 c =
-    record { fits = next_fits (goal.at.overflow_add-i-then-one-ne0 c).In-loop-i }
+pub put-o-requires-in-Unwritable-2 : goal.put-o-requires-in-Unwritable-2
+put-o-requires-in-Unwritable-2 c =
+    let named = pair_named c.one_by-one.result _ _ _ _ _ c.one_by-one.ensures.0 _ c.state_for-to.ensures _ c.in-Unwritable-2.is in
+    running_room_both _ _ _ _ _ _ _ _ _ (still (goal.at.put-o-requires-in-Unwritable-2 c).After-one_by-one) _ (way (goal.at.put-o-requires-in-Unwritable-2 c).After-state_for-to) (reference c.in-Unwritable-2.named)
+    (here_reference _ _ _ _ _ c.loop-i-test.true named c.if-mode-eq1.false) c.requires.1 _ _ c.put-o.ensures.0 c.put-o.ensures.1
 
-pub loop-i-smaller-then-one-ne0 : goal.loop-i-smaller-then-one-ne0
-loop-i-smaller-then-one-ne0 c =
-    omega (arith, c.loop-i-test.true)
+pub put-o-requires-in_default : goal.put-o-requires-in_default
+put-o-requires-in_default c =
+    let wrote = pair_bytes c.one_by-one.result _ _ _ _ _ c.one_by-one.ensures.0 _ c.state_for-to.ensures c.in_default.not-Unwritable in
+    running_room_both _ _ _ _ _ _ _ _ _ (still (goal.at.put-o-requires-in_default c).After-one_by-one) _ (way (goal.at.put-o-requires-in_default c).After-state_for-to) (bytes_of c.one_by-one.result)
+    (here_bytes _ _ _ _ _ c.loop-i-test.true wrote) c.requires.1 _ _ c.put-o.ensures.0 c.put-o.ensures.1
 
-pub loop-i-preserved-then-one-ne0 : goal.loop-i-preserved-then-one-ne0
-loop-i-preserved-then-one-ne0 c = (
-  running_both _ _ _ _ _ _ _ _ _ (still (goal.at.loop-i-preserved-then-one-ne0 c).After-one_by-one) _ (way (goal.at.loop-i-preserved-then-one-ne0 c).After-state_for-to) (bytes (goal.at.loop-i-preserved-then-one-ne0 c).Then-one-ne0) (bytes_here (goal.at.loop-i-preserved-then-one-ne0 c).Then-one-ne0) c.requires.1 _ _
-      c.put-o.ensures.0 c.put-o.ensures.1 _ _ c.put-o-then-one-ne0.ensures.0 c.put-o-then-one-ne0.ensures.1,
-  c.one_by-one.ensures.1,
-  omega (arith, c.one_by-one.auto, c.loop-i.invariant.2),
-)
-
-pub shape_of-slots-then-mode-eq1 : goal.shape_of-slots-then-mode-eq1
-shape_of-slots-then-mode-eq1 c =
-    omega (arith, c.one_by-one.auto, c.loop-i.invariant.2)
-
-pub shape_of-room-then-mode-eq1 : goal.shape_of-room-then-mode-eq1
-shape_of-room-then-mode-eq1 c =
-    omega (arith, c.put-o.auto, (still (goal.at.shape_of-room-then-mode-eq1 c).After-one_by-one).size)
-
-pub returns-then-mode-eq1 : goal.returns-then-mode-eq1
-returns-then-mode-eq1 c =
-    let named = pair_named c.one_by-one.result _ _ _ _ _ c.one_by-one.ensures.0 _ c.state_for-to.ensures c.if-one-ne0.false in
-    running_stop _ _ _ _ _ _ _ _ _ (still (goal.at.returns-then-mode-eq1 c).After-one_by-one) (here_stop _ _ _ _ _ c.loop-i-test.true named c.if-mode-eq1.true) (way_room (goal.at.returns-then-mode-eq1 c).After-state_for-to)
-    _ _ c.put-o.ensures.0 c.put-o.ensures.1
-
-pub put-o-requires-in-loop-i : goal.put-o-requires-in-loop-i
-put-o-requires-in-loop-i c =
-    running_room_both _ _ _ _ _ _ _ _ _ (still (goal.at.put-o-requires-in-loop-i c).After-one_by-one) _ (way (goal.at.put-o-requires-in-loop-i c).After-state_for-to) (refers (goal.at.put-o-requires-in-loop-i c).Else-mode-eq1) (reference_here (goal.at.put-o-requires-in-loop-i c).Else-mode-eq1) c.requires.1 _ _
-    c.put-o.ensures.0 c.put-o.ensures.1
-
-pub overflow_add-i-in-loop-i : goal.overflow_add-i-in-loop-i
-overflow_add-i-in-loop-i c =
-    record { fits = next_fits (goal.at.overflow_add-i-in-loop-i c).In-loop-i }
-
-pub loop-i-smaller : goal.loop-i-smaller
-loop-i-smaller c =
-    omega (arith, c.loop-i-test.true)
-
+-- a reference to the code point that the error names, or bytes
 pub loop-i-preserved : goal.loop-i-preserved
 loop-i-preserved c = (
-  running_both _ _ _ _ _ _ _ _ _ (still (goal.at.loop-i-preserved c).After-one_by-one) _ (way (goal.at.loop-i-preserved c).After-state_for-to) (refers (goal.at.loop-i-preserved c).Else-mode-eq1) (reference_here (goal.at.loop-i-preserved c).Else-mode-eq1) c.requires.1 _ _
-      c.put-o.ensures.0 c.put-o.ensures.1 _ _ c.put-o-in-loop-i.ensures.0 c.put-o-in-loop-i.ensures.1,
+  elim c.match-one.branch [
+    | in-Unwritable-2 w ↦
+        let named = pair_named c.one_by-one.result _ _ _ _ _ c.one_by-one.ensures.0 _ c.state_for-to.ensures _ w.in-Unwritable-2.is in
+        rw (w.o-is, w.room-is) (running_both _ _ _ _ _ _ _ _ _ (still (goal.at.loop-i-preserved c).After-one_by-one) _ (way (goal.at.loop-i-preserved c).After-state_for-to) (reference w.in-Unwritable-2.named)
+        (here_reference _ _ _ _ _ c.loop-i-test.true named w.if-mode-eq1.false) c.requires.1 _ _ c.put-o.ensures.0 c.put-o.ensures.1
+        _ _ w.put-o-in-Unwritable-2.ensures.0 w.put-o-in-Unwritable-2.ensures.1)
+    | in_default w ↦
+        let wrote = pair_bytes c.one_by-one.result _ _ _ _ _ c.one_by-one.ensures.0 _ c.state_for-to.ensures w.in_default.not-Unwritable in
+        rw (w.o-is, w.room-is) (running_both _ _ _ _ _ _ _ _ _ (still (goal.at.loop-i-preserved c).After-one_by-one) _ (way (goal.at.loop-i-preserved c).After-state_for-to) (bytes_of c.one_by-one.result)
+        (here_bytes _ _ _ _ _ c.loop-i-test.true wrote) c.requires.1 _ _ c.put-o.ensures.0 c.put-o.ensures.1
+        _ _ w.put-o-in_default.ensures.0 w.put-o-in_default.ensures.1)
+  ],
   c.one_by-one.ensures.1,
   omega (arith, c.one_by-one.auto, c.loop-i.invariant.2),
 )

@@ -4,6 +4,7 @@ use lib.ListN.{length}
 use Prim.Native.Nat.{ℕ}
 use mathlib.Core.Path.{◌≡◌, ap, ◌∙◌}
 use native.Mathlib.Omega.{arith}
+use borrow.Author.Rules.{rules}
 use Rattle.encoder.proofs.Filling.{slots_as, slots_lent, windows_slots, zero_slots}
 use Rattle.encoder.proofs.Scalars.{of_windows_1252, of_single_byte}
 use Rattle.reverse_index_spec.specs.ReverseIndex.{look_up}
@@ -23,10 +24,6 @@ pub returns-then-encoding-gt28 : goal.returns-then-encoding-gt28
 returns-then-encoding-gt28 c =
     zero_slots c.args.encoding (look_up c.args.table.now c.args.links.now) _ c.requires.1
 
-pub fill_table-requires : goal.fill_table-requires
-fill_table-requires c =
-    (omega arith, c.requires.1)
-
 pub fill_regular-requires : goal.fill_regular-requires
 unfolding irregular
 fill_regular-requires c =
@@ -36,18 +33,10 @@ pub returns-then-encoding-eq21 : goal.returns-then-encoding-eq21
 returns-then-encoding-eq21 c =
     slots_as _ (λ (x : ℕ). of_windows_1252 _ _ x c.if-encoding-eq21.true) c.fill_regular.ensures
 
-pub fill_looked-requires : goal.fill_looked-requires
-fill_looked-requires c =
-    (c.requires.0.1, c.requires.1)
+pub returns-then-is_empty : goal.returns-then-is_empty
+returns-then-is_empty c =
+    slots_lent _ _ _ _ (search rules) (slots_as _ (single-byte (goal.at.returns-then-is_empty c).Else-encoding-eq21 _) c.fill_table-then-is_empty.ensures)
 
-pub returns-then-links-ne0 : goal.returns-then-links-ne0
-returns-then-links-ne0 c =
-    slots_as _ (single-byte (goal.at.returns-then-links-ne0 c).Else-encoding-eq21 _) c.fill_looked.ensures
-
-pub fill_table-requires-2 : goal.fill_table-requires-2
-fill_table-requires-2 c =
-    (c.requires.0.1, c.requires.1)
-
-pub returns : goal.returns
-returns c =
-    slots_lent _ _ _ _ c.if-links-ne0.false (slots_as _ (single-byte (goal.at.returns c).Else-encoding-eq21 _) c.fill_table-2.ensures)
+pub returns-else-is_empty : goal.returns-else-is_empty
+returns-else-is_empty c =
+    slots_as _ (single-byte (goal.at.returns-else-is_empty c).Else-encoding-eq21 _) c.fill_looked.ensures

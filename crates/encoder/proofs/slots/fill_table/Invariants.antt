@@ -1,10 +1,6 @@
 -- `slots::fill_table`. The loop's invariant: every slot is empty, or holds a scalar of its remainder with its first pointer among the cells from p on.
--- What falls at each turn is p. Assumes nothing.
 use Rattle.encoder.proofs.Filling.{Filled}
 use Rattle.encoder.proofs.slots.fill_table.Given as goal
 
 abbrev pub invariant-loop-p : goal.invariant-loop-p
 invariant-loop-p l = Filled l.table l.p l.slots
-
-abbrev pub decreases-loop-p : goal.decreases-loop-p
-decreases-loop-p l = l.p

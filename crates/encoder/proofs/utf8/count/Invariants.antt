@@ -1,14 +1,9 @@
--- `utf8::count`. The loop's invariant: n bytes are written of the i scalars before this one, at most four each, and with those of the rest it is the whole count.
--- What falls at each turn is the number of scalars left. Assumes nothing.
+-- `utf8::count`. The loop's invariant: n bytes are written of the scalars before this one, at most four each, and with those of the rest it is the whole count.
 use Rattle.encoder.proofs.Counting.{Counted}
 use Rattle.encoder.specs.WriterCode.{plain}
 use Rattle.standard.specs.Encoders.Utf8.{utf8_encode}
-use lib.ListN.{length}
-use Prim.Native.Nat.{◌-◌, ◌*◌, ◌≤◌}
+use Prim.Native.Nat.{◌*◌, ◌≤◌}
 use Rattle.encoder.proofs.utf8.count.Given as goal
 
-abbrev pub invariant-loop-i : goal.invariant-loop-i
-invariant-loop-i l = (l.n ≤ l.i * 4) × (l.i ≤ length l.scalars) × Counted (plain utf8_encode) 0 0 l.scalars l.n l.i 0
-
-abbrev pub decreases-loop-i : goal.decreases-loop-i
-decreases-loop-i l = length l.scalars - l.i
+abbrev pub invariant-loop-c : goal.invariant-loop-c
+invariant-loop-c l = (l.n ≤ l.c-index * 4) × Counted (plain utf8_encode) 0 0 l.scalars l.n l.c-index 0

@@ -1,31 +1,21 @@
-use Rattle.index.proofs.Parts.{numbered_start, numbered_end, numbered_on, next_fits}
-use borrow.Author.Rules.{rules}
 use native.Mathlib.Omega.{arith}
+use Rattle.index.proofs.Parts.{numbered_start, numbered_end, numbered_on, next_fits}
 use Rattle.index.proofs.reading.number.Goals as goal
 
-pub loop-i-init : goal.loop-i-init
-loop-i-init c = numbered_start _ _ _ _
+pub loop-b-init : goal.loop-b-init
+loop-b-init c = numbered_start _ _
 
 pub overflow_mul-n : goal.overflow_mul-n
 overflow_mul-n c =
-    let args = c.args in
-    let at-loop = c.loop-i in
-    let fits = next_fits _ _ _ args.base at-loop.n _ at-loop.invariant c.loop-i-test.true (search rules) (search rules) (search rules) 0 (search rules) in
-    record { fits = omega (arith, fits) }
+    record { fits = omega (arith, next_fits _ _ _ _ c.loop-b.invariant c.loop-b-test.true c.requires.few c.requires.small 0 (omega arith)) }
 
 pub overflow_add-n : goal.overflow_add-n
 overflow_add-n c =
-    let args = c.args in
-    let at-loop = c.loop-i in
-    let at-loop-test = c.loop-i-test in
-    let fits = next_fits _ _ _ args.base at-loop.n _ at-loop.invariant at-loop-test.true (search rules) (search rules) (search rules) c.digit.result c.digit.ensures.1 in
-    record { fits = omega (arith, fits) }
+    record { fits = omega (arith, next_fits _ _ _ _ c.loop-b.invariant c.loop-b-test.true c.requires.few c.requires.small _ c.digit.ensures.small) }
 
-pub loop-i-preserved : goal.loop-i-preserved
-loop-i-preserved c =
-    let at-loop = c.loop-i in
-    let at-loop-test = c.loop-i-test in
-    numbered_on _ _ _ _ _ _ at-loop.invariant at-loop-test.true (search rules) (search rules) (search rules) _ c.digit.ensures.1 c.digit.ensures.0
+pub loop-b-preserved : goal.loop-b-preserved
+loop-b-preserved c =
+    numbered_on _ _ _ _ c.loop-b.invariant c.loop-b-test.true c.requires.few c.requires.small _ c.digit.ensures.small c.digit.ensures.value
 
 pub returns : goal.returns
-returns c = numbered_end _ _ _ _ _ _ c.loop-i.invariant c.loop-i-test.false
+returns c = numbered_end _ _ _ _ c.loop-b.invariant c.loop-b-test.false

@@ -1,21 +1,44 @@
--- `read`: no entry, or the parts behind the spaces. Assumes nothing.
-use borrow.Author.Tests.{ne_eqb}
-use mathlib.Core.Path.{◌∙◌}
-use Rattle.index.proofs.Parts.{read_entry, read_empty, read_comment}
-use native.Mathlib.Omega.{arith}
-use borrow.Author.Rules.{rules}
+-- `read`: no entry, or the parts, one after the other. Assumes nothing.
+use mathlib.Core.Path.{sym, ◌∙◌}
+use Rattle.std.proofs.Common.{rules}
+use Rattle.index_spec.specs.IndexLine.{decimal, hexadecimal}
+use Rattle.index_spec.specs.IndexRead.{space}
+use Rattle.index.proofs.Parts.{Front, read_nothing, read_unmarked, read_unfit, read_unmapped, read_entry}
 use Rattle.index.proofs.reading.read.Goals as goal
+use Rattle.index.proofs.reading.read.Goals.{After-split_front-2}
 
-pub returns-then-line-eq0 : goal.returns-then-line-eq0
-returns-then-line-eq0 c = read_empty c.args.line.now (search rules)
+before : (c : After-split_front-2) → Front c.args.line.now c.split_front.result.1.now c.split_front-2.result.0.now c.split_front-2.result.1.now
+before c =
+    let digits = c.split_front-2.ensures decimal (λ b r q. search rules) in
+    record {
+      some = sym c.has_no_entry.ensures ∙ c.if-has_no_entry.false;
+      spaces = (c.split_front.ensures space (λ b r q. search rules)).1;
+      decimals = digits.0;
+      remains = digits.1;
+    }
 
-pub returns-then-line-eq35 : goal.returns-then-line-eq35
-returns-then-line-eq35 c = read_comment c.args.line.now (search rules) (search rules)
+pub returns-then-has_no_entry : goal.returns-then-has_no_entry
+returns-then-has_no_entry c = read_nothing _ (sym c.has_no_entry.ensures ∙ c.if-has_no_entry.true)
 
-pub entry-requires : goal.entry-requires
-entry-requires c = (c.past.ensures.forward, omega (arith, c.past.ensures.inside, c.past-start.ensures.inside), search rules)
+pub returns-in_default : goal.returns-in_default
+returns-in_default c = read_unmarked _ _ _ _ (before (goal.at.returns-in_default c).After-split_front-2) c.in_default.ensures.cases
+
+pub returns-then-not-parts_fit : goal.returns-then-not-parts_fit
+returns-then-not-parts_fit c =
+    let mark = c.in-Some.ensures.cases in
+    read_unfit _ _ _ _ (before (goal.at.returns-then-not-parts_fit c).After-split_front-2) mark.0 _ _ _ mark.1
+    (c.split_front-3.ensures hexadecimal (λ b r q. q)) (sym c.parts_fit.ensures ∙ c.if-not-parts_fit.true)
+
+pub returns-then-not-mapped : goal.returns-then-not-mapped
+returns-then-not-mapped c =
+    let mark = c.in-Some.ensures.cases in
+    read_unmapped _ _ _ _ (before (goal.at.returns-then-not-mapped c).After-split_front-2) mark.0 _ _ _ mark.1
+    (c.split_front-3.ensures hexadecimal (λ b r q. q)) (sym c.parts_fit.ensures ∙ c.if-not-parts_fit.false) _ c.number-code_point.ensures
+    (sym c.mapped.ensures ∙ c.if-not-mapped.true)
 
 pub returns : goal.returns
 returns c =
-    let at-past = c.before.before in
-    c.entry.ensures ∙ read_entry _ _ _ (search rules) (ne_eqb _ _ at-past.if-line-eq35.false) at-past.past-start.ensures c.past.ensures
+    let mark = c.in-Some.ensures.cases in
+    read_entry _ _ _ _ (before (goal.at.returns c).After-split_front-2) mark.0 _ _ _ mark.1
+    (c.split_front-3.ensures hexadecimal (λ b r q. q)) (sym c.parts_fit.ensures ∙ c.if-not-parts_fit.false) _ c.number-code_point.ensures
+    (sym c.mapped.ensures ∙ c.if-not-mapped.false) _ c.number.ensures

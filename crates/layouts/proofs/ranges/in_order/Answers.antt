@@ -1,44 +1,24 @@
-use mathlib.Core.Path.{sym, subst}
-use native.Mathlib.Omega.{arith}
-use lib.Dec.{T}
-use Rattle.layouts.proofs.RangeOrder.{checked_start, checked_next, checked_all}
+use Rattle.std.proofs.Common.{rules, tests, arith, ◌≡◌, ℕ, ◌+◌, ◌-◌, ◌/◌, ◌≤◌, ◌∙◌, length, get_or, refl}
+use Rattle.std.specs.List.{range_with_len}
+use Rattle.std.proofs.lemmas.Iterator.{cases_from_all, YieldsList-from_range}
+use Rattle.std.proofs.lemmas.List.FromFn.{get_or-range_with_len, length-range_with_len}
+use Rattle.layouts.specs.Ranges.{number}
 use Rattle.layouts.proofs.ranges.in_order.Goals as goal
 
-pub returns-then-ranges-gt65536 : goal.returns-then-ranges-gt65536
-returns-then-ranges-gt65536 c = λ e. absurd (subst T (sym e) tt)
-
-pub loop-i-init : goal.loop-i-init
-loop-i-init c = let a = c.args in checked_start a.back a.ranges.now (omega arith)
-
-pub number-requires : goal.number-requires
-number-requires c = omega arith
-
-pub overflow_sub-i : goal.overflow_sub-i
-overflow_sub-i c = omega arith
-
-pub number-requires-in-loop-i : goal.number-requires-in-loop-i
-number-requires-in-loop-i c = omega arith
-
-pub returns-then-number : goal.returns-then-number
-returns-then-number c = λ e. absurd (subst T (sym e) tt)
-
-pub overflow_add-i : goal.overflow_add-i
-overflow_add-i c = omega arith
-
-pub loop-i-smaller : goal.loop-i-smaller
-loop-i-smaller c = omega arith
-
-pub loop-i-preserved : goal.loop-i-preserved
-loop-i-preserved c =
-    let at_next = c.before in
-    let at-number = at_next.before in
-    let at-loop = at-number.loop-i in
-    let a = at-number.args in
-    checked_next a.back a.ranges.now at-loop.i at-loop.invariant
-    (omega (arith, c.if-number.false, at-number.number.ensures, at_next.number-in-loop-i.ensures))
-
-pub returns : goal.returns
-returns c =
-    let a = c.args in
-    let at-loop = c.loop-i in
-    λ e. checked_all a.back a.ranges.now at-loop.i at-loop.invariant (omega arith)
+-- each pair but the first is not below the one in front of it
+pub returns-then-ranges-le65536 : goal.returns-then-ranges-le65536
+returns-then-ranges-le65536 c = λ e.
+    let back = c.args.back in
+    let ranges = c.args.ranges.now in
+    let n = length ranges / 2 in
+    let InOrder : ℕ → Type 0 = λ j. number back ranges (j - 1) ≤ number back ranges j in
+    let told = cases_from_all {v = λ (x : ℕ). x} {all = range_with_len 1 (n - 1)} _ _ _ InOrder (λ j. Unit {0})
+    c.all.ensures.ran (YieldsList-from_range 1 n (n - 1) refl refl) (λ x q k. search (rules, tests)) (λ x q k. tt) in
+    let all = rw e at told in
+    record {
+      short = omega arith;
+      order = λ k h.
+          let at : get_or (range_with_len 1 (n - 1)) k 0 ≡ k + 1 = get_or-range_with_len 1 (n - 1) k 0 (omega arith) ∙ omega arith in
+          let back_one : k + 1 - 1 ≡ k = omega arith in
+          rw (at, back_one) at (all k 0 (omega arith) (omega (arith, length-range_with_len 1 (n - 1))));
+    }

@@ -1,14 +1,19 @@
-use Rattle.std.proofs.Common.{◌≡◌, ◌+◌, ◌-◌, ◌≤◌, ◌<◌, length}
+use Rattle.std.proofs.Common.{◌≡◌, ◌+◌, ◌≤◌, length}
+use Rattle.list_spec.proofs.Turns.{lines_at}
 use Rattle.list.specs.Slots.{Marked}
 use Rattle.list.proofs.Judging.{Judges}
-use Rattle.list.proofs.Slotted.{Split}
+use Rattle.list.proofs.Marks.{Split}
 use Rattle.list.proofs.judge.judge_by.Given as goal
 
--- The lines before a have no fault, and k of them are options: what is judged from a on is what is judged of the whole. The marks tell
--- which names are used before a. What falls is the characters that are left.
-abbrev pub invariant-loop-a : goal.invariant-loop-a
-invariant-loop-a l = (l.a ≤ length l.text + 1) × (l.n ≤ l.a + 1) × (l.k ≤ l.a) × (0 < length l.slots) × (length l.slots ≤ 65536) × (length l.marks ≡ length l.slots) ×
-    Judges l.text l.names l.n l.a l.k × Split l.text l.n l.a × Marked l.text l.names l.slots l.marks l.a
-
-abbrev pub decreases-loop-a : goal.decreases-loop-a
-decreases-loop-a l = length l.text + 1 - l.a
+-- The lines so far have no fault: what is judged from the walk's place on is what is judged of the whole, and the marks tell which names
+-- are used before it.
+abbrev pub invariant-loop-line : goal.invariant-loop-line
+invariant-loop-line g l = record {
+  text : l.line-iterator.cursor.text.now ≡ l.text;
+  names : l.table.names.now ≡ l.names;
+  few : l.options ≤ l.line-iterator.cursor.at;
+  near : l.line-iterator.cursor.at ≤ length l.text + 1;
+  judges : Judges l.text l.names (lines_at l.text l.line-iterator.number l.line-iterator.cursor.at) l.options;
+  split : Split l.text l.line-iterator.number l.line-iterator.cursor.at;
+  marked : Marked l.text l.names l.table.slots l.table.marks l.line-iterator.cursor.at;
+}

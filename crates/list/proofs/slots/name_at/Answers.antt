@@ -1,39 +1,25 @@
-use mathlib.Core.Path.{sym, ◌∙◌}
-use mathlib.Core.List.{List}
-use Prim.Native.Nat.{ℕ}
-use lib.Seq.{slice}
-use Rattle.list.proofs.Slotted.{name_off, name_amid, name_open, name_test}
+use Rattle.std.proofs.Common.{◌∙◌, ◌<◌, length, rules, arith}
+use Rattle.list.proofs.Slotted.{starts_below, name_off, name_first, name_none}
 use Rattle.list.proofs.slots.name_at.Goals as goal
-use Rattle.list.proofs.slots.name_at.Goals.{Else-p-names, Start}
+use Rattle.list.proofs.slots.name_at.Goals.{Else-not-starts_at}
 
-abbrev names : Else-p-names → List ℕ
-names c = c.args.names.now
+below : (c : Else-not-starts_at) → c.args.at < length c.args.names.now
+below c = starts_below c.args.names.now c.args.at c.args.name.now c.if-not-starts_at.ensures
 
-abbrev name : Start → List ℕ
-name s = slice s.args.a s.args.e s.args.text.now
+pub returns-then-not-starts_at : goal.returns-then-not-starts_at
+returns-then-not-starts_at c = name_off c.args.names.now c.args.at c.args.name.now c.if-not-starts_at.ensures
 
-pub returns-then-p-names : goal.returns-then-p-names
-returns-then-p-names c = let s = c.before.before.before in sym (name_off s.args.names.now s.args.p (name (goal.at.returns-then-p-names c).Start) c.if-p-names.true)
+pub offset_bounds-names-at : goal.offset_bounds-names-at
+offset_bounds-names-at c = let h = below c in search rules
 
-pub returns-then-q-names : goal.returns-then-q-names
-returns-then-q-names c =
-    let f = c.before in
-    let b = f.before.before in
-    let e = b.before in
-    sym (name_open (names (goal.at.returns-then-q-names c).Else-p-names) e.args.p (name (goal.at.returns-then-q-names c).Start) e.if-p-names.false (sym b.starts_at.ensures ∙ f.if-starts_at.true)
-    f.find-q.result f.find-q.ensures.0 c.if-q-names.true)
+pub slice_bounds-next-count : goal.slice_bounds-next-count
+slice_bounds-next-count c = let h = below c in omega arith
 
-pub returns-then-starts_at : goal.returns-then-starts_at
-returns-then-starts_at c =
-    let f = c.before.before in
-    let b = f.before.before in
-    let e = b.before in
-    c.same.ensures ∙
-    sym (name_test (names (goal.at.returns-then-starts_at c).Else-p-names) e.args.p (name (goal.at.returns-then-starts_at c).Start) e.if-p-names.false (sym b.starts_at.ensures ∙ f.if-starts_at.true)
-    f.find-q.result f.find-q.ensures.0 c.if-q-names.false)
+pub slice_bounds-next-start : goal.slice_bounds-next-start
+slice_bounds-next-start c = let h = below c in omega arith
 
-pub returns : goal.returns
-returns c =
-    let b = c.before in
-    let e = b.before in
-    sym (name_amid (names (goal.at.returns c).Else-p-names) e.args.p (name (goal.at.returns c).Start) e.if-p-names.false (sym b.starts_at.ensures ∙ c.if-starts_at.false))
+pub returns-in-Some : goal.returns-in-Some
+returns-in-Some c = c.eq.ensures ∙ name_first c.args.names.now c.args.at c.args.name.now c.if-not-starts_at.ensures _ _ c.in-Some.ensures.steps
+
+pub returns-in-None : goal.returns-in-None
+returns-in-None c = name_none c.args.names.now c.args.at c.args.name.now c.if-not-starts_at.ensures c.in-None.ensures.steps.0

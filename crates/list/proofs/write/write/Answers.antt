@@ -1,47 +1,52 @@
-use Rattle.std.proofs.Common.{refl, List, ℕ, arith, rules}
-use Rattle.list_spec.specs.ListCall.{options_of, cells}
-use Rattle.list.specs.Walking.{put}
-use Rattle.list.proofs.Spanned.{Spanned, spanned}
-use Rattle.list.proofs.Cells.{writes_fit, writes_on, writes_none}
+use Rattle.std.proofs.Common.{◌≡◌, sym, ap, ◌∙◌, ◌+◌, ◌<◌, List, ℕ, length, Bor, arith}
+use borrow.Author.Tests.{eqb-true, eqb-false}
+use Rattle.list_spec.specs.ListCall.{cells_of}
+use Rattle.list.specs.Walking.{line_with, LineAt}
+use Rattle.list.proofs.Cells.{cells_are, writes_empty, writes_fit, writes_on, writes_none}
 use Rattle.list.proofs.write.write.Goals as goal
-use Rattle.list.proofs.write.write.Goals.{After-next_line-l}
+use Rattle.list.proofs.write.write.Goals.{In-Some, Else-is_empty}
 
-abbrev text : After-next_line-l → List ℕ
-text l = l.args.text.now
+-- the line of this turn
+turn : (c : In-Some) →
+    let it = c.loop-line.line-iterator in
+    let l = c.in-Some.line in
+    LineAt c.args.text.now it.number it.cursor.at l.number l.start l.chars.now c.next.new.self.number c.next.new.self.cursor.at
+turn c = rw c.loop-line.invariant.text at c.in-Some.ensures.steps.1
 
-abbrev after : After-next_line-l → List ℕ
-after l = put l.args.room.now 0 (cells (text l) (options_of (text l)))
+some : (c : Else-is_empty) → let l = c.in-Some.line in l.start < l.start + length l.chars.now
+some c = omega (arith, eqb-false _ _ (sym c.if-is_empty.ensures))
 
-lies : (l : After-next_line-l) → Spanned (text l) l.loop-a.a l.next_line-l.result
-lies l = spanned (text l) l.loop-a.a l.next_line-l.result l.loop-a-test.true l.next_line-l.ensures
+pub loop-line-preserved-then-is_empty : goal.loop-line-preserved-then-is_empty
+loop-line-preserved-then-is_empty c =
+    let l = c.in-Some.line in
+    let s = turn (goal.at.loop-line-preserved-then-is_empty c).In-Some in
+    let none : length l.chars.now ≡ 0 = eqb-true _ _ (sym c.if-is_empty.ensures) in record {
+      text = ap (λ (x : Bor (List ℕ)). x.now) c.next.ensures.steps.0 ∙ c.loop-line.invariant.text;
+      writes = writes_empty c.args.text.now c.loop-line.room (line_with l.number l.start l.chars.now) _ c.loop-line.at _
+          (rw s.turn at c.loop-line.invariant.writes) (omega arith);
+    }
 
-pub loop-a-init : goal.loop-a-init
-loop-a-init c = (search rules, search rules, search rules, record { fits = omega arith; same = refl })
+pub slice_bounds-copy_from_slice-end : goal.slice_bounds-copy_from_slice-end
+slice_bounds-copy_from_slice-end c =
+    let l = c.in-Some.line in
+    let s = turn (goal.at.slice_bounds-copy_from_slice-end c).In-Some in
+    writes_fit c.args.text.now c.loop-line.room (line_with l.number l.start l.chars.now) _ c.loop-line.at _
+    (rw s.turn at c.loop-line.invariant.writes) (some c)
 
-pub put_option-o-requires : goal.put_option-o-requires
-put_option-o-requires c =
-    let l = (goal.at.put_option-o-requires c).After-next_line-l in
-    let h = c.loop-a in (
-      (lies l).low,
-      (lies l).high,
-      writes_fit (text l) h.room h.n h.a h.o (after l) h.invariant.3
-          c.next_line-l.result.stop c.next_line-l.result.next ((lies l).turn h.n),
-    )
-
-pub loop-a-smaller : goal.loop-a-smaller
-loop-a-smaller c = omega (arith, (lies (goal.at.loop-a-smaller c).After-next_line-l).on)
-
-pub loop-a-preserved : goal.loop-a-preserved
-loop-a-preserved c =
-    let l = (goal.at.loop-a-preserved c).After-next_line-l in
-    let h = c.loop-a in (
-      (lies l).near,
-      omega (arith, (lies l).on),
-      search rules,
-      writes_on (text l) h.room h.n h.a h.o (after l) h.invariant.3 c.next_line-l.result.stop c.next_line-l.result.next
-          ((lies l).turn h.n) _ c.put_option-o.result c.put_option-o.ensures.0 (omega arith) c.put_option-o.ensures.1,
-    )
+pub loop-line-preserved : goal.loop-line-preserved
+loop-line-preserved c =
+    let l = c.in-Some.line in
+    let s = turn (goal.at.loop-line-preserved c).In-Some in
+    let line = line_with l.number l.start l.chars.now in
+    let out : c.copy_from_slice.new.self ≡ cells_of c.args.text.now line =
+    c.copy_from_slice.ensures.after ∙ c.cells_of.ensures ∙ cells_are c.args.text.now l.number l.start l.chars.now s.lies in record {
+      text = ap (λ (x : Bor (List ℕ)). x.now) c.next.ensures.steps.0 ∙ c.loop-line.invariant.text;
+      writes = writes_on c.args.text.now c.loop-line.room line _ c.loop-line.at _ (rw s.turn at c.loop-line.invariant.writes)
+          (some (goal.at.loop-line-preserved c).Else-is_empty) _ c.copy_from_slice.new.self (omega arith) out;
+    }
 
 pub returns : goal.returns
 returns c =
-    let h = c.loop-a in writes_none c.args.text.now h.room h.n h.a h.o _ h.invariant.3 c.loop-a-test.false
+    let it = c.loop-line.line-iterator in
+    let h = rw c.loop-line.invariant.text at c.in-None.ensures.steps.1 in
+    writes_none c.args.text.now c.loop-line.room it.number it.cursor.at c.loop-line.at _ h c.loop-line.invariant.writes

@@ -1,15 +1,14 @@
-use mathlib.Core.Path.{◌≡◌}
-use Prim.Native.Nat.{◌*◌, ◌-◌, ◌≤◌, ◌<◌}
-use lib.ListN.{length, take}
+use Rattle.std.proofs.Common.{◌≡◌, List, ℕ, ◌+◌, ◌*◌, ◌≤◌, ◌++◌, length}
+use Rattle.std.specs.Slice.Iter.{chunks_exact_rest, chunks_exact_size}
 use Rattle.program_text.specs.Places.{Put}
 use Rattle.mend_spec.specs.Mended.{span_lines}
 use Rattle.mend.proofs.lines.put_spans.Given as goal
 
--- The invariant: the lines of the first k sequences stand at the front of the report.
--- The sequences left fall by one at each turn.
-abbrev pub invariant-loop-k : goal.invariant-loop-k
-invariant-loop-k l = (l.k ≤ l.n) × (2 * l.n ≤ length l.spans) × (length l.spans < 18446744073709551616) × (64 * l.n ≤ length l.report) × (length l.report ≡ length l.initial.report) ×
-    Put l.initial.report 0 (span_lines (take (2 * l.k) l.spans)) l.o l.report
-
-abbrev pub decreases-loop-k : goal.decreases-loop-k
-decreases-loop-k l = l.n - l.k
+-- The lines so far stand at the front of the report, in at most 32 bytes for each cell; those of the cells that are left are the others.
+abbrev pub invariant-loop-span : goal.invariant-loop-span
+invariant-loop-span l = record {
+  report : length l.report ≡ length l.initial.report;
+  size : chunks_exact_size l.span-iterator ≡ 2;
+  lines : (text : List ℕ) × Put l.initial.report 0 text l.o l.report × (text ++ span_lines (chunks_exact_rest l.span-iterator) ≡ span_lines l.spans) ×
+      (length text + 32 * length (chunks_exact_rest l.span-iterator) ≤ 32 * length l.spans);
+}

@@ -1,19 +1,12 @@
-use mathlib.Core.Path.{refl, sym, ◌∙◌}
+use mathlib.Core.Path.{sym, ◌∙◌}
 use native.Mathlib.Omega.{arith}
+use Rattle.std.proofs.lemmas.Option.{IfSome_then}
 use Rattle.pair_runs.proofs.RangeSearch.{found}
 use Rattle.pair_runs.proofs.gb18030.range_scalar.Goals as goal
-
-pub returns-then-ranges-k : goal.returns-then-ranges-k
-returns-then-ranges-k c = λ z. absurd (z refl)
-
-pub returns-then-pointer_after-p : goal.returns-then-pointer_after-p
-returns-then-pointer_after-p c = λ z. absurd (z refl)
 
 pub returns : goal.returns
 returns c =
     let args = c.args in
-    let pre = c.requires in
-    let at_after = c.pointer_after in
-    λ z.
-    let e = c.pair_scalar.ensures z in
-    (e.1 ∙ sym (found args.ranges.now args.p pre args.k (omega arith) e.0 (λ h. omega (arith, at_after.ensures h))), e.2)
+    let after = c.pointer_after in
+    IfSome_then c.pair_scalar.result c.pair_scalar.ensures (λ u e.
+    (e.1 ∙ sym (found args.ranges.now args.p c.requires args.k (omega arith) e.0 (λ h. omega (arith, after.ensures h))), e.2))

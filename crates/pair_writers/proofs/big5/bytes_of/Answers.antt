@@ -11,7 +11,7 @@ use Rattle.pair_writers.proofs.Encoders.{in_rows, big5_rows, big5_self, big5_pai
 use Rattle.pair_writers.proofs.big5.bytes_of.Goals as goal
 
 pub returns-then-c-lt128 : goal.returns-then-c-lt128
-returns-then-c-lt128 c = λ h. c.one_byte.ensures ∙ big5_self _ _ c.if-c-lt128.true
+returns-then-c-lt128 c = λ h. big5_self _ _ c.if-c-lt128.true
 
 pub returns-then-by_last : goal.returns-then-by_last
 returns-then-by_last c =

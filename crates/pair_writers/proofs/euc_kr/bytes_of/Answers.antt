@@ -4,7 +4,7 @@ use Rattle.pair_writers.proofs.Encoders.{euc_kr-rows, euc_kr-self, euc_kr-pair}
 use Rattle.pair_writers.proofs.euc_kr.bytes_of.Goals as goal
 
 pub returns-then-c-lt128 : goal.returns-then-c-lt128
-returns-then-c-lt128 c = λ h. c.one_byte.ensures ∙ euc_kr-self _ _ c.if-c-lt128.true
+returns-then-c-lt128 c = λ h. euc_kr-self _ _ c.if-c-lt128.true
 
 pub returns : goal.returns
 returns c =

@@ -8,7 +8,7 @@ returns-then-c-eq59335 c = λ h. c.four_bytes.ensures ∙ four_7457 _ _ c.if-c-e
 
 pub returns-then-p-gt1237575 : goal.returns-then-p-gt1237575
 returns-then-p-gt1237575 c =
-    λ h. c.unwritable.ensures ∙ four_past _ _ c.if-c-eq59335.false _ (c.last_sum-p.ensures h) c.if-p-gt1237575.true
+    λ h. four_past _ _ c.if-c-eq59335.false _ (c.last_sum-p.ensures h) c.if-p-gt1237575.true
 
 pub four_bytes-requires-then-reads : goal.four_bytes-requires-then-reads
 four_bytes-requires-then-reads c = c.if-p-gt1237575.false
@@ -20,5 +20,5 @@ returns-then-reads c =
 
 pub returns : goal.returns
 returns c =
-    λ h. c.unwritable-2.ensures ∙ sym (rw c.if-reads.false) ∙
+    λ h. sym (rw c.if-reads.false) ∙
     four_read _ _ c.if-c-eq59335.false _ (c.last_sum-p.ensures h) c.reads.result (c.reads.ensures h)

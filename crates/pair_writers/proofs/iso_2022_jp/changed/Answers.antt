@@ -1,25 +1,18 @@
 -- `changed`, by its test. Assumes nothing.
-use mathlib.Core.Path.{◌≡◌, sym, ap, ◌∙◌}
-use mathlib.Core.Bool.{true}
-use Rattle.standard.specs.Base.{within}
-use Rattle.standard.proofs.Tests.{within_low}
-use Rattle.pair_writers.specs.Pairs.{or_none}
-use Rattle.pair_writers.proofs.Encoders.{changed_cell, changed_other}
+use mathlib.Core.Path.{sym, ap, ◌∙◌}
+use mathlib.Core.Option.{some}
 use native.Mathlib.Omega.{arith}
+use Rattle.pair_writers.proofs.Encoders.{changed_none, changed_cell, changed_other}
 use Rattle.pair_writers.proofs.iso_2022_jp.changed.Goals as goal
-use Rattle.pair_writers.proofs.iso_2022_jp.changed.Goals.{Then-katakana}
 
-is_katakana : (c : Then-katakana) → within 0xFF61 c.args.c 0xFF9F ≡ true
-is_katakana c = sym c.katakana.ensures ∙ c.if-katakana.true
+pub returns-then-not-katakana : goal.returns-then-not-katakana
+returns-then-not-katakana c =
+    ap some c.minus.ensures ∙ changed_other c.args.katakana.now c.args.c (sym c.katakana.ensures ∙ c.if-not-katakana.true)
 
-pub overflow_sub-c : goal.overflow_sub-c
-overflow_sub-c c = omega (arith, within_low 0xFF61 c.args.c 0xFF9F (is_katakana c))
+pub returns-in-0 : goal.returns-in-0
+returns-in-0 c =
+    changed_none c.args.katakana.now c.args.c (sym c.katakana.ensures ∙ c.if-not-katakana.false) (sym c.cell.ensures ∙ c.in-0.is)
 
-pub returns-then-katakana : goal.returns-then-katakana
-returns-then-katakana c =
-    λ z. ap or_none c.cell.ensures ∙ changed_cell c.args.katakana.now _ (is_katakana (goal.at.returns-then-katakana c).Then-katakana)
-
-pub returns : goal.returns
-returns c =
-    λ z. ap or_none c.minus.ensures ∙
-    changed_other c.args.katakana.now _ (sym c.katakana.ensures ∙ c.if-katakana.false) z
+pub returns-in_default : goal.returns-in_default
+returns-in_default c =
+    changed_cell c.args.katakana.now c.args.c (sym c.katakana.ensures ∙ c.if-not-katakana.false) _ c.cell.ensures (λ z. omega arith)

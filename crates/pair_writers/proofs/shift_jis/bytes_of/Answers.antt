@@ -1,43 +1,27 @@
 -- `shift_jis::bytes_of`, test by test. Assumes nothing.
 use mathlib.Core.Path.{◌≡◌, sym, ◌∙◌}
 use mathlib.Core.Bool.{true}
-use Prim.Native.Nat.{◌≤◌}
 use Rattle.standard.specs.Base.{within}
 use Rattle.pair_writers.proofs.Encoders.{shift_jis-self, shift_jis-yen, shift_jis-overline, shift_jis-katakana, shift_jis-pair, shift_jis-rows}
-use Rattle.standard.proofs.Tests.{within_low, within_high}
 use Rattle.reverse_index_spec.specs.ReverseIndex.{look_up}
-use native.Mathlib.Omega.{arith}
 use Rattle.pair_writers.proofs.shift_jis.bytes_of.Goals as goal
 use Rattle.pair_writers.proofs.shift_jis.bytes_of.Goals.{Then-katakana}
 
 is_katakana : (c : Then-katakana) → within 0xFF61 c.args.c 0xFF9F ≡ true
 is_katakana c = sym c.katakana.ensures ∙ c.if-katakana.true
 
-least : (c : Then-katakana) → 0xFF61 ≤ c.args.c
-least c = within_low 0xFF61 c.args.c 0xFF9F (is_katakana c)
-
-most : (c : Then-katakana) → c.args.c ≤ 0xFF9F
-most c = within_high 0xFF61 c.args.c 0xFF9F (is_katakana c)
-
 pub returns-then-c-le128 : goal.returns-then-c-le128
-returns-then-c-le128 c = λ h. c.one_byte.ensures ∙ shift_jis-self _ _ c.if-c-le128.true
+returns-then-c-le128 c = λ h. shift_jis-self _ _ c.if-c-le128.true
 
 pub returns-then-c-eq165 : goal.returns-then-c-eq165
-returns-then-c-eq165 c = λ h. c.one_byte-then-c-eq165.ensures ∙ shift_jis-yen _ _ c.if-c-eq165.true
+returns-then-c-eq165 c = λ h. shift_jis-yen _ _ c.if-c-eq165.true
 
 pub returns-then-c-eq8254 : goal.returns-then-c-eq8254
-returns-then-c-eq8254 c = λ h. c.one_byte-then-c-eq8254.ensures ∙ shift_jis-overline _ _ c.if-c-eq8254.true
-
-pub overflow_sub-c : goal.overflow_sub-c
-overflow_sub-c c = omega (arith, least c)
-
-pub overflow_cast-c-then-katakana : goal.overflow_cast-c-then-katakana
-overflow_cast-c-then-katakana c = omega (arith, least c, most c)
+returns-then-c-eq8254 c = λ h. shift_jis-overline _ _ c.if-c-eq8254.true
 
 pub returns-then-katakana : goal.returns-then-katakana
 returns-then-katakana c =
-    λ h. c.one_byte-then-katakana.ensures ∙
-    shift_jis-katakana _ _ c.if-c-eq165.false c.if-c-eq8254.false c.if-c-le128.false (is_katakana (goal.at.returns-then-katakana c).Then-katakana)
+    λ h. shift_jis-katakana _ _ c.if-c-eq165.false c.if-c-eq8254.false c.if-c-le128.false (is_katakana (goal.at.returns-then-katakana c).Then-katakana)
 
 pub returns : goal.returns
 returns c =

@@ -1,27 +1,23 @@
 -- `slots::fill`: the trails, all rows, ASCII, and the exceptions. Assumes nothing.
 use mathlib.Core.Path.{◌∙◌}
-use Prim.Native.Nat.{◌≤◌}
 use native.Mathlib.Omega.{arith}
 use Rattle.pair_writers.proofs.Shapes.{divisor_small}
 use Rattle.pair_writers.proofs.Filling.{filled_start}
 use Rattle.pair_writers.proofs.Known.{slots_right}
 use Rattle.pair_writers.proofs.slots.fill.Goals as goal
 
-pub fill_trails-requires : goal.fill_trails-requires
-fill_trails-requires c = (c.divisor-width.ensures, omega (arith, c.divisor-width.ensures, (divisor_small c.args.encoding).1))
-
-pub fill_rows-requires : goal.fill_rows-requires
-fill_rows-requires c =
-    let w = c.divisor-width.ensures in
-    let small : c.divisor-width.result ≤ 190 = omega (arith, w, (divisor_small c.args.encoding).1) in
+pub invariant_of-rows : goal.invariant_of-rows
+invariant_of-rows c =
+    let w = c.divisor.ensures in
     record {
-      cells = c.requires.0;
-      is_low = c.requires.1;
-      is_high = c.requires.2;
-      is_width = w;
-      columns = omega (arith, small, c.fill_trails.auto.trails);
-      trail = c.fill_trails.ensures;
-      size = c.requires.3;
+      laid = record {
+        cells = c.requires.0;
+        is_low = c.requires.1;
+        is_high = c.requires.2;
+        is_width = w;
+        columns = omega (arith, w, (divisor_small c.args.encoding).1, c.fill_trails.auto.trails);
+        trail = rw w c.fill_trails.ensures;
+      };
     }
 
 pub returns : goal.returns

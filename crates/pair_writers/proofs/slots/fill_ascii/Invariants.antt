@@ -1,13 +1,8 @@
--- `slots::fill_ascii`. The loop's invariant: the slots from 1 up to k have their bytes, all others are as they were. What falls at each turn
--- is the number of slots left. Assumes nothing.
+-- `slots::fill_ascii`. The loop's invariant: the slots from 1 up to k have their bytes, all others are as they were. Assumes nothing.
 use mathlib.Core.Path.{◌≡◌}
-use Prim.Native.Nat.{◌-◌, ◌≤◌}
 use lib.ListN.{length}
 use Rattle.pair_writers.proofs.Filling.{PlainTo}
 use Rattle.pair_writers.proofs.slots.fill_ascii.Given as goal
 
 abbrev pub invariant-loop-k : goal.invariant-loop-k
-invariant-loop-k l = (1 ≤ l.k) × (l.k ≤ 0x80) × (length l.slots ≡ length l.initial.slots) × PlainTo l.initial.slots l.k l.slots
-
-abbrev pub decreases-loop-k : goal.decreases-loop-k
-decreases-loop-k l = 0x80 - l.k
+invariant-loop-k l = (length l.slots ≡ length l.initial.slots) × PlainTo l.initial.slots l.k l.slots

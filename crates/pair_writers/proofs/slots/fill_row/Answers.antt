@@ -1,33 +1,28 @@
-use mathlib.Core.Path.{◌≡◌, sym, subst, ◌∙◌}
-use Prim.Native.Nat.{ℕ, ◌+◌}
-use lib.ListN.{get_or}
+use mathlib.Core.Path.{◌≡◌, ap, ◌∙◌}
+use mathlib.Core.List.{[], ◌∷◌}
+use Prim.Native.Nat.{ℕ}
+use lib.ListN.{length-append}
 use native.Mathlib.Omega.{arith}
-use Rattle.pair_writers.specs.Pairs.{Filled}
-use Rattle.pair_writers.proofs.Filling.{filled_on}
+use Rattle.std.proofs.Common.{Iter}
+use Rattle.std.proofs.lemmas.Slice.Zip.{zip_turn}
+use Rattle.std.specs.declared.iter.Zip.{Zip}
+use Rattle.std.specs.Slice.Iter.{iter_rest}
+use Rattle.std.specs.Iterator.Adapters.{zip_first, zip_second}
+use Rattle.pair_writers.proofs.Filling.{row_on}
 use Rattle.pair_writers.proofs.slots.fill_row.Goals as goal
 
-pub loop-k-init : goal.loop-k-init
-loop-k-init c = (omega arith, c.requires.2, λ e r f. let z : c.args.at ≡ c.args.at + 0 = omega arith in subst (λ (p : ℕ). Filled e c.args.table.now p c.args.slots.now) z f)
-
-pub overflow_add-lead : goal.overflow_add-lead
-overflow_add-lead c =
-    record { fits = c.requires.3 c.loop-k.k c.loop-k-test.true }
-
-pub loop-k-preserved : goal.loop-k-preserved
-loop-k-preserved c =
-    let inv = c.loop-k.invariant in
-    let taken = c.loop-k-test.true in
-    let k = c.loop-k.k in
-    let z : c.args.at + k + 1 ≡ c.args.at + (k + 1) = omega arith in (
-      omega (arith, taken),
-      c.enter.auto.slots ∙ inv.1,
-      λ e r f. subst (λ (p : ℕ). Filled e c.args.table.now p c.enter.new.slots) z
-          (subst (Filled e c.args.table.now (c.args.at + k + 1)) (sym c.enter.ensures)
-          (filled_on e c.args.table.now (c.args.at + k) (c.args.lead + get_or c.args.trails.now k 0) c.loop-k.slots
-          (inv.2 e r f) (omega (arith, taken, c.requires.0)) (r.searched k taken) (r.number k taken))),
+-- the turn's cell and trail are those at one place of the row and of the trails
+pub loop-c-preserved : goal.loop-c-preserved
+loop-c-preserved c =
+    let inv = c.loop-c.invariant in
+    let begun = c.into_iter-c-iterator.ensures.into_iter_gives in
+    let cells = ap (λ (z : Zip (Iter ℕ) (Iter ℕ)). iter_rest (zip_first z)) begun ∙
+    ap (λ (i : Iter ℕ). iter_rest i) c.zip-c-items.ensures.first ∙ c.iter.ensures.rest in
+    let trails : iter_rest (zip_second c.zip-c-items.result) ≡ c.args.trails.now = c.zip-c-items.ensures.second.0 in
+    let turn = zip_turn _ _ c.loop-c.yielded c.into_iter-c-iterator.result c.loop-c.c-iterator c.next.new.self c.next.result
+    cells (ap (λ (z : Zip (Iter ℕ) (Iter ℕ)). iter_rest (zip_second z)) begun ∙ trails)
+    c.loop-c.yielded_by (c.in-Some.c, c.in-Some.trail) c.in-Some.is c.next.ensures.steps in (
+      c.enter.auto.slots ∙ inv.0,
+      λ e r f. row_on _ _ c.args.at c.args.width _ _ _ _ _ _ (omega (arith, c.requires.0)) turn.0 turn.2 turn.3 r (inv.1 e r f)
+          _ _ (length-append c.loop-c.yielded ((c.in-Some.c, c.in-Some.trail) ∷ [])) c.enter.ensures,
     )
-
-pub returns : goal.returns
-returns c =
-    let z : c.loop-k.k ≡ c.args.width = omega (arith, c.loop-k-test.false, c.loop-k.invariant.0) in
-    λ e r f. rw z at (c.loop-k.invariant.2 e r f)

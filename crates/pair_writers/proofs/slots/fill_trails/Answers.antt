@@ -1,25 +1,14 @@
-use mathlib.Core.Path.{◌≡◌, refl, ◌∙◌}
-use lib.ListN.{length-set}
+use mathlib.Core.Path.{◌∙◌}
 use native.Mathlib.Omega.{arith}
 use Rattle.pair_writers.proofs.Filling.{trails_on}
-use Rattle.pair_writers.proofs.Shapes.{column_led}
+use Rattle.pair_writers.proofs.Shapes.{column_led, divisor_small}
 use Rattle.pair_writers.proofs.slots.fill_trails.Goals as goal
-
-pub loop-k-init : goal.loop-k-init
-loop-k-init c = (omega arith, refl, λ j h. omega arith)
 
 pub loop-k-preserved : goal.loop-k-preserved
 loop-k-preserved c =
-    let inv = c.loop-k.invariant in
-    let taken = c.loop-k-test.true in
-    let column = column_led c.args.encoding c.loop-k.k (omega (arith, taken, c.requires.0)) in (
-      omega (arith, taken),
-      length-set c.loop-k.trails c.loop-k.k c.two_bytes-pair.result.trail ∙ inv.1,
-      trails_on c.args.encoding c.loop-k.k c.two_bytes-pair.result.trail c.loop-k.trails
-          (omega (arith, taken, inv.1, c.requires.1)) (c.two_bytes-pair.ensures column).trail inv.2,
-    )
+    trails_on _ _ _ _ _ (omega arith) (λ h. c.from.ensures ∙ (c.two_bytes.ensures (column_led c.args.encoding c.loop-k.k h)).trail)
+    c.loop-k.invariant
 
 pub returns : goal.returns
 returns c =
-    let z : c.loop-k.k ≡ c.args.width = omega (arith, c.loop-k-test.false, c.loop-k.invariant.0) in
-    rw z at c.loop-k.invariant.2
+    λ j h. c.loop-k.invariant j (omega (arith, c.loop-k-test.false, h, (divisor_small c.args.encoding).1)) h

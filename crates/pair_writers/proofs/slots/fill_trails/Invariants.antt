@@ -1,13 +1,10 @@
--- `slots::fill_trails`. The loop's invariant: the first k columns have their trails. What falls at each turn is the number of columns left.
--- Assumes nothing.
+-- `slots::fill_trails`. The loop's invariant: the columns before k have their trails. Assumes nothing.
 use mathlib.Core.Path.{◌≡◌}
-use Prim.Native.Nat.{◌-◌, ◌≤◌}
-use lib.ListN.{length}
-use Rattle.pair_writers.specs.Pairs.{Trails}
+use Prim.Native.Nat.{ℕ, ◌<◌}
+use lib.ListN.{get_or}
+use Rattle.standard.specs.Layouts.{trail_of}
+use Rattle.layouts.specs.Rows.{layout_of}
 use Rattle.pair_writers.proofs.slots.fill_trails.Given as goal
 
 abbrev pub invariant-loop-k : goal.invariant-loop-k
-invariant-loop-k l = (l.k ≤ l.width) × (length l.trails ≡ length l.initial.trails) × Trails l.encoding l.k l.trails
-
-abbrev pub decreases-loop-k : goal.decreases-loop-k
-decreases-loop-k l = l.width - l.k
+invariant-loop-k l = (j : ℕ) → j < l.k → j < (layout_of l.encoding).divisor → get_or l.trails j 0 ≡ trail_of (layout_of l.encoding) j

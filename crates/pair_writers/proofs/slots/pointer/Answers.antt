@@ -8,6 +8,3 @@ returns-then-missing c =
     let m = c.missing.ensures c.if-missing.true in
     let a = c.args in
     λ h. empty_none (pass_over a.low a.high) a.table.now a.c a.links.now a.slots.now first h m.0 m.1
-
-pub returns : goal.returns
-returns c = λ a. c.pointer_outside.ensures

@@ -1,36 +1,18 @@
-use native.Mathlib.Omega.{arith}
-use mathlib.Core.Path.{refl, ◌∙◌}
-use lib.ListN.{take, length-take}
+use Rattle.std.proofs.Common.{take, arith}
+use Rattle.std.proofs.lemmas.List.{length-take}
 use Rattle.program_text.specs.Utf8.{utf8}
-use Rattle.program_text.proofs.Texts.{nothing, put_all}
+use Rattle.program_text.proofs.Texts.{nothing}
 use Rattle.program_text.proofs.Utf8Texts.{utf8_few, put_scalar}
 use Rattle.program_text.proofs.utf8.put_text.Goals as goal
 
-pub loop-i-init : goal.loop-i-init
+pub loop-c-init : goal.loop-c-init
 unfolding utf8
-loop-i-init c = (omega arith, omega arith, refl, nothing)
+loop-c-init c = nothing
 
-pub put_one-o-requires : goal.put_one-o-requires
-put_one-o-requires c = let l = c.loop-i in
-    omega (
-      arith,
-      utf8_few (take l.i c.args.scalars.now),
-      length-take l.i
-          c.args.scalars.now,
-      l.invariant.3.behind,
-    )
+pub put_one-at-requires : goal.put_one-at-requires
+put_one-at-requires c =
+    let l = c.loop-c in
+    omega (arith, utf8_few (take l.c-index c.args.scalars.now), length-take l.c-index c.args.scalars.now, l.invariant.behind)
 
-pub loop-i-preserved : goal.loop-i-preserved
-loop-i-preserved c =
-    let l = c.loop-i in
-    let p = c.put_one-o in (
-      omega arith,
-      omega arith,
-      p.auto.out ∙ l.invariant.2,
-      put_scalar
-          c.args.scalars.now l.i (omega arith) l.invariant.3
-          p.ensures,
-    )
-
-pub returns : goal.returns
-returns c = let l = c.loop-i in put_all utf8 c.args.scalars.now l.i (omega arith) l.invariant.3
+pub loop-c-preserved : goal.loop-c-preserved
+loop-c-preserved c = let l = c.loop-c in put_scalar c.args.scalars.now l.c-index (omega arith) l.invariant c.put_one-at.ensures

@@ -8,8 +8,8 @@ returns-then-have-eq0 c =
     let a = c.args in
     rw (choose_is a.have a.first a.second a.third, eq-eqb a.have 0 (omega arith))
 
-pub returns-then-first-eq239 : goal.returns-then-first-eq239
-returns-then-first-eq239 c =
+pub returns-in-239 : goal.returns-in-239
+returns-in-239 c =
     let a = c.args in
     rw (
       choose_is a.have a.first a.second a.third,
@@ -17,8 +17,8 @@ returns-then-first-eq239 c =
       eq-eqb a.first 0xEF (omega arith),
     ) c.of_three.ensures
 
-pub returns-then-first-eq254 : goal.returns-then-first-eq254
-returns-then-first-eq254 c =
+pub returns-in-254 : goal.returns-in-254
+returns-in-254 c =
     let a = c.args in
     rw (
       choose_is a.have a.first a.second a.third,
@@ -27,8 +27,8 @@ returns-then-first-eq254 c =
       eq-eqb a.first 0xFE (omega arith),
     ) c.of_two.ensures
 
-pub returns-then-first-eq255 : goal.returns-then-first-eq255
-returns-then-first-eq255 c =
+pub returns-in-255 : goal.returns-in-255
+returns-in-255 c =
     let a = c.args in
     rw (
       choose_is a.have a.first a.second a.third,
@@ -36,10 +36,10 @@ returns-then-first-eq255 c =
       ne_eqb a.first 0xEF (omega arith),
       ne_eqb a.first 0xFE (omega arith),
       eq-eqb a.first 0xFF (omega arith),
-    ) c.of_two-then-first-eq255.ensures
+    ) c.of_two-in-255.ensures
 
-pub returns : goal.returns
-returns c =
+pub returns-in_default : goal.returns-in_default
+returns-in_default c =
     let a = c.args in
     rw (
       choose_is a.have a.first a.second a.third,

@@ -1,9 +1,13 @@
-use borrow.Author.Tests.{eq-eqb, ne_eqb}
-use native.Mathlib.Omega.{arith}
+use mathlib.Core.Path.{◌≡◌, refl, ◌∙◌}
+use mathlib.Core.Bool.{Bool, true, false}
+use lib.Dec.{eqb}
+use mir.Val.{bool_byte}
+use Rattle.reading.specs.Reading.{bit}
 use Rattle.reading.proofs.feed.bit.Goals as goal
 
-pub returns-then-flag-eq1 : goal.returns-then-flag-eq1
-returns-then-flag-eq1 c = rw (eq-eqb c.args.flag 1 (omega arith))
+byte_bit : (b : Bool) → bool_byte b ≡ bit b
+byte_bit true = refl
+byte_bit false = refl
 
 pub returns : goal.returns
-returns c = rw (ne_eqb c.args.flag 1 (omega arith))
+returns c = c.from.ensures ∙ byte_bit (eqb c.args.flag 1)

@@ -14,17 +14,17 @@ returns-then-count-i c =
     let args = c.args in
     sym (byte_chunk args.held args.chunk.now (omega arith) args.i (omega arith) ∙ get_or-eq_default args.chunk.now 0 (omega arith))
 
-pub returns-then-i-eq0 : goal.returns-then-i-eq0
-returns-then-i-eq0 c =
+pub returns-in-0 : goal.returns-in-0
+returns-in-0 c =
     let args = c.args in
-    sym (byte_held args.held args.chunk.now (omega arith) args.i (omega arith) ∙ rw c.if-i-eq0.true)
+    sym (byte_held args.held args.chunk.now (omega arith) args.i (omega arith) ∙ rw c.in-0.is)
 
-pub returns-then-i-eq1 : goal.returns-then-i-eq1
-returns-then-i-eq1 c =
+pub returns-in-1 : goal.returns-in-1
+returns-in-1 c =
     let args = c.args in
-    sym (byte_held args.held args.chunk.now (omega arith) args.i (omega arith) ∙ rw c.if-i-eq1.true)
+    sym (byte_held args.held args.chunk.now (omega arith) args.i (omega arith) ∙ rw c.in-1.is)
 
-pub returns : goal.returns
-returns c =
+pub returns-in_default : goal.returns-in_default
+returns-in_default c =
     let args = c.args in
     sym (byte_held args.held args.chunk.now (omega arith) args.i (omega arith) ∙ third_is _ _ _ args.i (omega arith) (omega arith) (omega arith))

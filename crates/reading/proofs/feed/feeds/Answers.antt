@@ -1,18 +1,18 @@
-use mathlib.Core.Path.{◌∙◌}
-use Rattle.reading.proofs.Loop.{feeds_error, feeds_none, feeds_one, feeds_two}
-use native.Mathlib.Omega.{arith}
+use mathlib.Core.Path.{refl, sym}
+use mathlib.Core.List.{[], ◌∷◌}
+use Rattle.standard.specs.Base.{line_feeds}
+use Rattle.standard.proofs.LineFeeds.{line_feeds-append}
 use Rattle.reading.proofs.feed.feeds.Goals as goal
 
-pub returns-then-count-eq3 : goal.returns-then-count-eq3
-returns-then-count-eq3 c = feeds_error c.args.q (omega arith)
+pub returns-in-Error : goal.returns-in-Error
+unfolding line_feeds
+returns-in-Error c = rw c.in-Error.is refl
 
-pub returns-then-count-eq0 : goal.returns-then-count-eq0
-returns-then-count-eq0 c = feeds_none c.args.q (omega arith)
+pub returns-in-Nothing : goal.returns-in-Nothing
+unfolding line_feeds
+returns-in-Nothing c = rw c.in-Nothing.is refl
 
-pub returns-then-count-eq1 : goal.returns-then-count-eq1
-returns-then-count-eq1 c = c.one_scalar-first.ensures ∙ feeds_one c.args.q (omega arith)
-
-pub returns : goal.returns
-returns c =
-    rw (c.one_scalar-first.ensures, c.one_scalar-second.ensures)
-    (feeds_two c.args.q (omega arith) (omega arith) (omega arith))
+pub returns-in-Two : goal.returns-in-Two
+returns-in-Two c =
+    let two = c.in-Two in
+    rw (two.is, c.one_scalar-in-Two.ensures, c.one_scalar-in-Two-2.ensures) (sym (line_feeds-append (two.first ∷ []) (two.second ∷ [])))

@@ -1,12 +1,17 @@
 use mathlib.Core.List.{List}
-use mathlib.Core.Path.{sym, ap, ◌∙◌}
+use mathlib.Core.Path.{◌≡◌, sym, ap, ◌∙◌}
 use Prim.Native.Nat.{ℕ, ◌+◌}
 use native.Mathlib.Omega.{arith}
-use Rattle.reading.specs.Reading.{Result}
-use Rattle.reading.proofs.Loop.{Args, Running, start_running, carried, turn_done, turn_none, turn_few, turn_more, turn_width}
+use lib.Dec.{eqb}
+use lib.ListN.{drop}
+use Rattle.std.specs.Prelude.{Ok}
+use Rattle.standard.specs.Sequence.{Next, more, shift}
+use Rattle.sequences.specs.Code.{next_of, item_of}
+use Rattle.reading.specs.Reading.{ReadOutcome}
+use Rattle.reading.proofs.Loop.{Args, Running, next_in, bytes_in, start_running, carried, turn_done, turn_none, turn_few, turn_more, turn_width}
 use Rattle.reading.proofs.Loop.{turn_space, turn_report, turn_fewer, turn_at, turn_on, stops_no, stops_yes}
 use Rattle.reading.proofs.feed.read_all.Goals as goal
-use Rattle.reading.proofs.feed.read_all.Goals.{After-struct_known-in-loop-at-1, After-struct_known-in-loop-at-2-1, Start}
+use Rattle.reading.proofs.feed.read_all.Goals.{After-sequence_at, In_default, In-Some, After-struct_known-in-loop-at-1, After-struct_known-in-loop-at-2-1, Start}
 
 abbrev call : Start → Args
 call c = let a = c.args in record {
@@ -42,7 +47,7 @@ pub returns-then-mark-held : goal.returns-then-mark-held
 returns-then-mark-held c =
     let R = start_running (call (goal.at.returns-then-mark-held c).Start) c.args.room.now (omega arith) (omega arith) (omega arith) (omega arith) in
     let e = turn_none R (omega arith) in
-    (c.untouched.ensures ∙ ap (λ (o : Result). o.left) (sym e), ap (λ (o : Result). o.room) (sym e))
+    (ap Ok c.untouched.ensures ∙ ap (λ (o : ReadOutcome). o.left) (sym e), ap (λ (o : ReadOutcome). o.room) (sym e))
 
 pub loop-at-init : goal.loop-at-init
 loop-at-init c =
@@ -66,65 +71,66 @@ shape_of-room-then-at-held c = (ran (goal.at.shape_of-room-then-at-held c).After
 pub returns-then-at-held : goal.returns-then-at-held
 returns-then-at-held c =
     let e = turn_done (ran (goal.at.returns-then-at-held c).After-struct_known-in-loop-at-2-1).1 (omega arith) in
-    (c.holds.ensures ∙ ap (λ (o : Result). o.left) (sym e), ap (λ (o : Result). o.room) (sym e))
+    (ap Ok c.holds.ensures ∙ ap (λ (o : ReadOutcome). o.left) (sym e), ap (λ (o : ReadOutcome). o.room) (sym e))
 
-pub sequence_at-q-requires : goal.sequence_at-q-requires
-sequence_at-q-requires c = let R = (ran (goal.at.sequence_at-q-requires c).After-struct_known-in-loop-at-2-1).1 in (R.few, R.short, R.place)
+pub sequence_at-requires : goal.sequence_at-requires
+sequence_at-requires c = let R = (ran (goal.at.sequence_at-requires c).After-struct_known-in-loop-at-2-1).1 in (R.few, R.short, R.place)
 
-pub holds-requires-then-q-eq0 : goal.holds-requires-then-q-eq0
-holds-requires-then-q-eq0 c =
-    let at-sequence = c.sequence_at-q in
-    let R = (ran (goal.at.holds-requires-then-q-eq0 c).After-struct_known-in-loop-at-2-1).1 in
-    (R.few, R.short, R.place, turn_few R at-sequence.result at-sequence.ensures (omega arith))
+-- the bytes that are left, and what the definition finds there
+abbrev here : After-sequence_at → Next
+here c =
+    let p = c.run_from-p.result in
+    let a = call (goal.at.After-sequence_at c).Start in
+    next_in a (shift p.state (eqb p.flag 1)) (drop p.at (bytes_in a))
 
-pub shape_of-room-then-q-eq0 : goal.shape_of-room-then-q-eq0
-shape_of-room-then-q-eq0 c = (ran (goal.at.shape_of-room-then-q-eq0 c).After-struct_known-in-loop-at-2-1).1.size
+-- no whole sequence
+waits : (c : In_default) → here (goal.at.In_default c).After-sequence_at ≡ more
+waits c = sym c.sequence_at.ensures ∙ ap next_of c.in_default.is
 
-pub returns-then-q-eq0 : goal.returns-then-q-eq0
-returns-then-q-eq0 c =
-    let at-sequence = c.sequence_at-q in
-    let e = turn_more (ran (goal.at.returns-then-q-eq0 c).After-struct_known-in-loop-at-2-1).1 at-sequence.result at-sequence.ensures (omega arith) in
-    (c.holds-then-q-eq0.ensures ∙ ap (λ (o : Result). o.left) (sym e), ap (λ (o : Result). o.room) (sym e))
+pub holds-requires-in_default : goal.holds-requires-in_default
+holds-requires-in_default c =
+    let R = (ran (goal.at.holds-requires-in_default c).After-struct_known-in-loop-at-2-1).1 in
+    (R.few, R.short, R.place, turn_few R (waits (goal.at.holds-requires-in_default c).In_default))
 
-pub shape_of-room-then-stops : goal.shape_of-room-then-stops
-shape_of-room-then-stops c = (ran (goal.at.shape_of-room-then-stops c).After-struct_known-in-loop-at-2-1).1.size
+pub returns-in_default : goal.returns-in_default
+returns-in_default c =
+    let R = (ran (goal.at.returns-in_default c).After-struct_known-in-loop-at-2-1).1 in
+    let e = turn_more R (waits (goal.at.returns-in_default c).In_default) in
+    (ap Ok c.holds-in_default.ensures ∙ ap (λ (o : ReadOutcome). o.left) (sym e), ap (λ (o : ReadOutcome). o.room) (sym e))
+
+-- a sequence
+found : (c : In-Some) → item_of c.in-Some.q ≡ here (goal.at.In-Some c).After-sequence_at
+found c = ap next_of (sym c.in-Some.is) ∙ c.sequence_at.ensures
 
 pub returns-then-stops : goal.returns-then-stops
 returns-then-stops c =
-    let at-sequence = c.sequence_at-q in
+    let R = (ran (goal.at.returns-then-stops c).After-struct_known-in-loop-at-2-1).1 in
     let k = stops_yes _ _ (sym c.stops.ensures ∙ c.if-stops.true) in
-    let e = turn_report (ran (goal.at.returns-then-stops c).After-struct_known-in-loop-at-2-1).1 at-sequence.result at-sequence.ensures c.if-q-eq0.false
-    k.0 k.1 in
-    (c.ended.ensures ∙ ap (λ (o : Result). o.left) (sym e), ap (λ (o : Result). o.room) (sym e))
+    let e = turn_report R c.in-Some.q (found (goal.at.returns-then-stops c).In-Some) k.0 k.1 in
+    (ap (λ (o : ReadOutcome). o.left) (sym e), ap (λ (o : ReadOutcome). o.room) (sym e))
 
 pub put-written-requires : goal.put-written-requires
 put-written-requires c =
-    let at-sequence = c.sequence_at-q in
-    turn_space (ran (goal.at.put-written-requires c).After-struct_known-in-loop-at-2-1).1 at-sequence.result at-sequence.ensures c.if-q-eq0.false
+    turn_space (ran (goal.at.put-written-requires c).After-struct_known-in-loop-at-2-1).1 c.in-Some.q (found (goal.at.put-written-requires c).In-Some)
 
 pub overflow_add-lines-in-loop-at : goal.overflow_add-lines-in-loop-at
 overflow_add-lines-in-loop-at c =
-    let at-sequence = c.sequence_at-q in
     let R = (ran (goal.at.overflow_add-lines-in-loop-at c).After-struct_known-in-loop-at-2-1).1 in
-    omega (arith, c.feeds-lines.ensures, turn_fewer R at-sequence.result at-sequence.ensures c.if-q-eq0.false)
+    omega (arith, c.feeds-lines.ensures, turn_fewer R c.in-Some.q (found (goal.at.overflow_add-lines-in-loop-at c).In-Some))
 
 pub overflow_add-at : goal.overflow_add-at
 overflow_add-at c =
-    let at-sequence = c.sequence_at-q in
     let R = (ran (goal.at.overflow_add-at c).After-struct_known-in-loop-at-2-1).1 in
-    omega (arith, turn_at R at-sequence.result at-sequence.ensures c.if-q-eq0.false)
+    omega (arith, turn_at R c.in-Some.q (found (goal.at.overflow_add-at c).In-Some))
 
 pub loop-at-smaller : goal.loop-at-smaller
 loop-at-smaller c =
-    let at-sequence = c.sequence_at-q in
     let R = (ran (goal.at.loop-at-smaller c).After-struct_known-in-loop-at-2-1).1 in
-    let width = turn_width R at-sequence.result at-sequence.ensures c.if-q-eq0.false in
-    omega (arith, c.run_from-p.ensures.run.ahead, R.place, width)
+    omega (arith, c.run_from-p.ensures.run.ahead, R.place, turn_width R c.in-Some.q (found (goal.at.loop-at-smaller c).In-Some))
 
 pub loop-at-preserved : goal.loop-at-preserved
 loop-at-preserved c =
-    let at-put = c.put-written in
-    let at-sequence = c.sequence_at-q in
+    let R = (ran (goal.at.loop-at-preserved c).After-struct_known-in-loop-at-2-1).1 in
     let goes = stops_no _ _ (sym c.stops.ensures ∙ c.if-stops.false) in
-    rw (at-put.ensures.0, at-put.ensures.1, c.feeds-lines.ensures)
-    (turn_on (ran (goal.at.loop-at-preserved c).After-struct_known-in-loop-at-2-1).1 at-sequence.result at-sequence.ensures c.if-q-eq0.false goes)
+    rw (c.put-written.ensures.0, c.put-written.ensures.1, c.feeds-lines.ensures)
+    (turn_on R c.in-Some.q (found (goal.at.loop-at-preserved c).In-Some) c.from-f.result c.from-f.ensures goes)

@@ -1,25 +1,22 @@
 use Rattle.standard.proofs.Families.{by_33}
-use mathlib.Core.Path.{◌∙◌}
+use mathlib.Core.Path.{sym, ap, ◌∙◌}
 use lib.Dec.{eqb}
 use Rattle.standard.specs.Sequence.{shift}
+use Rattle.sequences.specs.Code.{next_of}
 use Rattle.reading.proofs.Ends.{last_more, last_error, last_one}
-use native.Mathlib.Omega.{arith}
 use Rattle.reading.proofs.finish.last_scalar.Goals as goal
 
-pub returns-then-q-eq0 : goal.returns-then-q-eq0
-returns-then-q-eq0 c =
-    let args = c.args in
-    let at_next = c.next-q in
-    last_more _ (shift args.state (eqb args.flag 1)) args.b at_next.result (at_next.ensures ∙ by_33 _ _ _) (omega arith)
+pub returns-in_default : goal.returns-in_default
+returns-in_default c =
+    let a = c.args in
+    last_more _ (shift a.state (eqb a.flag 1)) a.b (ap next_of (sym c.in_default.is) ∙ c.next.ensures ∙ by_33 _ _ _)
 
-pub returns-then-q-eq3 : goal.returns-then-q-eq3
-returns-then-q-eq3 c =
-    let args = c.args in
-    let at_next = c.next-q in
-    last_error _ (shift args.state (eqb args.flag 1)) args.b at_next.result (at_next.ensures ∙ by_33 _ _ _) (omega arith) (omega arith)
+pub returns-in-One : goal.returns-in-One
+returns-in-One c =
+    let a = c.args in
+    last_one _ (shift a.state (eqb a.flag 1)) a.b c.in-Some.q (ap next_of (sym c.in-Some.is) ∙ c.next.ensures ∙ by_33 _ _ _) c.in-One.c c.in-One.is
 
-pub returns : goal.returns
-returns c =
-    let args = c.args in
-    let at_next = c.next-q in
-    last_one _ (shift args.state (eqb args.flag 1)) args.b at_next.result (at_next.ensures ∙ by_33 _ _ _) (omega arith) (omega arith)
+pub returns-in_default-out : goal.returns-in_default-out
+returns-in_default-out c =
+    let a = c.args in
+    last_error _ (shift a.state (eqb a.flag 1)) a.b c.in-Some.q (ap next_of (sym c.in-Some.is) ∙ c.next.ensures ∙ by_33 _ _ _) c.in_default-out.not-One

@@ -1,10 +1,15 @@
-use mathlib.Core.Path.{sym, ap, ◌∙◌}
+use mathlib.Core.Path.{◌≡◌, sym, ap, ◌∙◌}
 use native.Mathlib.Omega.{arith}
-use Rattle.reading.specs.Reading.{Result}
-use Rattle.reading.proofs.Loop.{Args, start_running, turn_few, turn_more, turn_width}
+use lib.Dec.{eqb}
+use lib.ListN.{drop}
+use Rattle.std.specs.Prelude.{Ok}
+use Rattle.standard.specs.Sequence.{more, shift}
+use Rattle.sequences.specs.Code.{next_of, item_of}
+use Rattle.reading.specs.Reading.{ReadOutcome}
+use Rattle.reading.proofs.Loop.{Args, next_in, bytes_in, start_running, turn_few, turn_more, turn_width}
 use Rattle.reading.proofs.Loop.{turn_space, turn_report, turn_fewer, turn_at, turn_on, stops_no, stops_yes}
 use Rattle.reading.proofs.finish.read_few.Goals as goal
-use Rattle.reading.proofs.finish.read_few.Goals.{Start}
+use Rattle.reading.proofs.finish.read_few.Goals.{Start, In_default, In-Some}
 
 -- how the loop was called
 abbrev call : Start → Args
@@ -25,62 +30,53 @@ pub loop-q-init : goal.loop-q-init
 loop-q-init c =
     start_running (call (goal.at.loop-q-init c).Start) c.args.room.now (omega arith) (omega arith) (omega arith) (omega arith)
 
-pub sequence_at-q-requires : goal.sequence_at-q-requires
-sequence_at-q-requires c = let R = c.loop-q.invariant in (R.few, R.short, R.place)
+pub sequence_at-requires : goal.sequence_at-requires
+sequence_at-requires c = let R = c.loop-q.invariant in (R.few, R.short, R.place)
+
+-- no whole sequence is left
+waits : (c : In_default) → next_in (call (goal.at.In_default c).Start) (shift c.loop-q.s (eqb c.loop-q.f 1))
+    (drop c.loop-q.at (bytes_in (call (goal.at.In_default c).Start))) ≡ more
+waits c = sym c.sequence_at.ensures ∙ ap next_of c.in_default.is
 
 pub holds-requires : goal.holds-requires
 holds-requires c =
-    let at-sequence = c.sequence_at-q in
     let R = c.loop-q.invariant in
-    (R.few, R.short, R.place, turn_few R at-sequence.result at-sequence.ensures (omega arith))
+    (R.few, R.short, R.place, turn_few R (waits (goal.at.holds-requires c).In_default))
 
-pub shape_of-room-then-q-eq0 : goal.shape_of-room-then-q-eq0
-shape_of-room-then-q-eq0 c = c.loop-q.invariant.size
+pub returns-in_default : goal.returns-in_default
+returns-in_default c =
+    let e = turn_more c.loop-q.invariant (waits (goal.at.returns-in_default c).In_default) in
+    (ap Ok c.holds.ensures ∙ ap (λ (o : ReadOutcome). o.left) (sym e), ap (λ (o : ReadOutcome). o.room) (sym e))
 
-pub returns-then-q-eq0 : goal.returns-then-q-eq0
-returns-then-q-eq0 c =
-    let at-sequence = c.sequence_at-q in
-    let e = turn_more c.loop-q.invariant at-sequence.result at-sequence.ensures (omega arith) in
-    (c.holds.ensures ∙ ap (λ (o : Result). o.left) (sym e), ap (λ (o : Result). o.room) (sym e))
-
-pub shape_of-room-then-stops : goal.shape_of-room-then-stops
-shape_of-room-then-stops c = c.loop-q.invariant.size
+-- the sequence that is left
+found : (c : In-Some) → item_of c.in-Some.q ≡ next_in (call (goal.at.In-Some c).Start) (shift c.loop-q.s (eqb c.loop-q.f 1))
+    (drop c.loop-q.at (bytes_in (call (goal.at.In-Some c).Start)))
+found c = ap next_of (sym c.in-Some.is) ∙ c.sequence_at.ensures
 
 pub returns-then-stops : goal.returns-then-stops
 returns-then-stops c =
-    let at-sequence = c.sequence_at-q in
     let k = stops_yes _ _ (sym c.stops.ensures ∙ c.if-stops.true) in
-    let e = turn_report c.loop-q.invariant at-sequence.result at-sequence.ensures c.if-q-eq0.false
-    k.0 k.1 in
-    (c.ended.ensures ∙ ap (λ (o : Result). o.left) (sym e), ap (λ (o : Result). o.room) (sym e))
+    let e = turn_report c.loop-q.invariant c.in-Some.q (found (goal.at.returns-then-stops c).In-Some) k.0 k.1 in
+    (ap (λ (o : ReadOutcome). o.left) (sym e), ap (λ (o : ReadOutcome). o.room) (sym e))
 
 pub put-written-requires : goal.put-written-requires
-put-written-requires c =
-    let at-sequence = c.sequence_at-q in
-    turn_space c.loop-q.invariant at-sequence.result at-sequence.ensures c.if-q-eq0.false
+put-written-requires c = turn_space c.loop-q.invariant c.in-Some.q (found (goal.at.put-written-requires c).In-Some)
 
 pub overflow_add-lines : goal.overflow_add-lines
 overflow_add-lines c =
-    let at-sequence = c.sequence_at-q in
     let R = c.loop-q.invariant in
-    omega (arith, c.feeds-lines.ensures, turn_fewer R at-sequence.result at-sequence.ensures c.if-q-eq0.false)
+    omega (arith, c.feeds-lines.ensures, turn_fewer R c.in-Some.q (found (goal.at.overflow_add-lines c).In-Some))
 
 pub overflow_add-at : goal.overflow_add-at
-overflow_add-at c =
-    let at-sequence = c.sequence_at-q in
-    let R = c.loop-q.invariant in
-    omega (arith, turn_at R at-sequence.result at-sequence.ensures c.if-q-eq0.false)
+overflow_add-at c = omega (arith, turn_at c.loop-q.invariant c.in-Some.q (found (goal.at.overflow_add-at c).In-Some))
 
 pub loop-q-smaller : goal.loop-q-smaller
 loop-q-smaller c =
-    let at-sequence = c.sequence_at-q in
     let R = c.loop-q.invariant in
-    omega (arith, R.place, turn_width R at-sequence.result at-sequence.ensures c.if-q-eq0.false)
+    omega (arith, R.place, turn_width R c.in-Some.q (found (goal.at.loop-q-smaller c).In-Some))
 
 pub loop-q-preserved : goal.loop-q-preserved
 loop-q-preserved c =
-    let at-put = c.put-written in
-    let at-sequence = c.sequence_at-q in
     let goes = stops_no _ _ (sym c.stops.ensures ∙ c.if-stops.false) in
-    rw (at-put.ensures.0, at-put.ensures.1, c.feeds-lines.ensures)
-    (turn_on c.loop-q.invariant at-sequence.result at-sequence.ensures c.if-q-eq0.false goes)
+    rw (c.put-written.ensures.0, c.put-written.ensures.1, c.feeds-lines.ensures)
+    (turn_on c.loop-q.invariant c.in-Some.q (found (goal.at.loop-q-preserved c).In-Some) c.from-f.result c.from-f.ensures goes)

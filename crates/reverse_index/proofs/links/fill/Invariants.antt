@@ -7,6 +7,3 @@ use Rattle.reverse_index.proofs.links.fill.Given as goal
 
 abbrev pub invariant-loop-p : goal.invariant-loop-p
 invariant-loop-p l = (l.p ≤ length l.table) × Chained l.table l.p l.index
-
-abbrev pub decreases-loop-p : goal.decreases-loop-p
-decreases-loop-p l = l.p

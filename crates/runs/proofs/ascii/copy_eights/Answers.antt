@@ -1,26 +1,25 @@
-use mathlib.Core.Path.{refl}
+use Rattle.std.proofs.Common.{◌+◌, ◌-◌, ◌*◌, ◌/◌, ◌≡◌, length, arith}
 use Rattle.runs.proofs.Stretches.{copying_start, copying_on, copying_ready, begins_on}
-use native.Mathlib.Omega.{arith}
 use Rattle.runs.proofs.ascii.copy_eights.Goals as goal
 
-pub loop-k-init : goal.loop-k-init
-loop-k-init c = (copying_start c.requires.0, refl, omega arith)
+pub loop-j-init : goal.loop-j-init
+loop-j-init c = copying_start c.requires.0
 
 pub copy_eight-c-requires : goal.copy_eight-c-requires
-copy_eight-c-requires c = (copying_ready c.loop-k.invariant.0, omega arith)
+copy_eight-c-requires c = (copying_ready c.loop-j.invariant, omega arith)
 
 pub returns-then-c-lt8 : goal.returns-then-c-lt8
 returns-then-c-lt8 c =
-    let at-loop = c.before.before.before.before.before.before in
-    let at-eight = c.copy_eight-c in
-    let args = at-loop.args in
-    let begins = begins_on args.chunk.now args.from at-loop.loop-k.k at-eight.ensures.1 in
-    ((copying_on at-loop.loop-k.invariant.0 at-eight.ensures.0).copied, begins)
+    let eight = c.copy_eight-c.ensures in
+    ((copying_on c.loop-j.invariant eight.0).copied, begins_on c.args.chunk.now c.args.from (c.loop-j.j * 8) eight.1)
 
-pub loop-k-preserved : goal.loop-k-preserved
-loop-k-preserved c =
-    let at-loop = c.before.before.before.before.before.before in
-    (copying_on at-loop.loop-k.invariant.0 c.copy_eight-c.ensures.0, at-loop.loop-k.invariant.1, at-loop.loop-k.invariant.2)
+pub loop-j-preserved : goal.loop-j-preserved
+loop-j-preserved c =
+    let j = c.loop-j.j in
+    let all : j * 8 + c.copy_eight-c.result ≡ (j + 1) * 8 = omega (arith, c.copy_eight-c.ensures.2) in
+    rw all at (copying_on c.loop-j.invariant c.copy_eight-c.ensures.0)
 
 pub returns : goal.returns
-returns c = (c.loop-k.invariant.0.copied, λ l q. omega arith)
+returns c =
+    let all : c.loop-j.j ≡ (length c.args.chunk.now - c.args.from) / 8 = omega arith in
+    (rw all at c.loop-j.invariant.copied, λ l q. omega arith)

@@ -1,13 +1,7 @@
-use mathlib.Core.Path.{◌≡◌}
-use Prim.Native.Nat.{◌-◌, ◌≤◌}
-use lib.ListN.{length}
+use Prim.Native.Nat.{◌*◌}
 use Rattle.runs.proofs.Stretches.{Copying}
 use Rattle.runs.proofs.ascii.copy_eights.Given as goal
 
--- The invariant: k bytes below 80 are copied, of n that the chunk has, which are eight at least.
--- What is left of n falls at each turn, by eight: a turn that copies fewer returns.
-abbrev pub invariant-loop-k : goal.invariant-loop-k
-invariant-loop-k l = (Copying l.chunk l.from l.place l.k l.initial.room l.room) × (l.n ≡ length l.chunk - l.from) × (8 ≤ l.n)
-
-abbrev pub decreases-loop-k : goal.decreases-loop-k
-decreases-loop-k l = l.n - l.k
+-- The invariant: j times eight bytes below 80 are copied.
+abbrev pub invariant-loop-j : goal.invariant-loop-j
+invariant-loop-j l = Copying l.chunk l.from l.place (l.j * 8) l.initial.room l.room

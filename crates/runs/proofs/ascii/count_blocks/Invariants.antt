@@ -1,14 +1,8 @@
-use mathlib.Core.Path.{◌≡◌}
-use Prim.Native.Nat.{◌-◌, ◌≤◌}
-use lib.ListN.{length}
+use Prim.Native.Nat.{◌*◌}
 use Rattle.line_feeds.proofs.Parts.{Counted}
 use Rattle.runs.proofs.Stretches.{Copying}
 use Rattle.runs.proofs.ascii.count_blocks.Given as goal
 
--- The invariant: k bytes below 80 are copied, and `lines` line feeds are among them.
--- What is left of n falls by a block at each turn: one that copies none returns.
-abbrev pub invariant-loop-k : goal.invariant-loop-k
-invariant-loop-k l = (Copying l.chunk l.from l.place l.k l.initial.room l.room) × (l.n ≡ length l.chunk - l.from) × (l.k ≤ l.n) × Counted l.chunk l.from l.k l.lines
-
-abbrev pub decreases-loop-k : goal.decreases-loop-k
-decreases-loop-k l = l.n - l.k
+-- The invariant: j blocks of bytes below 80 are copied, and `lines` line feeds are among them.
+abbrev pub invariant-loop-j : goal.invariant-loop-j
+invariant-loop-j l = (Copying l.chunk l.from l.place (l.j * 192) l.initial.room l.room) × Counted l.chunk l.from (l.j * 192) l.lines

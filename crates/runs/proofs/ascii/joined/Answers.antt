@@ -1,12 +1,8 @@
-use Rattle.runs.proofs.Or.{or_left, or_right}
-use borrow.Author.Count.{below_more}
-use native.Mathlib.Omega.{arith}
+use Rattle.std.proofs.Common.{rules, ◌≡◌, bit_or, fold}
+use Rattle.runs.proofs.Or.{at_least_each}
 use Rattle.runs.proofs.ascii.joined.Goals as goal
 
-pub loop-k-preserved : goal.loop-k-preserved
-loop-k-preserved c =
-    let at-loop = c.loop-k in
-    (omega arith, omega arith, below_more (λ j. _) _ (λ j h. or_left _ _ _ (at-loop.invariant.2 j h)) (or_right at-loop.all _))
-
 pub returns : goal.returns
-returns c = λ j h. c.loop-k.invariant.2 j (omega arith)
+returns c = λ j h.
+    let all : c.fold.result ≡ fold bit_or 0 c.args.bytes.now = search rules in
+    rw all (at_least_each 0 c.args.bytes.now j h)

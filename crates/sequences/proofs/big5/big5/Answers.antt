@@ -23,7 +23,7 @@ pub returns-then-have-lt2 : goal.returns-then-have-lt2
 unfolding layout_of
 returns-then-have-lt2 c =
     let args = c.args in
-    λ xs. c.waits.ensures ∙ sym (big5_wait (lent args.table.now []) args.have args.b0 args.b1 xs (holds c.leads.ensures (not_from_true _ c.if-not-leads.false)) (omega arith))
+    λ xs. sym (big5_wait (lent args.table.now []) args.have args.b0 args.b1 xs (holds c.leads.ensures (not_from_true _ c.if-not-leads.false)) (omega arith))
 
 pub pair-requires : goal.pair-requires
 unfolding layout_of

@@ -25,7 +25,7 @@ returns-then-b0-eq142 c =
 pub returns-then-have-lt2 : goal.returns-then-have-lt2
 returns-then-have-lt2 c =
     let args = c.args in
-    λ xs. c.waits.ensures ∙ sym (euc_jp-8f_wait (lent args.t1.now args.t2.now) args.have args.b0 args.b1 args.b2 xs (omega arith) (omega arith))
+    λ xs. sym (euc_jp-8f_wait (lent args.t1.now args.t2.now) args.have args.b0 args.b1 args.b2 xs (omega arith) (omega arith))
 
 pub returns-then-b0-eq143 : goal.returns-then-b0-eq143
 returns-then-b0-eq143 c =

@@ -18,7 +18,7 @@ pub returns-then-have-lt3 : goal.returns-then-have-lt3
 unfolding layout_of
 returns-then-have-lt3 c =
     let args = c.args in
-    λ xs. c.waits.ensures ∙ sym (three_wait args.jis0212.now args.have args.c args.d xs (holds c.leads.ensures (not_from_true _ c.if-not-leads.false)) (omega arith))
+    λ xs. sym (three_wait args.jis0212.now args.have args.c args.d xs (holds c.leads.ensures (not_from_true _ c.if-not-leads.false)) (omega arith))
 
 pub returns : goal.returns
 unfolding layout_of

@@ -27,7 +27,7 @@ pub returns-then-have-lt3 : goal.returns-then-have-lt3
 unfolding layout_of
 returns-then-have-lt3 c =
     let args = c.args in
-    λ xs. c.waits.ensures ∙ sym (gb18030_wait (lent args.t1.now args.t2.now) args.have args.b0 args.b1 args.b2 args.b3 xs (holds c.leads.ensures (not_from_true _ c.if-not-leads.false)) (sym c.within.ensures ∙ c.if-within.true) (omega arith))
+    λ xs. sym (gb18030_wait (lent args.t1.now args.t2.now) args.have args.b0 args.b1 args.b2 args.b3 xs (holds c.leads.ensures (not_from_true _ c.if-not-leads.false)) (sym c.within.ensures ∙ c.if-within.true) (omega arith))
 
 pub third-requires : goal.third-requires
 unfolding layout_of

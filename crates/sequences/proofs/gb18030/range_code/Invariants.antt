@@ -1,13 +1,9 @@
 use mathlib.Core.Path.{◌≡◌}
 use Rattle.standard.specs.Sequences.Gb18030.{gb18030_range}
-use lib.ListN.{length, drop}
-use Prim.Native.Nat.{◌≤◌, ◌*◌, ◌/◌, ◌-◌}
+use lib.ListN.{drop}
+use Prim.Native.Nat.{◌*◌}
 use Rattle.sequences.proofs.gb18030.range_code.Given as goal
 
--- At each turn: the search of all pairs is the search of those from pair i on, with the answer so far.
--- The pairs left fall by one.
+-- The invariant: the search of all pairs is the search of those from pair i on, with the answer so far.
 abbrev pub invariant-loop-i : goal.invariant-loop-i
-invariant-loop-i l = (l.i ≤ length l.ranges / 2) × (gb18030_range l.ranges l.p 0 ≡ gb18030_range (drop (l.i * 2) l.ranges) l.p l.found)
-
-abbrev pub decreases-loop-i : goal.decreases-loop-i
-decreases-loop-i l = length l.ranges / 2 - l.i
+invariant-loop-i l = gb18030_range l.ranges l.p 0 ≡ gb18030_range (drop (l.i * 2) l.ranges) l.p l.found

@@ -23,7 +23,7 @@ returns-then-not-within c =
 pub returns-then-have-lt4 : goal.returns-then-have-lt4
 returns-then-have-lt4 c =
     let args = c.args in
-    λ xs. c.waits.ensures ∙ sym (third_wait args.ranges.now args.have args.b args.c args.d args.e xs (holds c.within.ensures (not_from_true _ c.if-not-within.false)) (omega arith))
+    λ xs. sym (third_wait args.ranges.now args.have args.b args.c args.d args.e xs (holds c.within.ensures (not_from_true _ c.if-not-within.false)) (omega arith))
 
 pub returns-then-not-within-2 : goal.returns-then-not-within-2
 returns-then-not-within-2 c =

@@ -12,7 +12,7 @@ use Rattle.sequences.proofs.iso_2022_jp.iso_2022_jp.Goals as goal
 pub returns-then-have-lt2 : goal.returns-then-have-lt2
 returns-then-have-lt2 c =
     let args = c.args in
-    λ second xs. c.waits.ensures ∙ sym (iso_2022_jp_1b_wait (lent args.t1.now second) (shift args.state (eqb args.flag 1)) args.have args.b0 args.b1 args.b2 xs (omega arith) (omega arith))
+    λ second xs. sym (iso_2022_jp_1b_wait (lent args.t1.now second) (shift args.state (eqb args.flag 1)) args.have args.b0 args.b1 args.b2 xs (omega arith) (omega arith))
 
 pub returns-then-b0-eq27 : goal.returns-then-b0-eq27
 returns-then-b0-eq27 c =
@@ -34,7 +34,7 @@ pub returns-then-have-lt2-2 : goal.returns-then-have-lt2-2
 unfolding layout_of
 returns-then-have-lt2-2 c =
     let args = c.args in
-    λ second xs. c.waits-then-have-lt2-2.ensures ∙ sym (iso_2022_jp_wait (lent args.t1.now second) (shift args.state (eqb args.flag 1)) args.have args.b0 args.b1 args.b2 xs (omega arith) (omega arith) (holds c.leads.ensures (not_from_true _ c.if-not-leads.false)) (omega arith))
+    λ second xs. sym (iso_2022_jp_wait (lent args.t1.now second) (shift args.state (eqb args.flag 1)) args.have args.b0 args.b1 args.b2 xs (omega arith) (omega arith) (holds c.leads.ensures (not_from_true _ c.if-not-leads.false)) (omega arith))
 
 pub returns : goal.returns
 unfolding layout_of

@@ -1,13 +1,8 @@
 use mathlib.Core.Path.{sym, ◌∙◌}
 use Rattle.layouts.specs.Rows.{layout_of}
-use Rattle.sequences.proofs.Iso2022JpLeaves.{trail_1b, trail_null, trail_some}
+use Rattle.sequences.proofs.Iso2022JpLeaves.{trail_null, trail_some}
 use native.Mathlib.Omega.{arith}
 use Rattle.sequences.proofs.iso_2022_jp.trail.Goals as goal
-
-pub returns-then-c-eq27 : goal.returns-then-c-eq27
-returns-then-c-eq27 c =
-    let args = c.args in
-    c.fails.ensures ∙ sym (trail_1b args.jis0208.now args.b args.c (omega arith))
 
 pub returns-then-u-eq0 : goal.returns-then-u-eq0
 unfolding layout_of

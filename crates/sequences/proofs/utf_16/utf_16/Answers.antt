@@ -7,7 +7,7 @@ use Rattle.sequences.proofs.utf_16.utf_16.Goals as goal
 pub returns-then-have-lt2 : goal.returns-then-have-lt2
 returns-then-have-lt2 c =
     let args = c.args in
-    λ xs. c.waits.ensures ∙ sym (utf_16_short args.be args.have args.b0 args.b1 args.b2 args.b3 xs (omega arith))
+    λ xs. sym (utf_16_short args.be args.have args.b0 args.b1 args.b2 args.b3 xs (omega arith))
 
 pub returns-then-u-lt55296 : goal.returns-then-u-lt55296
 returns-then-u-lt55296 c =
@@ -27,7 +27,7 @@ returns-then-u-gt56319 c =
 pub returns-then-have-lt4 : goal.returns-then-have-lt4
 returns-then-have-lt4 c =
     let args = c.args in
-    λ xs. c.waits-then-have-lt4.ensures ∙ sym (utf_16_wait args.be args.have args.b0 args.b1 args.b2 args.b3 xs c.unit-u.result c.unit-u.ensures (omega arith) (omega arith) (omega arith) (omega arith))
+    λ xs. sym (utf_16_wait args.be args.have args.b0 args.b1 args.b2 args.b3 xs c.unit-u.result c.unit-u.ensures (omega arith) (omega arith) (omega arith) (omega arith))
 
 pub returns : goal.returns
 returns c =

@@ -26,7 +26,7 @@ all c =
     let k = args.place % 2 + c.put_blocks-b.result.length in
     let n = length args.chunk.now in
     let z : n - (args.from + k) ≡ n - args.from - k = omega arith in
-    last_part (args.from + k) (n - args.from) refl (omega (arith, c.put_blocks-b.ensures.0, c.requires.2)) (counted c) (rw z at c.in_bytes-last.ensures)
+    last_part (args.from + k) (n - args.from) refl (omega (arith, c.put_blocks-b.ensures.0, c.requires.1)) (counted c) (rw z at c.in_bytes-last.ensures)
 
 pub overflow_add-result : goal.overflow_add-result
 overflow_add-result c = omega (arith, at_most (counted (goal.at.overflow_add-result c).After-in_bytes-last), c.requires.1, c.put_blocks-b.ensures.0)
@@ -42,7 +42,7 @@ returns c =
     let short = c.put_blocks-b.ensures.0 in
     let k = args.place % 2 + c.put_blocks-b.result.length in
     let n = length args.chunk.now - args.from in
-    let two = through_on v c.put_bytes.ensures refl refl (omega (arith, ready, c.requires.2)) c.put_blocks-b.ensures.1 in
-    let three = through_on v two refl refl (omega (arith, ready, short, c.requires.2)) c.put_bytes-2.ensures in
-    let z : k + (n - k) ≡ n = omega (arith, short, c.requires.2) in
+    let two = through_on v c.put_bytes.ensures refl refl (omega (arith, ready, c.requires.1)) c.put_blocks-b.ensures.1 in
+    let three = through_on v two refl refl (omega (arith, ready, short, c.requires.1)) c.put_bytes-2.ensures in
+    let z : k + (n - k) ≡ n = omega (arith, short, c.requires.1) in
     (rw z at three, (all (goal.at.returns c).After-in_bytes-last).is)

@@ -9,34 +9,26 @@ use Rattle.word_runs.proofs.Values.{wrote_on}
 use Rattle.runs.proofs.Patches.{patch_none}
 use Rattle.word_runs.proofs.single_byte.put_words.Goals as goal
 
-pub loop-j-init : goal.loop-j-init
+pub loop-t-init : goal.loop-t-init
 unfolding values
-loop-j-init c =
-    let args = c.args in
-    (omega arith, refl, refl, patch_none args.room.now args.o)
+loop-t-init c = (refl, patch_none c.args.room.now c.args.o)
 
 pub put_sixteen-requires : goal.put_sixteen-requires
-put_sixteen-requires c =
-    let at-loop = c.loop-j in
-    let pre = c.requires in
-    (pre.0, pre.1, pre.2, omega (arith, pre.3, at-loop.invariant.1), omega (arith, pre.4, at-loop.invariant.1, at-loop.invariant.2))
+put_sixteen-requires c = (c.requires.0, omega arith, omega (arith, c.requires.1, c.loop-t.invariant.0))
 
-pub loop-j-preserved : goal.loop-j-preserved
-loop-j-preserved c =
+pub loop-t-preserved : goal.loop-t-preserved
+loop-t-preserved c =
     let args = c.args in
-    let at-loop = c.loop-j in
-    let f : ℕ → ℕ = λ (k : ℕ). get_or args.table.now (byte_of args.words.now k) 0 in
-    let z : at-loop.j * 2 + 32 ≡ (at-loop.j + 16) * 2 = omega arith in
-    let wrote = wrote_on args.room.now at-loop.room _ args.o f (λ (k : ℕ). f (at-loop.j * 2 + k)) (at-loop.j * 2) 32
-    at-loop.invariant.3 c.put_sixteen.ensures (λ k l. refl) (omega (arith, c.requires.4)) in
-    (omega (arith, at-loop.invariant.1), omega (arith, at-loop.invariant.1), omega (arith, at-loop.invariant.2), wrote ∙ ap (λ (n : ℕ). patch args.o (values f n) args.room.now) z)
-
-pub shape_of-room : goal.shape_of-room
-shape_of-room c = c.loop-j.invariant.2
+    let t = c.loop-t.t in
+    let inv = c.loop-t.invariant in
+    let scalar : ℕ → ℕ = λ (i : ℕ). get_or args.table.now (byte_of args.words.now i) 0 in
+    let place : t * 16 * 2 ≡ t * 32 = omega arith in
+    let all : t * 32 + 32 ≡ (t + 1) * 32 = omega arith in
+    let wrote = wrote_on args.room.now c.loop-t.room _ args.o scalar (λ (k : ℕ). scalar (t * 16 * 2 + k)) (t * 32) 32 inv.1 c.put_sixteen.ensures
+    (λ k l. ap (λ (i : ℕ). scalar (i + k)) place) (omega (arith, c.requires.1)) in
+    (omega (arith, inv.0), wrote ∙ ap (λ (n : ℕ). patch args.o (values scalar n) args.room.now) all)
 
 pub returns : goal.returns
 returns c =
-    let args = c.args in
-    let at-loop = c.loop-j in
-    let all : at-loop.j ≡ 192 = omega arith in
-    at-loop.invariant.3 ∙ ap (λ (n : ℕ). patch args.o (values (λ (k : ℕ). get_or args.table.now (byte_of args.words.now k) 0) (n * 2)) args.room.now) all
+    let all : c.loop-t.t ≡ 12 = omega arith in
+    c.loop-t.invariant.1 ∙ ap (λ (n : ℕ). patch c.args.o (values (λ (k : ℕ). get_or c.args.table.now (byte_of c.args.words.now k) 0) (n * 32)) c.args.room.now) all

@@ -10,11 +10,6 @@ returns-then-not-ready_plain c =
     let args = c.args in
     counts_none (lent args.t1.now args.t2.now) single-byte args.mode c.unread.ensures
 
-pub returns-then-t1-lt128 : goal.returns-then-t1-lt128
-returns-then-t1-lt128 c =
-    let args = c.args in
-    counts_none (lent args.t1.now args.t2.now) single-byte args.mode c.unread-then-t1-lt128.ensures
-
 pub single_byte_text-requires : goal.single_byte_text-requires
 single_byte_text-requires c =
     let args = c.args in

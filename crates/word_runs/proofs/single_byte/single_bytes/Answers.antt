@@ -1,26 +1,31 @@
 use native.Mathlib.Omega.{arith}
+use native.Mathlib.Nat.{add-zero}
+use mathlib.Core.Path.{◌≡◌, ap, ◌∙◌}
+use Prim.Native.Nat.{◌+◌, ◌-◌}
+use lib.ListN.{length}
+use Rattle.std.proofs.lemmas.List.Edits.{get_or-between, length-between}
+use Rattle.word_runs.specs.Bytes.{byte_scalar}
 use Rattle.runs.proofs.Running.{going_start}
 use Rattle.word_runs.proofs.ByteRuns.{single_step}
 use Rattle.word_runs.proofs.single_byte.single_bytes.Goals as goal
 
-pub loop-i-init : goal.loop-i-init
-loop-i-init c = going_start c.requires.1
+pub loop-k-init : goal.loop-k-init
+loop-k-init c = (rw (add-zero c.args.from, add-zero c.args.place) (going_start c.requires.1), omega arith)
 
-pub shape_of-room-then-c-eq1114112 : goal.shape_of-room-then-c-eq1114112
-shape_of-room-then-c-eq1114112 c = c.loop-i.invariant.runs.size
-
-pub returns-then-c-eq1114112 : goal.returns-then-c-eq1114112
-returns-then-c-eq1114112 c = c.loop-i.invariant.runs
-
-pub loop-i-preserved : goal.loop-i-preserved
-loop-i-preserved c =
+pub loop-k-preserved : goal.loop-k-preserved
+loop-k-preserved c =
     let args = c.args in
-    let at-loop = c.loop-i in
-    let at-scalar = c.scalar-c in
-    single_step args.t1.now args.t2.now args.mode args.chunk.now args.from at-loop.i args.place at-loop.o args.room.now at-loop.room at-loop.invariant at-scalar.result at-scalar.ensures c.if-c-eq1114112.false (omega arith)
-
-pub shape_of-room : goal.shape_of-room
-shape_of-room c = c.loop-i.invariant.runs.size
+    let chunk = args.chunk.now in
+    let k = c.loop-k.k in
+    let byte = get_or-between chunk args.from (length chunk) k 0 (omega arith) in
+    let at : args.from + k + 1 ≡ args.from + (k + 1) = omega arith in
+    let to : args.place + k + 1 ≡ args.place + (k + 1) = omega arith in
+    let is = c.in-Some.ensures.0 ∙ ap (byte_scalar args.mode args.t1.now) byte in
+    let on = single_step args.t1.now args.t2.now args.mode chunk args.from (args.from + k) args.place (args.place + k) args.room.now c.loop-k.room c.loop-k.invariant.0 _ is c.in-Some.ensures.1 (omega arith) in
+    (rw (at, to) at on, omega arith)
 
 pub returns : goal.returns
-returns c = c.loop-i.invariant.runs
+returns c =
+    let chunk = c.args.chunk.now in
+    let all : c.loop-k.k ≡ length chunk - c.args.from = omega (arith, length-between chunk c.args.from (length chunk) (omega arith)) in
+    rw all at c.loop-k.invariant.0.runs

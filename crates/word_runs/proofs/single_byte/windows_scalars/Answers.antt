@@ -1,5 +1,4 @@
 use Prim.Native.Nat.{◌-◌}
-use native.Mathlib.Omega.{arith}
 use lib.ListN.{length}
 use mathlib.Core.Path.{refl}
 use Rattle.word_runs.specs.Bytes.{windows_scalar}
@@ -13,7 +12,7 @@ windows_bytes-requires c = (refl, c.requires)
 
 pub fill_windows-requires : goal.fill_windows-requires
 unfolding irregular
-fill_windows-requires c = (refl, omega arith)
+fill_windows-requires c = refl
 
 pub returns : goal.returns
 returns c =

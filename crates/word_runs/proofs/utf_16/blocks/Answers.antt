@@ -1,7 +1,7 @@
+use Rattle.std.proofs.lemmas.List.{length-replicate}
 use native.Mathlib.Omega.{arith}
-use mathlib.Core.Path.{refl}
+use mathlib.Core.Path.{◌∙◌}
 use Prim.Native.Nat.{ℕ, ◌+◌, ◌*◌}
-use lib.ListN.{length}
 use Rattle.standard.specs.Sequence.{plain}
 use Rattle.standard.specs.Encodings.{no_tables}
 use Rattle.word_runs.specs.Units.{utf16_family}
@@ -9,47 +9,41 @@ use Rattle.word_runs.proofs.Utf16Runs.{counting_put}
 use Rattle.runs.proofs.Counting.{Counting, counting_start, counting_fewer}
 use Rattle.word_runs.proofs.utf_16.blocks.Goals as goal
 
-pub loop-i-init : goal.loop-i-init
-loop-i-init c =
-    let pre = c.requires in
-    (refl, refl, omega arith, refl, pre.1, pre.2, pre.0, λ m. counting_start pre.0)
+pub loop-at-init : goal.loop-at-init
+loop-at-init g c =
+    record { space = omega arith; size = length-replicate g.row.N 0; ready = c.requires.0; run = λ m. counting_start c.requires.0 }
 
-pub shape_of-room-then-surrogates-ne0 : goal.shape_of-room-then-surrogates-ne0
-shape_of-room-then-surrogates-ne0 c = (c.loop-i.invariant.7 0).going.runs.size
+pub overflow_sub-chunk : goal.overflow_sub-chunk
+overflow_sub-chunk g c = c.loop-at.invariant.ready.begun
 
-pub returns-then-surrogates-ne0 : goal.returns-then-surrogates-ne0
-returns-then-surrogates-ne0 c = λ m. let C = c.loop-i.invariant.7 m in record { runs = C.going.runs; lines = C.lines }
+pub returns-then-not-all_clear : goal.returns-then-not-all_clear
+returns-then-not-all_clear g c = λ m. let C = c.loop-at.invariant.run m in record { runs = C.going.runs; lines = C.lines }
 
-pub feeds-requires : goal.feeds-requires
-feeds-requires c =
-    let inv = c.loop-i.invariant in
-    omega (arith, inv.3, inv.5)
+pub put_units-requires : goal.put_units-requires
+put_units-requires g c = let inv = c.loop-at.invariant in omega (arith, inv.size, inv.ready.fits)
 
 pub overflow_add-lines : goal.overflow_add-lines
-overflow_add-lines c =
-    let inv = c.loop-i.invariant in
-    omega (arith, c.feeds.ensures.1, inv.0, inv.1, inv.2, inv.3, inv.6, counting_fewer (inv.7 0), (inv.7 0).going.runs.size)
+overflow_add-lines g c =
+    let inv = c.loop-at.invariant in
+    omega (arith, c.feeds.ensures.1, inv.size, inv.space, inv.ready, counting_fewer (inv.run 0), (inv.run 0).going.runs.size)
 
-pub overflow_add-o : goal.overflow_add-o
-overflow_add-o c =
-    let inv = c.loop-i.invariant in
-    omega (arith, inv.0, inv.1, inv.2, inv.6, (inv.7 0).going.runs.size)
+pub overflow_add-written : goal.overflow_add-written
+overflow_add-written g c =
+    let inv = c.loop-at.invariant in
+    omega (arith, inv.space, inv.ready, (inv.run 0).going.runs.size)
 
-pub loop-i-preserved : goal.loop-i-preserved
-loop-i-preserved c =
+pub loop-at-preserved : goal.loop-at-preserved
+loop-at-preserved g c =
     let args = c.args in
-    let loop = c.loop-i in
+    let loop = c.loop-at in
     let inv = loop.invariant in
     let words = c.read_words.ensures in
-    let none = c.surrogates.ensures c.if-surrogates-ne0.false in
-    let on : (m : ℕ) → Counting no_tables (utf16_family args.be) m args.chunk.now args.from (loop.i + length args.words.now * 2) plain plain
-    args.place (loop.o + length args.words.now) (loop.lines + c.feeds.result) args.room.now c.put_units.new.room =
-    λ m. counting_put args.be m args.chunk.now args.from loop.i args.place loop.o args.room.now loop.room _ loop.words _
-    (inv.7 m) (length args.words.now) inv.3 words.0 words.1 none (omega (arith, inv.0, inv.1, inv.6)) c.put_units.ensures c.feeds.ensures.0 in
-    (inv.0, inv.1, inv.2, omega (arith, inv.3), inv.4, inv.5, (on 0).going.here, on)
-
-pub shape_of-room : goal.shape_of-room
-shape_of-room c = (c.loop-i.invariant.7 0).going.runs.size
+    let none = c.all_clear.ensures c.if-not-all_clear.false in
+    let on : (m : ℕ) → Counting no_tables (utf16_family args.be) m args.chunk.now args.from (loop.at + g.row.N * 2) plain plain
+    args.place (loop.written + g.row.N) (loop.lines + c.from-lines.result) args.room.now c.put_units.new.room =
+    λ m. counting_put args.be m args.chunk.now args.from loop.at args.place loop.written args.room.now loop.room _ loop.words _
+    (inv.run m) g.row.N inv.size words.0 words.1 none (omega (arith, inv.ready.begun)) c.put_units.ensures (c.from-lines.ensures ∙ c.feeds.ensures.0) in
+    record { space = inv.space; size = omega (arith, inv.size); ready = (on 0).going.here; run = on }
 
 pub returns : goal.returns
-returns c = λ m. let C = c.loop-i.invariant.7 m in record { runs = C.going.runs; lines = C.lines }
+returns g c = λ m. let C = c.loop-at.invariant.run m in record { runs = C.going.runs; lines = C.lines }

@@ -1,5 +1,5 @@
 use mathlib.Core.Path.{◌≡◌}
-use Prim.Native.Nat.{ℕ, ◌-◌, ◌≤◌, ◌<◌}
+use Prim.Native.Nat.{ℕ, ◌-◌, ◌<◌}
 use lib.ListN.{length}
 use Rattle.standard.specs.Sequence.{plain}
 use Rattle.standard.specs.Encodings.{no_tables}
@@ -8,10 +8,15 @@ use Rattle.word_runs.specs.Units.{utf16_family}
 use Rattle.runs.proofs.Counting.{Counting}
 use Rattle.word_runs.proofs.utf_16.blocks.Given as goal
 
--- The invariant: in any mode a run has come from the start to this place, another can begin there, and the array is as long as at the start, 1 to 64.
+-- The invariant: in any mode a run has come from the start to this place, and another can begin there.
 -- The bytes that are left fall at each turn, by a block.
-abbrev pub invariant-loop-i : goal.invariant-loop-i
-invariant-loop-i l = (l.n ≡ length l.chunk) × (l.size ≡ length l.initial.words) × (length l.initial.room < 18446744073709551616) × (length l.words ≡ length l.initial.words) × (1 ≤ length l.initial.words) × (length l.initial.words ≤ 64) × (Ready l.chunk l.i l.room l.o) × ((m : ℕ) → Counting no_tables (utf16_family l.be) m l.chunk l.from l.i plain plain l.place l.o l.lines l.initial.room l.room)
+abbrev pub invariant-loop-at : goal.invariant-loop-at
+invariant-loop-at g l = record {
+  space : length l.initial.room < 18446744073709551616;
+  size : length l.words ≡ g.row.N;
+  ready : Ready l.chunk l.at l.room l.written;
+  run : (m : ℕ) → Counting no_tables (utf16_family l.be) m l.chunk l.from l.at plain plain l.place l.written l.lines l.initial.room l.room;
+}
 
-abbrev pub decreases-loop-i : goal.decreases-loop-i
-decreases-loop-i l = length l.chunk - l.i
+abbrev pub decreases-loop-at : goal.decreases-loop-at
+decreases-loop-at g l = length l.chunk - l.at

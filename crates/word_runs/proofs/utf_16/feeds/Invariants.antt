@@ -1,14 +1,10 @@
 use mathlib.Core.Path.{◌≡◌}
-use Prim.Native.Nat.{ℕ, ◌-◌, ◌≤◌}
-use lib.ListN.{length, get_or}
+use Prim.Native.Nat.{ℕ}
+use lib.ListN.{get_or}
 use Rattle.standard.specs.Base.{line_feeds}
 use Rattle.word_runs.specs.Units.{values, oriented}
 use Rattle.word_runs.proofs.utf_16.feeds.Given as goal
 
--- The invariant: `count` line feeds are among the first k units.
--- What is left of n falls by one at each turn.
-abbrev pub invariant-loop-k : goal.invariant-loop-k
-invariant-loop-k l = (l.k ≤ l.n) × (l.n ≡ length l.words) × (l.n ≤ 64) × (l.count ≡ line_feeds (values (λ (j : ℕ). oriented l.be (get_or l.words j 0)) l.k))
-
-abbrev pub decreases-loop-k : goal.decreases-loop-k
-decreases-loop-k l = l.n - l.k
+-- The invariant: `count` line feeds are among the units so far.
+abbrev pub invariant-loop-word : goal.invariant-loop-word
+invariant-loop-word l = l.count ≡ line_feeds (values (λ (j : ℕ). oriented l.be (get_or l.words j 0)) l.word-index)

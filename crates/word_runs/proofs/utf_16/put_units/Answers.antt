@@ -10,22 +10,16 @@ use Rattle.word_runs.proofs.utf_16.put_units.Goals as goal
 
 pub loop-k-init : goal.loop-k-init
 unfolding values
-loop-k-init c =
-    let args = c.args in
-    (omega arith, refl, refl, patch_none args.room.now args.o)
+loop-k-init c = (refl, patch_none c.args.room.now c.args.o)
 
 pub loop-k-preserved : goal.loop-k-preserved
 loop-k-preserved c =
     let args = c.args in
     let at-loop = c.loop-k in
-    (omega arith, at-loop.invariant.1, simp length-set at-loop.invariant.2, wrote_more args.room.now at-loop.room args.o (λ (j : ℕ). oriented args.be (get_or args.words.now j 0)) at-loop.k at-loop.invariant.3 (omega (arith, at-loop.invariant.1)) c.oriented.result c.oriented.ensures)
-
-pub shape_of-room : goal.shape_of-room
-shape_of-room c = c.loop-k.invariant.2
+    (simp length-set at-loop.invariant.0, wrote_more args.room.now at-loop.room args.o (λ (j : ℕ). oriented args.be (get_or args.words.now j 0)) at-loop.k at-loop.invariant.1 (omega arith) c.from.result (c.from.ensures ∙ c.oriented.ensures))
 
 pub returns : goal.returns
 returns c =
     let args = c.args in
-    let at-loop = c.loop-k in
-    let all : at-loop.k ≡ length args.words.now = omega (arith, at-loop.invariant.1) in
-    at-loop.invariant.3 ∙ ap (λ (n : ℕ). patch args.o (values (λ (j : ℕ). oriented args.be (get_or args.words.now j 0)) n) args.room.now) all
+    let all : c.loop-k.k ≡ length args.words.now = omega arith in
+    c.loop-k.invariant.1 ∙ ap (λ (n : ℕ). patch args.o (values (λ (j : ℕ). oriented args.be (get_or args.words.now j 0)) n) args.room.now) all

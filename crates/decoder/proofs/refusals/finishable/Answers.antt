@@ -1,0 +1,17 @@
+use mathlib.Core.Path.{sym}
+use Rattle.std.proofs.lemmas.Result.{err_from_is_err_and}
+use Rattle.standard.specs.Encodings.{lent}
+use Rattle.decoder.proofs.Checks.{finish_refused, finish_tables}
+use Rattle.decoder.proofs.refusals.finishable.Goals as goal
+
+pub returns-in_err-usable : goal.returns-in_err-usable
+returns-in_err-usable c =
+    let p = err_from_is_err_and c.from_residual.result c.from_residual.ensures.1 in
+    rw (p.1, p.2) (λ room. finish_refused c.args.d (lent c.args.t1.now c.args.t2.now) room _ c.in_err-usable.ensures)
+
+pub returns-then-misfits : goal.returns-then-misfits
+returns-then-misfits c room =
+    finish_tables c.args.d (lent c.args.t1.now c.args.t2.now) room c.in_ok-usable.ensures (sym c.if-misfits.ensures)
+
+pub returns : goal.returns
+returns c = (c.in_ok-usable.ensures, sym c.if-misfits.ensures)

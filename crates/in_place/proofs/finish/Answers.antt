@@ -1,9 +1,0 @@
--- The reply, the record and the room are those of the by-value call. Assumes nothing.
-use Rattle.std.proofs.Common.{ap}
-use Rattle.decoder.specs.declared.Answer.{Answer}
-use Rattle.in_place.specs.Replies.{reply_of}
-use Rattle.in_place.proofs.finish.Goals as goal
-
-pub returns : goal.returns
-returns c =
-    (ap reply_of c.finish-last.ensures.0, ap (λ (a : Answer). a.decoder) c.finish-last.ensures.0, c.finish-last.ensures.1)
