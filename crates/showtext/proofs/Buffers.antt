@@ -1,5 +1,6 @@
 -- What a buffer leaves, from what its calls leave. Assumes nothing.
 use mathlib.Core.Path.{◌≡◌, refl, sym, ap, ◌∙◌}
+use mathlib.Core.Bool.{Bool, true, false, not}
 use mathlib.Core.List.{List, [], ◌∷◌, ◌++◌}
 use Prim.Native.Nat.{ℕ, ◌+◌, ◌-◌, ◌*◌, ◌≤◌, ◌<◌}
 use native.Mathlib.Nat.{zero-add}
@@ -10,15 +11,17 @@ use lib.Seq.{sets-eq, take-append_seam}
 use Rattle.std.proofs.Common.{Result}
 use Rattle.program_text.proofs.Fronts.{front}
 use borrow.Author.Tests.{lt-ltb, le-ltb, eq-eqb, ne_eqb, ltb-true, ltb-false, eqb-true, eqb-false}
+use Rattle.standard.specs.Base.{◌then◌else◌}
 use Rattle.standard.specs.Text.{bytes}
-use Rattle.standard.specs.Encodings.{Tables, no_tables}
+use Rattle.standard.specs.Encodings.{Tables, no_tables, family, fits}
 use Rattle.standard.specs.Decode.{Item, shown, before}
 use Rattle.standard.specs.Choice.{Parsed}
 use Rattle.standard.proofs.Tests.{split}
 use Rattle.labels_spec.specs.Labels.{label, name}
 use Rattle.labels_spec.specs.declared.Found.{Found}
 use Rattle.decoder.specs.Record.{holding, closed}
-use Rattle.decoder.specs.Calls.{Outcome, hand_out, opening, read_on, feeding, read_end, finishing}
+use Rattle.decoder.specs.Valid.{valid}
+use Rattle.decoder.specs.Calls.{Outcome, hand_out, opening, feed_refusal, read_on, feeding, read_end, finishing}
 use Rattle.decoder.specs.declared.Decoder.{Decoder}
 use Rattle.decoder.specs.declared.Answer.{Answer}
 use Rattle.demands.proofs.Steps.{handed_is, fed_out, feed_is, finish_is}
@@ -93,6 +96,36 @@ fed_fits d chunk room p q = fitting (feeding d no_tables chunk room) room (feed_
 pub finished_fits : (d : Decoder) (room : List ℕ) {a : Answer} {room' : List ℕ} → a ≡ (finishing d no_tables room).answer → room' ≡ (finishing d no_tables room).room → (a.written ≤ length room) × (a.written ≤ length room')
 finished_fits d room p q = fitting (finishing d no_tables room) room (finish_few d room) ((room_kept d).finished no_tables room) p q
 
+-- A feed that is not refused takes its chunk, and no more than a decoder takes.
+Takes : Decoder → List ℕ → Outcome → Type 0
+Takes d chunk o = o.answer.refusal ≡ 0 → (o.answer.decoder.taken ≡ d.taken + length chunk) × (d.taken + length chunk ≤ 4294967295)
+
+within_limit : (d : Decoder) (chunk room : List ℕ) → feed_refusal d no_tables chunk room ≡ 0 → d.taken + length chunk ≤ 4294967295
+unfolding feed_refusal
+within_limit d chunk room z = ltb-false 4294967295 (d.taken + length chunk)
+    (go (not (valid d)) (eqb d.ended 1) (not (fits (family d.encoding) no_tables)) (ltb 65536 (length chunk)) (ltb 4294967295 (d.taken + length chunk)) (ltb (length room) (length chunk + d.held)) z)
+  where
+    go : (a b c e g f : Bool) → ◌≡◌ {A = ℕ} (a then 5 else b then 6 else c then 4 else e then 8 else g then 14 else f then 7 else 0) 0 → g ≡ false
+    go true b c e g f q = absurd (omega (arith, q))
+    go false true c e g f q = absurd (omega (arith, q))
+    go false false true e g f q = absurd (omega (arith, q))
+    go false false false true g f q = absurd (omega (arith, q))
+    go false false false false true f q = absurd (omega (arith, q))
+    go false false false false false f q = refl
+
+fed_takes : (d : Decoder) (chunk room : List ℕ) → Takes d chunk (feeding d no_tables chunk room)
+unfolding Takes
+fed_takes d chunk room = feed_is (Takes d chunk) d no_tables chunk room
+    (λ z. handed_is (Takes d chunk) d.encoding d.mode (d.taken - d.held) n d.lines r.items (λ l. holding d.encoding d.mode n l r.spot r.rest) room
+    (λ q. absurd (omega (arith, q))) (λ q. (refl, within_limit d chunk room z)))
+    (λ z q. absurd (eqb-false (feed_refusal d no_tables chunk room) 0 z q))
+  where
+    r : Parsed
+    r = read_on d no_tables chunk
+
+    n : ℕ
+    n = d.taken + length chunk
+
 pub shown_few : (n w : ℕ) (room : List ℕ) → length (scalar_lines n (take w room)) ≤ 32 * w
 shown_few n w room = omega (arith, lines_few n (take w room), length-take w room)
 
@@ -117,6 +150,13 @@ module _ (us : List ℕ) (d : Decoder) (n : ℕ) (chunk room out : List ℕ) whe
       feeding_on us d n chunk room out ≡ leave d 0 on.answer.refusal (refused on.answer.refusal) on.room out
   unfolding feeding_on
   on_refused z = rw (ne_eqb on.answer.refusal 0 z)
+
+  -- how much the decoder has taken
+  on_taken : let s = (feeding_on us d n chunk room out).shown in s.refusal ≡ 0 → (s.decoder.taken ≡ d.taken + length chunk) × (d.taken + length chunk ≤ 4294967295)
+  unfolding Takes
+  on_taken = split (eqb on.answer.refusal 0)
+      (λ z. let zero = eqb-true on.answer.refusal 0 z in rw (on_fed zero) (λ _. fed_takes d chunk room zero))
+      (λ z. let some = eqb-false on.answer.refusal 0 z in rw (on_refused some) (λ q. absurd (some q)))
 
   module _ (k : length us ≤ 32) (h : 32 * length room + 32 ≤ length out) where
     text_few : length (us ++ lines_of n on) ≤ length out
@@ -207,6 +247,12 @@ module _ (input room out : List ℕ) where
       (λ e. rw (begin_text (eqb-false (label_refusal input) 1 e))
       (let few = on_few (heading found.encoding) opened 0 (after_line input) room out (encoding_few found.encoding) h in (omega (arith, few.0), few.1)))
 
+  begin_taken : let s = (beginning input room out).shown in s.refusal ≡ 0 → s.decoder.taken ≤ 4294967295
+  begin_taken = split (eqb (label_refusal input) 1)
+      (λ e. rw (begin_refused (eqb-true (label_refusal input) 1 e)) (λ z. absurd (omega (arith, z))))
+      (λ e. rw (begin_text (eqb-false (label_refusal input) 1 e))
+      (λ z. let k = on_taken (heading found.encoding) opened 0 (after_line input) room out z in omega (arith, k.0, k.1)))
+
   -- the same from the answers of the calls
   pub begun_refused : {r : ℕ} → r ≡ label_refusal input → r ≡ 1 → Refused (beginning input room out) Label
   begun_refused q z = rw (begin_refused (rw q at z)) (left_line opened Label room out refl (omega arith))
@@ -231,3 +277,18 @@ module _ {p : Progress} {room' out' : List ℕ} where
   pub went_few : (d : Decoder) (n : ℕ) (chunk room out : List ℕ) → 32 * length room + 32 ≤ length out →
       Left (going_on d n chunk room out) p room' out' → (p.count ≤ n + length room) × (p.length ≤ length out)
   went_few d n chunk room out h l = left_few l (rw (going_is d n chunk room out) (on_few [] d n chunk room out (omega arith) h))
+
+  -- how much the decoder has taken
+  left_taken : {l : Leaves} → Left l p room' out' → (l.shown.refusal ≡ 0) × (p.decoder.taken ≡ l.shown.decoder.taken)
+  left_taken l = (ap (λ (s : Shown). s.refusal) (sym l.answer), ap (λ (s : Shown). s.decoder.taken) l.answer)
+
+  pub begun_taken : (input room out : List ℕ) → Left (beginning input room out) p room' out' → p.decoder.taken ≤ 4294967295
+  begun_taken input room out l = let k = left_taken l in omega (arith, k.1, begin_taken input room out k.0)
+
+  pub went_taken : (d : Decoder) (n : ℕ) (chunk room out : List ℕ) → Left (going_on d n chunk room out) p room' out' →
+      (p.decoder.taken ≡ d.taken + length chunk) × (d.taken + length chunk ≤ 4294967295)
+  went_taken d n chunk room out l =
+      let l' = rw (going_is d n chunk room out) at l in
+      let k = left_taken l' in
+      let v = on_taken [] d n chunk room out k.0 in
+      (k.1 ∙ v.0, v.1)

@@ -1,5 +1,5 @@
 -- The steps over an input that is known: what is read, printed, and still to be printed. Assumes nothing.
-use Rattle.std.proofs.Common.{◌≡◌, refl, sym, ap, ◌∙◌, subst, ℕ, zero, suc, ◌+◌, ◌*◌, ◌-◌, ◌≤◌, ◌<◌, List, [], ◌∷◌, ◌++◌, length, take, drop, length-drop, length-take-le, length-append, append_assoc, append-nil, le_refl, arith, Option, None, Some, IfSome}
+use Rattle.std.proofs.Common.{◌≡◌, refl, sym, ap, ◌∙◌, subst, ℕ, zero, suc, ◌+◌, ◌≤◌, ◌<◌, List, [], ◌∷◌, ◌++◌, length, take, drop, length-drop, length-take-le, append_assoc, append-nil, le_refl, arith, Option, None, Some, IfSome}
 use Rattle.std.proofs.Math.Dec.{ltb, eqb}
 use Rattle.std.proofs.KnownBytes.{Appends-nil, Appends-trans}
 use Rattle.std.specs.Io.KnownBytes.{Appends, Consumes, IsAtEnd}
@@ -7,15 +7,15 @@ use borrow.Author.Tests.{lt-ltb, le-ltb, eq-eqb, ne_eqb, ltb-true, ltb-false, eq
 use Rattle.std.proofs.lemmas.List.{take-append-drop}
 use Rattle.standard.specs.Base.{◌then◌else◌}
 use Rattle.standard.proofs.Tests.{split}
-use Rattle.program_text.proofs.FirstLine.{line_cut}
-use Rattle.showtext.specs.Output.{first_line, after_line, printed}
-use Rattle.showtext.specs.Output.{refused}
+use Rattle.decoder.specs.Calls.{opening}
+use Rattle.decoder.specs.declared.Decoder.{Decoder}
+use Rattle.showtext.specs.Output.{after_line, printed, refused}
 use Rattle.showtext.specs.Refusals.{number}
 use Rattle.showtext.specs.Program.{Shown, as_shown, Leaves, Left, Refused, Ends, beginning, going_on, closing, turning, next_step, text, by_step}
 use Rattle.showtext.specs.declared.Progress.{Progress}
 use Rattle.showtext.specs.declared.Refusal.{Refusal}
-use Rattle.showtext.specs.Statements.{joined, Filled, Whole}
-use Rattle.showtext.proofs.Buffers.{at_long}
+use Rattle.showtext.specs.Statements.{joined, Filled, Whole, Stepped}
+use Rattle.showtext.proofs.Buffers.{begun_taken, went_taken}
 use Rattle.showtext.proofs.Theorems.{prints}
 
 -- An input cut into the buffers that it fills, and the empty one of the last step.
@@ -55,13 +55,17 @@ pub record Plan (full step : ℕ) (xs : List ℕ) (bs : List (List ℕ)) : Type 
   pub input : step < 2 → Cut full xs bs
   pub last : step ≡ 2 → bs ≡ [] ∷ []
 
+-- What the first step is handed is not looked at.
+pub any : Shown
+any = record { decoder = (opening 0 0 0).decoder; refusal = 0; length = 0; count = 0 }
+
 -- What is printed from a step on.
 abbrev pub behind : ℕ → ℕ → Shown → List ℕ → List ℕ → List (List ℕ) → List ℕ
 behind full step s room out bs = ltb step 3 then by_step full step s room out bs else []
 
--- Of a whole text, some is written before a step, and the steps print the rest.
-pub record ToPrint (full step : ℕ) (s : Shown) (room out xs whole written : List ℕ) : Type 0 where
-  pub still : (bs : List (List ℕ)) → Plan full step xs bs → whole ≡ written ++ behind full step s room out bs
+-- Of what the steps print of a whole input, some is written before a step, and the steps print the rest.
+pub record ToPrint (full : ℕ) (room₀ out₀ all : List ℕ) (step : ℕ) (s : Shown) (room out xs written : List ℕ) : Type 0 where
+  pub still : (bs : List (List ℕ)) → Plan full step xs bs → Stepped full room₀ out₀ all (written ++ behind full step s room out bs)
 
 module _ (full step : ℕ) (s : Shown) (room out b xs : List ℕ) (f : 0 < full) (h : step < 3) where
   abbrev l : Leaves
@@ -143,162 +147,81 @@ module _ (full step : ℕ) (s : Shown) (room out b xs : List ℕ) (f : 0 < full)
         (λ z. at_refusal bs k (eqb-false l.shown.refusal 0 z)))
 
     -- After this step.
-    pub turned : (whole written : List ℕ) → ToPrint full step s room out xs whole written → ToPrint full next l.shown l.room l.out xs' whole (written ++ text l)
-    turned whole written t = record {
+    pub turned : (room₀ out₀ all written : List ℕ) → ToPrint full room₀ out₀ all step s room out xs written →
+        ToPrint full room₀ out₀ all next l.shown l.room l.out xs' (written ++ text l)
+    turned room₀ out₀ all written t = record {
       still = λ bs p.
           let a = planned bs p in
-          t.still (b ∷ a.0) a.1.plan ∙ ap (λ us. written ++ us) (unrolled a.0 bs a.1) ∙ sym (append_assoc written (text l) (behind full next l.shown l.room l.out bs));
+          subst (Stepped full room₀ out₀ all)
+          (ap (λ us. written ++ us) (unrolled a.0 bs a.1) ∙ sym (append_assoc written (text l) (behind full next l.shown l.room l.out bs)))
+          (t.still (b ∷ a.0) a.1.plan);
     }
 
--- The reads that are left, with that of the first buffer, are enough for every input that a decoder takes.
-abbrev pub most : ℕ
-most = 0x4_0000_0000_0001
-
-pub record Far (step turns : ℕ) (all xs : List ℕ) : Type 0 where
-  pub first : step ≡ 0 → (turns ≡ most) × (xs ≡ all)
-  pub further : step ≡ 1 → (most - turns) * 256 + length xs ≤ length all
-  pub last : step ≡ 2 → (most - turns) * 256 ≤ length all + 256
-  pub line : 0 < step → step < 3 → length (first_line all) ≤ 255
-
--- Before a step: of an input the bytes xs are left, and some text is written.
-pub record State (full step : ℕ) (s : Shown) (room out : List ℕ) (turns : ℕ) (all xs written : List ℕ) : Type 0 where
-  pub prints : ToPrint full step s room out xs (printed all) written
-  pub far : Far step turns all xs
-
--- Before the first step.
-pub starting : (full : ℕ) (s : Shown) (room out all : List ℕ) → Whole full (length room) all → State full 0 s room out most all all []
-starting full s room out all w = record {
-  prints = record {
-    still = λ bs p.
-        let c = p.input (omega arith) in
-        let few : length (after_line (c.first ++ joined c.rest)) ≤ 4294967295 = rw c.bytes w.bytes in
-        sym (rw c.whole (prints.steps full s room out c.first c.rest w.cells w.low w.high c.filled few ∙ ap printed c.bytes));
-  };
-  far = record {
-    first = λ _. (refl, refl);
-    further = λ z. absurd (omega (arith, z));
-    last = λ z. absurd (omega (arith, z));
-    line = λ z _. absurd (omega (arith, z));
-  };
+-- Before the first step, whatever it is handed.
+pub starting : (full : ℕ) (s : Shown) (room out all : List ℕ) → ToPrint full room out all 0 s room out all []
+unfolding by_step turning
+starting full s room out all = record {
+  still = λ bs p.
+      let c = p.input (omega arith) in
+      record { first = c.first; rest = c.rest; filled = c.filled; whole = c.bytes; steps = λ s'. ap (by_step full 0 s room out) (sym c.whole) };
 }
 
 -- Behind the last step.
-pub ended : {full step : ℕ} {s : Shown} {room out : List ℕ} {turns : ℕ} {all xs written : List ℕ} → 3 ≤ step → State full step s room out turns all xs written → printed all ≡ written
-ended {full} {step} {s} {room} {out} {turns} {all} {xs} {written} h t =
+pub ended : {full step : ℕ} {s : Shown} {room₀ out₀ all room out xs written : List ℕ} → 3 ≤ step →
+    ToPrint full room₀ out₀ all step s room out xs written → Stepped full room₀ out₀ all written
+ended {full} {step} {s} {room₀} {out₀} {all} {room} {out} {xs} {written} h t =
     let none : behind full step s room out [] ≡ [] = rw (le-ltb step 3 h) in
-    t.prints.still [] (record { input = λ z. absurd (omega arith); last = λ z. absurd (omega arith) }) ∙ ap (λ us. written ++ us) none ∙ append-nil written
+    subst (Stepped full room₀ out₀ all) (ap (λ us. written ++ us) none ∙ append-nil written)
+    (t.still [] (record { input = λ z. absurd (omega arith); last = λ z. absurd (omega arith) }))
 
--- The line and the bytes behind it are all but a line feed.
-line_and_rest : (xs : List ℕ) → length xs ≤ length (first_line xs) + length (after_line xs) + 1
-unfolding first_line after_line
-line_and_rest [] = omega arith
-line_and_rest (b ∷ xs) = split (eqb b 0x0A) (λ e. rw e (omega arith)) (λ e. rw e (omega (arith, line_and_rest xs)))
+-- What the steps print of an input that they print as a whole.
+pub stepped_whole : {full : ℕ} {room out all text : List ℕ} → Stepped full room out all text → Whole full (length room) all → printed all ≡ text
+stepped_whole {full} {room} {out} {all} {text} t w =
+    let few : length (after_line (t.first ++ joined t.rest)) ≤ 4294967295 = rw t.whole w.bytes in
+    ap printed (sym t.whole) ∙ sym (prints.steps full any room out t.first t.rest w.cells w.low w.high t.filled few) ∙ t.steps any
 
--- No step is without a turn.
-pub enough : {full step : ℕ} {s : Shown} {room out : List ℕ} {turns : ℕ} {all xs written : List ℕ} {n : ℕ} → step < 3 → turns ≡ 0 → Whole full n all → State full step s room out turns all xs written → ⊥
-enough {full} {step} {s} {room} {out} {turns} {all} {xs} {written} {n} h z w t = split (eqb step 0)
-    (λ e. omega (arith, z, (t.far.first (eqb-true step 0 e)).0))
-    (λ e. let k : 0 < step = let m = eqb-false step 0 e in omega (arith, m) in
-    let few = t.far.line k h in
-    split (eqb step 1)
-    (λ e'. omega (arith, z, few, t.far.further (eqb-true step 1 e'), line_and_rest all, w.bytes))
-    (λ e'. let two : step ≡ 2 = let m = eqb-false step 1 e' in omega (arith, m, k, h) in omega (arith, z, few, t.far.last two, line_and_rest all, w.bytes)))
+-- All reads, with that of the first buffer: more than the buffers that a decoder takes, where these are not empty.
+abbrev pub most : ℕ
+most = 0x4_0000_0000_0001
 
--- One step, which takes a turn.
-module _ {full step : ℕ} {s : Shown} {room out b : List ℕ} {turns : ℕ} {all xs xs' written : List ℕ} {n : ℕ} (w : Whole full n all)
-    (h : step < 3) (left : turns ≡ 0 → ⊥) (few : length b ≤ full) (e : xs ≡ b ++ xs')
-    (short : step < 2 → length b < full → xs' ≡ []) (none : step ≡ 2 → b ≡ []) (t : State full step s room out turns all xs written) where
+-- What a decoder has taken behind i further buffers, n bytes having been read for the last one. Each but the last was full.
+pub record Turns (full : ℕ) (d : Decoder) (n i : ℕ) : Type 0 where
+  pub more : i ≤ d.taken + 1
+  pub filled : full ≤ n → i ≤ d.taken
+  pub taken : d.taken ≤ 4294967295
+
+-- It does not come to more buffers.
+pub enough : {full : ℕ} {d : Decoder} {n i : ℕ} → Turns full d n i → most ≤ i + 1 → ⊥
+enough t z = omega (arith, t.more, t.taken, z)
+
+-- One step.
+module _ {full step : ℕ} {s : Shown} {room₀ out₀ all room out b xs xs' written : List ℕ} (f : 0 < full)
+    (h : step < 3) (few : length b ≤ full) (e : xs ≡ b ++ xs') (short : step < 2 → length b < full → xs' ≡ []) (none : step ≡ 2 → b ≡ [])
+    (t : ToPrint full room₀ out₀ all step s room out xs written) where
   abbrev went : Leaves
   went = turning step s b room out
 
-  abbrev then_step : ℕ
-  then_step = next_step step went.shown.refusal (length b) full
-
-  lengths : length xs ≡ length b + length xs'
-  lengths = ap length e ∙ length-append b xs'
-
-  -- the first line, of a buffer that is not refused
-  first_short : step ≡ 0 → went.shown.refusal ≡ 0 → length (first_line all) ≤ 255
-  unfolding turning
-  first_short z r = split (ltb 255 (length (first_line b)))
-      (λ l. let one : went.shown.refusal ≡ 1 = rw z (ap (λ (l : Leaves). l.shown.refusal) (at_long b room out (ltb-true 255 (length (first_line b)) l))) in absurd (omega (arith, r, one)))
-      (λ l. let k = ltb-false 255 (length (first_line b)) l in
-      let cut = line_cut b xs' (λ m. short (omega (arith, z)) (omega (arith, m, w.low))) k in
-      let whole : all ≡ b ++ xs' = sym (t.far.first z).1 ∙ e in
-      rw (whole, cut.0) k)
-
-  line_short : step < 2 → went.shown.refusal ≡ 0 → length (first_line all) ≤ 255
-  line_short k r = split (eqb step 0)
-      (λ z. first_short (eqb-true step 0 z) r)
-      (λ z. let m : 0 < step = let v = eqb-false step 0 z in omega (arith, v) in t.far.line m (omega (arith, k)))
-
-  -- the bytes so far
-  counted : step < 2 → (most - turns) * 256 + length xs ≤ length all
-  counted k = split (eqb step 0)
-      (λ z. let f = t.far.first (eqb-true step 0 z) in let m = ap length f.1 in omega (arith, f.0, m))
-      (λ z. let one : step ≡ 1 = let v = eqb-false step 0 z in omega (arith, v, k) in t.far.further one)
-
-  far_on : step < 2 → went.shown.refusal ≡ 0 → full ≤ length b → Far 1 (turns - 1) all xs'
-  far_on k r m = record {
-    first = λ z. absurd (omega (arith, z));
-    further = λ _. omega (arith, counted k, lengths, left, m, w.low);
-    last = λ z. absurd (omega (arith, z));
-    line = λ _ _. line_short k r;
-  }
-
-  far_last : step < 2 → went.shown.refusal ≡ 0 → Far 2 (turns - 1) all xs'
-  far_last k r = record {
-    first = λ z. absurd (omega (arith, z));
-    further = λ z. absurd (omega (arith, z));
-    last = λ _. omega (arith, counted k, left);
-    line = λ _ _. line_short k r;
-  }
-
-  far_over : Far 3 (turns - 1) all xs'
-  far_over = record {
-    first = λ z. absurd (omega (arith, z));
-    further = λ z. absurd (omega (arith, z));
-    last = λ z. absurd (omega (arith, z));
-    line = λ _ z. absurd (omega (arith, z));
-  }
-
-  abbrev FarAt : ℕ → Type 0
-  FarAt m = Far m (turns - 1) all xs'
-
-  far_after : FarAt then_step
-  far_after = split (eqb step 2)
-      (λ z. subst FarAt (sym (ends full step s room out b xs (omega (arith, w.low)) h (eqb-true step 2 z))) far_over)
-      (λ z. let k : step < 2 = let v = eqb-false step 2 z in omega (arith, h, v) in
-      split (eqb went.shown.refusal 0)
-      (λ q. let r = eqb-true went.shown.refusal 0 q in
-      split (ltb (length b) full)
-      (λ m. subst FarAt (sym (was_last full step s room out b xs (omega (arith, w.low)) h k r (ltb-true (length b) full m))) (far_last k r))
-      (λ m. let v = ltb-false (length b) full m in subst FarAt (sym (goes_on full step s room out b xs (omega (arith, w.low)) h k r v)) (far_on k r v)))
-      (λ q. subst FarAt (sym (refuses full step s room out b xs (omega (arith, w.low)) h k (eqb-false went.shown.refusal 0 q))) far_over))
-
-  stepped : State full then_step went.shown went.room went.out (turns - 1) all xs' (written ++ text went)
-  stepped = record {
-    prints = turned full step s room out b xs (omega (arith, w.low)) h xs' few e short none (printed all) written t.prints;
-    far = far_after;
-  }
+  stepped : ToPrint full room₀ out₀ all (next_step step went.shown.refusal (length b) full) went.shown went.room went.out xs' (written ++ text went)
+  stepped = turned full step s room out b xs f h xs' few e short none room₀ out₀ all written t
 
   -- after it, with what it left
   pub stepped_on : {p : Progress} {room' out' : List ℕ} → Left went p room' out' →
-      State full (next_step step 0 (length b) full) (as_shown p) room' out' (turns - 1) all xs' (written ++ take p.length out')
-  stepped_on {p} {room'} {out'} l = subst (λ (s : Shown). State full (next_step step s.refusal (length b) full) s room' out' (turns - 1) all xs' (written ++ take s.length out'))
+      ToPrint full room₀ out₀ all (next_step step 0 (length b) full) (as_shown p) room' out' xs' (written ++ take p.length out')
+  stepped_on {p} {room'} {out'} l =
+      subst (λ (s : Shown). ToPrint full room₀ out₀ all (next_step step s.refusal (length b) full) s room' out' xs' (written ++ take s.length out'))
       (sym l.answer) (rw (l.scalars, l.bytes) stepped)
 
   -- after it, if it was refused
-  pub stepped_last : step < 2 → {r : Refusal} → Refused went r → printed all ≡ written ++ refused (number r)
+  pub stepped_last : step < 2 → {r : Refusal} → Refused went r → Stepped full room₀ out₀ all (written ++ refused (number r))
   stepped_last k r =
-      let over = refuses full step s room out b xs (omega (arith, w.low)) h k (λ z. omega (arith, r.refusal, r.some, z)) in
-      ended (omega (arith, over)) stepped ∙ ap (λ us. written ++ us) r.line
+      let over = refuses full step s room out b xs f h k (λ z. omega (arith, r.refusal, r.some, z)) in
+      subst (Stepped full room₀ out₀ all) (ap (λ us. written ++ us) r.line) (ended (omega (arith, over)) stepped)
 
   -- after the last step
-  pub stepped_out : step ≡ 2 → {n : ℕ} {out' : List ℕ} → Ends went n out' → printed all ≡ written ++ take n out'
+  pub stepped_out : step ≡ 2 → {n : ℕ} {out' : List ℕ} → Ends went n out' → Stepped full room₀ out₀ all (written ++ take n out')
   stepped_out z l =
-      let over = ends full step s room out b xs (omega (arith, w.low)) h z in
-      ended (omega (arith, over)) stepped ∙ ap (λ us. written ++ us) (sym l.printed)
+      let over = ends full step s room out b xs f h z in
+      subst (Stepped full room₀ out₀ all) (ap (λ us. written ++ us) (sym l.printed)) (ended (omega (arith, over)) stepped)
 
 -- The step behind a buffer that is not refused: the end where it is not full, or a further buffer.
 abbrev pub after : ℕ → ℕ → ℕ
@@ -312,66 +235,69 @@ module _ (n full : ℕ) where
   is_further h = rw (le-ltb n full h) refl
 
 -- A step over the front of a buffer of `full` bytes.
-module _ {full n step turns cells : ℕ} {s : Shown} {room out : List ℕ} (buffer : List ℕ) (size : length buffer ≡ full) (few : n ≤ full) (h : step < 2) (left : 0 < turns)
+module _ {full n step : ℕ} {s : Shown} {room₀ out₀ room out : List ℕ} (buffer : List ℕ) (size : length buffer ≡ full) (few : n ≤ full) (h : step < 2)
     (all xs xs' written : List ℕ) (x : xs ≡ take n buffer ++ xs') (short : step < 2 → n < full → xs' ≡ [])
-    (t : Whole full cells all → State full step s room out turns all xs written) (w : Whole full cells all) where
+    (t : 0 < full → ToPrint full room₀ out₀ all step s room out xs written) (f : 0 < full) where
   cut_size : length (take n buffer) ≡ n
   cut_size = length-take-le n buffer (omega (arith, size, few))
 
   pub ran : {p : Progress} {room' out' : List ℕ} → next_step step 0 n full ≡ after n full → Left (turning step s (take n buffer) room out) p room' out' →
-      State full (after n full) (as_shown p) room' out' (turns - 1) all xs' (written ++ take p.length out')
+      ToPrint full room₀ out₀ all (after n full) (as_shown p) room' out' xs' (written ++ take p.length out')
   ran {p} {room'} {out'} e u =
-      subst (λ j. State full j (as_shown p) room' out' (turns - 1) all xs' (written ++ take p.length out')) (ap (λ j. next_step step 0 j full) cut_size ∙ e)
-      (stepped_on w (omega (arith, h)) (λ v. omega (arith, left, v)) (omega (arith, cut_size, few)) x (λ z v. short z (omega (arith, v, cut_size))) (λ v. absurd (omega (arith, v, h))) (t w) u)
+      subst (λ j. ToPrint full room₀ out₀ all j (as_shown p) room' out' xs' (written ++ take p.length out')) (ap (λ j. next_step step 0 j full) cut_size ∙ e)
+      (stepped_on f (omega (arith, h)) (omega (arith, cut_size, few)) x (λ z v. short z (omega (arith, v, cut_size))) (λ v. absurd (omega (arith, v, h))) (t f) u)
 
-  pub ran_out : {r : Refusal} → Refused (turning step s (take n buffer) room out) r → printed all ≡ written ++ refused (number r)
-  ran_out u = stepped_last w (omega (arith, h)) (λ v. omega (arith, left, v)) (omega (arith, cut_size, few)) x (λ z v. short z (omega (arith, v, cut_size))) (λ v. absurd (omega (arith, v, h))) (t w) h u
+  pub ran_out : {r : Refusal} → Refused (turning step s (take n buffer) room out) r → Stepped full room₀ out₀ all (written ++ refused (number r))
+  ran_out u = stepped_last f (omega (arith, h)) (omega (arith, cut_size, few)) x (λ z v. short z (omega (arith, v, cut_size))) (λ v. absurd (omega (arith, v, h))) (t f) h u
 
 -- The first buffer.
-module _ {full n : ℕ} {s : Shown} {room out : List ℕ} (buffer : List ℕ) (size : length buffer ≡ full) (few : n ≤ full)
+module _ {full n : ℕ} {s : Shown} {room₀ out₀ room out : List ℕ} (buffer : List ℕ) (size : length buffer ≡ full) (few : n ≤ full)
     (all xs xs' written : List ℕ) (x : xs ≡ take n buffer ++ xs') (short : ◌<◌ 0 2 → n < full → xs' ≡ [])
-    (t : Whole full (length room) all → State full 0 s room out most all xs written) (w : Whole full (length room) all) where
+    (t : 0 < full → ToPrint full room₀ out₀ all 0 s room out xs written) (f : 0 < full) where
   pub first : {p : Progress} {room' out' : List ℕ} → Left (beginning (take n buffer) room out) p room' out' →
-      State full (after n full) (as_shown p) room' out' (most - 1) all xs' (written ++ take p.length out')
+      ToPrint full room₀ out₀ all (after n full) (as_shown p) room' out' xs' (written ++ take p.length out')
   unfolding turning
-  first u = ran buffer size few (omega arith) (omega arith) all xs xs' written x short t w refl u
+  first u = ran buffer size few (omega arith) all xs xs' written x short t f refl u
 
-  pub first_out : {r : Refusal} → Refused (beginning (take n buffer) room out) r → printed all ≡ written ++ refused (number r)
+  pub first_out : {r : Refusal} → Refused (beginning (take n buffer) room out) r → Stepped full room₀ out₀ all (written ++ refused (number r))
   unfolding turning
-  first_out u = ran_out buffer size few (omega arith) (omega arith) all xs xs' written x short t w u
+  first_out u = ran_out buffer size few (omega arith) all xs xs' written x short t f u
 
--- Behind the first buffer and i further ones, m bytes having been read for the last of them.
-module _ {full cells : ℕ} (m i : ℕ) {s : Progress} {room out : List ℕ} (all xs xs' written : List ℕ)
-    (t : Whole full cells all → State full (after m full) (as_shown s) room out (most - 1 - i) all xs written) (w : Whole full cells all) where
-  at_step : (j : ℕ) → after m full ≡ j → Whole full cells all → State full j (as_shown s) room out (most - 1 - i) all xs written
-  at_step j e w = subst (λ j. State full j (as_shown s) room out (most - 1 - i) all xs written) e (t w)
+-- Behind a buffer for which m bytes were read.
+module _ {full : ℕ} (m : ℕ) {s : Progress} {room₀ out₀ room out : List ℕ} (all xs xs' written : List ℕ)
+    (t : 0 < full → ToPrint full room₀ out₀ all (after m full) (as_shown s) room out xs written) (f : 0 < full) where
+  at_step : (j : ℕ) → after m full ≡ j → 0 < full → ToPrint full room₀ out₀ all j (as_shown s) room out xs written
+  at_step j e f = subst (λ j. ToPrint full room₀ out₀ all j (as_shown s) room out xs written) e (t f)
 
   -- A further buffer.
-  module _ {n : ℕ} (buffer : List ℕ) (size : length buffer ≡ full) (few : n ≤ full) (filled : full ≤ m) (left : i + 1 < most)
+  module _ {n : ℕ} (buffer : List ℕ) (size : length buffer ≡ full) (few : n ≤ full) (filled : full ≤ m)
       (x : xs ≡ take n buffer ++ xs') (short : ◌<◌ 1 2 → n < full → xs' ≡ []) where
     pub further : {p : Progress} {room' out' : List ℕ} → Left (going_on s.decoder s.count (take n buffer) room out) p room' out' →
-        State full (after n full) (as_shown p) room' out' (most - 1 - (i + 1)) all xs' (written ++ take p.length out')
+        ToPrint full room₀ out₀ all (after n full) (as_shown p) room' out' xs' (written ++ take p.length out')
     unfolding turning
-    further {p} {room'} {out'} u =
-        let e : most - 1 - i - 1 ≡ most - 1 - (i + 1) = omega arith in
-        subst (λ k. State full (after n full) (as_shown p) room' out' k all xs' (written ++ take p.length out')) e
-        (ran buffer size few (omega arith) (omega (arith, left)) all xs xs' written x short (at_step 1 (is_further m full filled)) w refl u)
+    further u = ran buffer size few (omega arith) all xs xs' written x short (at_step 1 (is_further m full filled)) f refl u
 
-    pub further_out : {r : Refusal} → Refused (going_on s.decoder s.count (take n buffer) room out) r → printed all ≡ written ++ refused (number r)
+    pub further_out : {r : Refusal} → Refused (going_on s.decoder s.count (take n buffer) room out) r → Stepped full room₀ out₀ all (written ++ refused (number r))
     unfolding turning
-    further_out u = ran_out buffer size few (omega arith) (omega (arith, left)) all xs xs' written x short (at_step 1 (is_further m full filled)) w u
+    further_out u = ran_out buffer size few (omega arith) all xs xs' written x short (at_step 1 (is_further m full filled)) f u
 
   -- The end of the input.
-  pub closed : m < full → i + 1 < most → xs ≡ [] ++ xs' → {n : ℕ} {out' : List ℕ} → Ends (closing s.decoder s.count room out) n out' → printed all ≡ written ++ take n out'
+  pub closed : m < full → xs ≡ [] ++ xs' → {n : ℕ} {out' : List ℕ} → Ends (closing s.decoder s.count room out) n out' → Stepped full room₀ out₀ all (written ++ take n out')
   unfolding turning
-  closed short left x {n} {out'} u =
-      stepped_out w (omega arith) (λ v. omega (arith, left, v)) (omega arith) x (λ z v. absurd (omega (arith, z))) (λ v. refl) (at_step 2 (is_last m full short) w) refl u
+  closed short x u =
+      stepped_out f (omega arith) (omega arith) x (λ z v. absurd (omega (arith, z))) (λ v. refl) (at_step 2 (is_last m full short) f) refl u
 
-  -- It does not come to more buffers.
-  pub not_more : most - 1 - i ≡ 0 → ⊥
-  not_more z = split (ltb m full)
-      (λ e. let two = is_last m full (ltb-true m full e) in enough (omega (arith, two)) z w (t w))
-      (λ e. let one = is_further m full (ltb-false m full e) in enough (omega (arith, one)) z w (t w))
+-- Behind the first buffer, and behind a further one.
+pub first_turns : {full n : ℕ} (b room out : List ℕ) {p : Progress} {room' out' : List ℕ} → Left (beginning b room out) p room' out' → Turns full p.decoder n 0
+first_turns b room out u = record { more = omega arith; filled = λ _. omega arith; taken = begun_taken b room out u }
+
+pub further_turns : {full m n i : ℕ} {d : Decoder} (count : ℕ) (buffer room out : List ℕ) → 0 < full → length buffer ≡ full → n ≤ full → full ≤ m → Turns full d m i →
+    {p : Progress} {room' out' : List ℕ} → Left (going_on d count (take n buffer) room out) p room' out' → Turns full p.decoder n (i + 1)
+further_turns {full} {m} {n} {i} {d} count buffer room out f size few filled t u =
+    let k = went_taken d count (take n buffer) room out u in
+    let z : length (take n buffer) ≡ n = length-take-le n buffer (omega (arith, size, few)) in
+    let past = t.filled filled in
+    record { more = omega (arith, k.0, past); filled = λ v. omega (arith, k.0, z, past, v, f); taken = omega (arith, k.0, k.1) }
 
 -- Where an input is known: a claim about all of it, what is left of it, and what is written.
 abbrev pub Known : Option (List ℕ) → Option (List ℕ) → Option (List ℕ) → Option (List ℕ) → (List ℕ → List ℕ → List ℕ → Type 0) → Type 0
@@ -394,17 +320,23 @@ known_next (Some all) (Some xs) None w₀ w w' step n full b us P P' c e a f k =
 known_next (Some all) (Some xs) (Some xs') w₀ w w' step n full b us P P' c e a f k =
     (k.0 ++ us, Appends-trans w₀ w w' k.0 us k.1 a, f all xs xs' k.0 c e k.2)
 
-pub known_end : (r₀ r w₀ w : Option (List ℕ)) (P : List ℕ → List ℕ → List ℕ → Type 0) (Q : List ℕ → Type 0) (us : List ℕ → List ℕ) →
-    ((all xs written : List ℕ) → P all xs written → Q all → us all ≡ written) → Known r₀ r w₀ w P → IfSome r₀ (λ all. Q all → Appends w₀ w (us all))
-known_end None r w₀ w P Q us f k = tt
-known_end (Some all) None w₀ w P Q us f k = absurd k
-known_end (Some all) (Some xs) w₀ w P Q us f k = λ q. subst (Appends w₀ w) (sym (f all xs k.0 k.2 q)) k.1
+pub known_end : (r₀ r w₀ w : Option (List ℕ)) (P : List ℕ → List ℕ → List ℕ → Type 0) (Q : Type 0) (C : List ℕ → List ℕ → Type 0) →
+    ((all xs written : List ℕ) → P all xs written → Q → C all written) → Known r₀ r w₀ w P → IfSome r₀ (λ all. Q → (text : List ℕ) × C all text × Appends w₀ w text)
+known_end None r w₀ w P Q C f k = tt
+known_end (Some all) None w₀ w P Q C f k = absurd k
+known_end (Some all) (Some xs) w₀ w P Q C f k = λ q. (k.0, f all xs k.0 k.2 q, k.1)
 
 -- Behind a last write.
-pub known_last : (r₀ r r' w₀ w w' : Option (List ℕ)) (step n full : ℕ) (b us : List ℕ) (P : List ℕ → List ℕ → List ℕ → Type 0) (Q : List ℕ → Type 0) (goal : List ℕ → List ℕ) →
+pub known_last : (r₀ r r' w₀ w w' : Option (List ℕ)) (step n full : ℕ) (b us : List ℕ) (P : List ℕ → List ℕ → List ℕ → Type 0) (Q : Type 0) (C : List ℕ → List ℕ → Type 0) →
     Consumes r r' b → (step < 2 → n < full → IsAtEnd r') → Appends w w' us →
-    ((all xs xs' written : List ℕ) → xs ≡ b ++ xs' → (step < 2 → n < full → xs' ≡ []) → P all xs written → Q all → goal all ≡ written ++ us) →
-    Known r₀ r w₀ w P → IfSome r₀ (λ all. Q all → Appends w₀ w' (goal all))
-known_last r₀ r r' w₀ w w' step n full b us P Q goal c e a f k =
-    known_end r₀ r' w₀ w' (λ all xs written. Q all → goal all ≡ written) Q goal (λ all xs written p q. p q)
-    (known_next r₀ r r' w₀ w w' step n full b us P (λ all xs written. Q all → goal all ≡ written) c e a f k)
+    ((all xs xs' written : List ℕ) → xs ≡ b ++ xs' → (step < 2 → n < full → xs' ≡ []) → P all xs written → Q → C all (written ++ us)) →
+    Known r₀ r w₀ w P → IfSome r₀ (λ all. Q → (text : List ℕ) × C all text × Appends w₀ w' text)
+known_last r₀ r r' w₀ w w' step n full b us P Q C c e a f k =
+    known_end r₀ r' w₀ w' (λ all xs written. Q → C all written) Q C (λ all xs written p q. p q)
+    (known_next r₀ r r' w₀ w w' step n full b us P (λ all xs written. Q → C all written) c e a f k)
+
+-- What is written for an input that is printed as a whole.
+pub known_whole : (r₀ w₀ w : Option (List ℕ)) (full : ℕ) (room out : List ℕ) → IfSome r₀ (λ all. 0 < full → (text : List ℕ) × Stepped full room out all text × Appends w₀ w text) →
+    IfSome r₀ (λ all. Whole full (length room) all → Appends w₀ w (printed all))
+known_whole None w₀ w full room out k = tt
+known_whole (Some all) w₀ w full room out k = λ v. let t = k (omega (arith, v.low)) in subst (Appends w₀ w) (sym (stepped_whole t.1 v)) t.2

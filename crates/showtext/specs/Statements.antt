@@ -28,6 +28,15 @@ pub record Whole (full room : ℕ) (input : List ℕ) : Type 0 where
   pub cells : 4099 ≤ room
   pub bytes : length (after_line input) ≤ 4294967295
 
+-- The text that the steps print of an input, however long: it is cut into buffers of `full` bytes, of which only the last has fewer, and
+-- behind them stands the empty one of the last step.
+pub record Stepped (full : ℕ) (room out input text : List ℕ) : Type 0 where
+  pub first : List ℕ
+  pub rest : List (List ℕ)
+  pub filled : Filled full first rest
+  pub whole : first ++ joined rest ≡ input
+  pub steps : (s : Shown) → by_step full 0 s room out (first ∷ rest ++ ([] ∷ [])) ≡ text
+
 -- For every room of at least 4,099 cells, every out, and all buffers of which the first has at least 256 bytes or is the whole input,
 -- with no more bytes behind the first line than a decoder takes.
 pub record Prints : Type 0 where

@@ -3,7 +3,7 @@
 
 mod lines;
 
-ghost use Rattle.std.specs.Prelude.{◌≡◌, ◌+◌, ◌*◌, ◌≤◌, ◌<◌, ◌^◌, length, take, IfSome, IfOk, IfErr, OnOk};
+ghost use Rattle.std.specs.Prelude.{◌≡◌, List, ℕ, ◌+◌, ◌*◌, ◌≤◌, ◌<◌, ◌^◌, length, take, IfSome, IfOk, IfErr, OnOk};
 ghost use Rattle.std.specs.Io.KnownBytes.{Appends};
 ghost use Rattle.standard.specs.Encodings.{no_tables};
 ghost use Rattle.decoder.specs.Calls.{feeding, finishing};
@@ -11,7 +11,7 @@ ghost use Rattle.showtext.specs.Output.{printed, refused, scalar_lines};
 ghost use Rattle.showtext.specs.Code.{heading, feeding_on};
 ghost use Rattle.showtext.specs.Refusals.{number};
 ghost use Rattle.showtext.specs.Program.{Answers, Gives, Ends, beginning, going_on, closing};
-ghost use Rattle.showtext.specs.Statements.{Whole};
+ghost use Rattle.showtext.specs.Statements.{Whole, Stepped};
 
 use decoder::{Answer, Decoder};
 use lines::{put_encoding, put_scalars};
@@ -171,8 +171,10 @@ fn run<R: Read, W: Write>(
     out: &mut [u8],
 ) -> io::Result<End>
     requires { (length room.old ≤ 4099) × (32 * length room.old + 32 ≤ length out.old) }
-    ensures { OnOk result (IfSome (R.remaining input.old) (λ all.
+    ensures bytes { OnOk result (IfSome (R.remaining input.old) (λ all.
         Whole (length buffer.old) (length room.old) all → Appends (W.contents output.old) (W.contents output.new) (printed all))) }
+    ensures steps { OnOk result (IfSome (R.remaining input.old) (λ all. 0 < length buffer.old →
+        (text : List ℕ) × Stepped (length buffer.old) room.old out.old all text × Appends (W.contents output.old) (W.contents output.new) text)) }
 {
     let mut n = fill(input, buffer)?;
     let mut s = match begin(&buffer[..n], room, out) {

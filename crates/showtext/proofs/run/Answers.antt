@@ -1,16 +1,9 @@
 use Rattle.std.proofs.Common.{◌≡◌, sym, ◌∙◌, ◌≤◌, ◌<◌, [], length, length-take-le, arith}
 use Rattle.std.proofs.KnownBytes.{Consumes-nil}
 use Rattle.std.proofs.lemmas.Result.{on_ok_weaker}
-use Rattle.decoder.specs.Calls.{opening}
-use Rattle.showtext.specs.Program.{Shown}
-use Rattle.showtext.specs.Statements.{Whole}
 use Rattle.showtext.proofs.Buffers.{begun_few, went_few}
-use Rattle.showtext.proofs.Runs.{State, most, starting, first, first_out, further, further_out, closed, not_more, known_first, known_next, known_end, known_last}
+use Rattle.showtext.proofs.Runs.{ToPrint, any, starting, enough, first, first_out, further, further_out, closed, first_turns, further_turns, known_first, known_next, known_end, known_last, known_whole}
 use Rattle.showtext.proofs.run.Goals as goal
-
--- What the first step is handed is not looked at.
-any : Shown
-any = record { decoder = (opening 0 0 0).decoder; refusal = 0; length = 0; count = 0 }
 
 pub slice_bounds-write_all-end : goal.slice_bounds-write_all-end
 slice_bounds-write_all-end g c =
@@ -41,10 +34,11 @@ loop-init g c =
     record {
       buffer = c.fill.auto.buffer;
       count = omega (arith, f.0, c.requires.0);
-      known = known_next _ _ _ _ _ _ 0 c.in_ok-n.n full _ _ (λ all xs written. Whole full (length a.room.now) all → State full 0 any a.room.now a.out.now most all xs written) _
+      turns = λ f. first_turns _ a.room.now a.out.now c.in-Ok.ensures;
+      known = known_next _ _ _ _ _ _ 0 c.in_ok-n.n full _ _ (λ all xs written. 0 < full → ToPrint full a.room.now a.out.now all 0 any a.room.now a.out.now xs written) _
           read.bytes (λ z m. read.end m) c.in_ok-write_all.ensures.bytes
-          (λ all xs xs' written x short t w. first c.fill.new.buffer c.fill.auto.buffer read.few all xs xs' written x short t w c.in-Ok.ensures)
-          (known_first _ _ _ (λ all w. starting full any a.room.now a.out.now all w));
+          (λ all xs xs' written x short t f. first c.fill.new.buffer c.fill.auto.buffer read.few all xs xs' written x short t f c.in-Ok.ensures)
+          (known_first _ _ _ (λ all f. starting full any a.room.now a.out.now all));
     }
 
 pub returns-in-Err : goal.returns-in-Err
@@ -52,12 +46,13 @@ returns-in-Err g c =
     let a = c.args in
     let full = length a.buffer.now in
     let read = c.in_ok-n.ensures in
-    on_ok_weaker c.refuse.result
-    (λ e. known_last _ _ _ _ _ _ 0 c.in_ok-n.n full _ _ (λ all xs written. Whole full (length a.room.now) all → State full 0 any a.room.now a.out.now most all xs written) _ _
+    let steps = on_ok_weaker c.refuse.result
+    (λ e. known_last _ _ _ _ _ _ 0 c.in_ok-n.n full _ _ (λ all xs written. 0 < full → ToPrint full a.room.now a.out.now all 0 any a.room.now a.out.now xs written) _ _
     read.bytes (λ z m. read.end m) e
-    (λ all xs xs' written x short t w. first_out c.fill.new.buffer c.fill.auto.buffer read.few all xs xs' written x short t w c.in-Err.ensures)
-    (known_first _ _ _ (λ all w. starting full any a.room.now a.out.now all w)))
-    c.refuse.ensures
+    (λ all xs xs' written x short t f. first_out c.fill.new.buffer c.fill.auto.buffer read.few all xs xs' written x short t f c.in-Err.ensures)
+    (known_first _ _ _ (λ all f. starting full any a.room.now a.out.now all)))
+    c.refuse.ensures in
+    record { bytes = on_ok_weaker c.refuse.result (known_whole _ _ _ full a.room.now a.out.now) steps; steps = steps }
 
 pub loop-preserved : goal.loop-preserved
 loop-preserved g c =
@@ -73,36 +68,44 @@ loop-preserved g c =
     record {
       buffer = size;
       count = omega (arith, f.0, i.count, c.requires.0, l.auto.room, c.loop-test.true);
+      turns = λ f. further_turns l.s.count buffer l.room l.out f size few filled (i.turns f) c.in-Ok-go_on.ensures;
       known = known_next _ _ _ _ _ _ 1 c.in_ok-n-2.n full _ _ _ _
           read.bytes (λ z m. read.end (omega (arith, m, i.buffer))) c.in_ok-write_all-3.ensures.bytes
-          (λ all xs xs' written x short t w. further l.n l.counter all xs xs' written t w buffer size few filled (omega (arith, c.loop-test.true)) x short c.in-Ok-go_on.ensures) i.known;
+          (λ all xs xs' written x short t f. further l.n all xs xs' written t f buffer size few filled x short c.in-Ok-go_on.ensures) i.known;
     }
 
 pub returns-in-Err-go_on : goal.returns-in-Err-go_on
 returns-in-Err-go_on g c =
+    let a = c.args in
     let l = c.loop in
     let i = l.invariant in
-    let full = length c.args.buffer.now in
+    let full = length a.buffer.now in
     let read = c.in_ok-n-2.ensures in
     let buffer = c.fill-in-loop.new.buffer in
     let size : length buffer ≡ full = c.fill-in-loop.auto.buffer ∙ i.buffer in
     let few : c.in_ok-n-2.n ≤ full = omega (arith, read.few, i.buffer) in
     let filled : full ≤ l.n = omega (arith, c.if-n-buffer.false, i.buffer) in
-    on_ok_weaker c.refuse-in-Err-go_on.result
+    let steps = on_ok_weaker c.refuse-in-Err-go_on.result
     (λ e. known_last _ _ _ _ _ _ 1 c.in_ok-n-2.n full _ _ _ _ _
     read.bytes (λ z m. read.end (omega (arith, m, i.buffer))) e
-    (λ all xs xs' written x short t w. further_out l.n l.counter all xs xs' written t w buffer size few filled (omega (arith, c.loop-test.true)) x short c.in-Err-go_on.ensures) i.known)
-    c.refuse-in-Err-go_on.ensures
+    (λ all xs xs' written x short t f. further_out l.n all xs xs' written t f buffer size few filled x short c.in-Err-go_on.ensures) i.known)
+    c.refuse-in-Err-go_on.ensures in
+    record { bytes = on_ok_weaker c.refuse-in-Err-go_on.result (known_whole _ _ _ full a.room.now a.out.now) steps; steps = steps }
 
 pub returns-then-n-buffer : goal.returns-then-n-buffer
 returns-then-n-buffer g c =
+    let a = c.args in
     let l = c.loop in
     let i = l.invariant in
-    let full = length c.args.buffer.now in
+    let full = length a.buffer.now in
     let short : l.n < full = omega (arith, c.if-n-buffer.true, i.buffer) in
-    known_last _ _ _ _ _ _ 2 0 full [] _ _ _ _ (Consumes-nil _) (λ z m. absurd (omega (arith, z))) c.in_ok-write_all-2.ensures.bytes
-    (λ all xs xs' written x none t w. closed l.n l.counter all xs xs' written t w short (omega (arith, c.loop-test.true)) x c.close-length.ensures) i.known
+    let steps = known_last _ _ _ _ _ _ 2 0 full [] _ _ _ _ (Consumes-nil _) (λ z m. absurd (omega (arith, z))) c.in_ok-write_all-2.ensures.bytes
+    (λ all xs xs' written x none t f. closed l.n all xs xs' written t f short x c.close-length.ensures) i.known in
+    record { bytes = known_whole _ _ _ full a.room.now a.out.now steps; steps = steps }
 
 pub returns : goal.returns
 returns g c =
-    known_end _ _ _ _ _ _ _ (λ all xs written t w. absurd (not_more c.loop.n c.loop.counter all xs [] written t w (omega (arith, c.loop-test.false)))) c.loop.invariant.known
+    let a = c.args in
+    let i = c.loop.invariant in
+    let steps = known_end _ _ _ _ _ _ _ (λ all xs written t f. absurd (enough (i.turns f) (omega (arith, c.loop-test.false)))) i.known in
+    record { bytes = known_whole _ _ _ (length a.buffer.now) a.room.now a.out.now steps; steps = steps }

@@ -1,16 +1,16 @@
 use Rattle.std.proofs.Common.{◌≡◌, length, ◌+◌, ◌-◌, ◌*◌, ◌^◌, ◌<◌}
 use Rattle.showtext.specs.Program.{as_shown}
-use Rattle.showtext.specs.Statements.{Whole}
-use Rattle.showtext.proofs.Runs.{Known, State, most, after}
+use Rattle.showtext.proofs.Runs.{Known, ToPrint, Turns, most, after}
 use Rattle.showtext.proofs.run.Given as goal
 
 -- The buffer keeps its length, and the count stays below 2⁶⁴ by the reads that are left, with a room of scalars for each and for the end.
--- What is written and what the steps still print of a known input is the whole text.
+-- There were no more full buffers than bytes taken. What is written and what the steps still print of a known input is what they print of the whole.
 abbrev pub invariant-loop : goal.invariant-loop
 invariant-loop g l = record {
   buffer : length l.buffer ≡ length l.fn.buffer;
   count : l.s.count + 4099 * (most - l.counter) < 2 ^ 64;
+  turns : 0 < length l.fn.buffer → Turns (length l.fn.buffer) l.s.decoder l.n l.counter;
   known : Known (g.R.Read.remaining l.fn.input) (g.R.Read.remaining l.input) (g.W.Write.contents l.fn.output) (g.W.Write.contents l.output)
-      (λ all xs written. Whole (length l.fn.buffer) (length l.fn.room) all →
-      State (length l.fn.buffer) (after l.n (length l.fn.buffer)) (as_shown l.s) l.room l.out (most - 1 - l.counter) all xs written);
+      (λ all xs written. 0 < length l.fn.buffer →
+      ToPrint (length l.fn.buffer) l.fn.room l.fn.out all (after l.n (length l.fn.buffer)) (as_shown l.s) l.room l.out xs written);
 }
