@@ -62,7 +62,7 @@ fn sequences(mode: u8, chunk: &[u8], t1: &[u32], t2: &[u32], room: &mut [u32], p
             };
             continue;
         }
-        let Some(c) = scalar_of(mode, q) else {
+        let Some(c) = scalar_of(mode, Some(q)) else {
             return r;
         };
         room[r.written] = c;

@@ -353,7 +353,7 @@ fn items<const N: usize>(
         let Some(q) = next_at(&*t1, &*t2, encoding, 0, 0, &*chunk, i) else {
             break;
         };
-        let Some(u) = plain_scalar_of(mode, q) else {
+        let Some(u) = plain_scalar_of(mode, Some(q)) else {
             break;
         };
         room[o] = u;

@@ -5,7 +5,7 @@
 
 pub mod ascii;
 
-ghost use Rattle.std.specs.Prelude.{◌≡◌, eqb, drop, IfSome};
+ghost use Rattle.std.specs.Prelude.{◌≡◌, eqb, drop, IfSome, IsSomeAnd};
 ghost use Rattle.standard.specs.Encodings.{family, lent};
 ghost use Rattle.standard.specs.Sequence.{shift, plain};
 ghost use Rattle.standard.specs.Next.{next};
@@ -102,11 +102,11 @@ pub fn next_at(
     )
 }
 
-// The only scalar of a sequence, U+FFFD for an error in a mode other than 1; none for another.
-pub fn scalar_of(mode: u8, q: Sequence) -> Option<u32>
-    ensures { IfSome result (λ c. Gives mode (item_of q) q.width (left q) c) }
+// The only scalar of a sequence, U+FFFD for an error in a mode other than 1; none for another, and where more bytes are wanted.
+pub fn scalar_of(mode: u8, q: Option<Sequence>) -> Option<u32>
+    ensures { IfSome result (λ c. IsSomeAnd q (λ s. Gives mode (item_of s) s.width (left s) c)) }
 {
-    match q.out {
+    match q?.out {
         Out::One(c) => Some(c),
         Out::Error if mode != 1 => Some(0xFFFD),
         _ => None,
@@ -114,10 +114,11 @@ pub fn scalar_of(mode: u8, q: Sequence) -> Option<u32>
 }
 
 // The same of a sequence that leaves no shift; none for another.
-pub fn plain_scalar_of(mode: u8, q: Sequence) -> Option<u32>
-    ensures { IfSome result (λ c. Gives mode (item_of q) q.width plain c) }
+pub fn plain_scalar_of(mode: u8, q: Option<Sequence>) -> Option<u32>
+    ensures { IfSome result (λ c. IsSomeAnd q (λ s. Gives mode (item_of s) s.width plain c)) }
 {
-    if q.shift.state != 0 || q.shift.flag {
+    let s = q?;
+    if s.shift.state != 0 || s.shift.flag {
         return None;
     }
     scalar_of(mode, q)

@@ -159,7 +159,7 @@ fn sequences(mode: u8, chunk: &[u8], from: usize, room: &mut [u32], place: usize
         let Some(q) = utf8(b, chunk[i + 1], chunk[i + 2], chunk[i + 3], 4) else {
             break;
         };
-        let Some(u) = plain_scalar_of(mode, q) else {
+        let Some(u) = plain_scalar_of(mode, Some(q)) else {
             break;
         };
         room[o] = u;
