@@ -8,7 +8,7 @@ use labels::put_name;
 use labels_spec::Named;
 
 // The file of each encoding's first table; an empty name where it has none.
-const FIRST: [&str; 40] = [
+const FIRST: &[&str] = &[
     "",
     "index-ibm866.txt",
     "index-iso-8859-2.txt",
@@ -52,7 +52,7 @@ const FIRST: [&str; 40] = [
 ];
 
 // The file of its second table. A list of its own and not one of pairs: no call reads both.
-const SECOND: [&str; 40] = [
+const SECOND: &[&str] = &[
     "",
     "",
     "",
@@ -100,7 +100,7 @@ pub fn first_index_name(encoding: u8, room: &mut [u8]) -> Named
     ensures { (result ≡ (file_naming 0 encoding room.old).answer) ×
         (room.new ≡ (file_naming 0 encoding room.old).room) }
 {
-    put_name(&FIRST, encoding, room)
+    put_name(FIRST, encoding, room)
 }
 
 // The file of its second table; an empty name where it has none.
@@ -108,5 +108,5 @@ pub fn second_index_name(encoding: u8, room: &mut [u8]) -> Named
     ensures { (result ≡ (file_naming 1 encoding room.old).answer) ×
         (room.new ≡ (file_naming 1 encoding room.old).room) }
 {
-    put_name(&SECOND, encoding, room)
+    put_name(SECOND, encoding, room)
 }

@@ -3,7 +3,7 @@
 
 mod tables;
 
-ghost use Rattle.std.specs.Prelude.{◌≡◌, ◌≤◌, map, length};
+ghost use Rattle.std.specs.Prelude.{◌≡◌, ◌++◌, ◌≤◌, map, length, drop};
 ghost use Rattle.std.specs.Char.{to_ascii_lowercase};
 ghost use Rattle.std.specs.List.{slice_get};
 ghost use Rattle.labels_spec.specs.Labels.{table, fold, start, TrimmedPart, find, label, naming};
@@ -52,7 +52,7 @@ fn look_up(label: &[u8], groups: &[&[(&str, u8)]]) -> Option<u8>
 fn encoding_of(label: &[u8]) -> Option<u8>
     ensures { result ≡ number (find (map fold label.now) 0 table) }
 {
-    look_up(label, &LABELS)
+    look_up(label, LABELS)
 }
 
 // The label call.
@@ -76,6 +76,16 @@ pub fn find_label(bytes: &[u8]) -> Found
     }
 }
 
+// Copies bytes to the front of the room. Not by `copy_from_slice`, which would be a call of memmove.
+fn copy(bytes: &[u8], room: &mut [u8])
+    requires { length bytes.now ≤ length room.old }
+    ensures { room.new ≡ bytes.now ++ drop (length bytes.now) room.old }
+{
+    for i in 0..bytes.len() {
+        room[i] = bytes[i];
+    }
+}
+
 // One of some names, written to the front of the room.
 pub fn put_name(names: &[&str], number: u8, room: &mut [u8]) -> Named
     ensures answer { result ≡ (written (slice_get (map (λ n. n.now) names.now) number) room.old).answer }
@@ -94,7 +104,7 @@ pub fn put_name(names: &[&str], number: u8, room: &mut [u8]) -> Named
             refusal: 7,
         };
     }
-    room[..n].copy_from_slice(name.as_bytes());
+    copy(name.as_bytes(), room);
     Named {
         length: n,
         refusal: 0,
@@ -106,5 +116,5 @@ pub fn name(encoding: u8, room: &mut [u8]) -> Named
     ensures { (result ≡ (naming encoding room.old).answer) ×
         (room.new ≡ (naming encoding room.old).room) }
 {
-    put_name(&NAMES, encoding, room)
+    put_name(NAMES, encoding, room)
 }

@@ -1,7 +1,7 @@
 // The labels and names of 004's table, section 4.2.
 
 // The labels by length: those of n bytes at place n, each with its encoding's number.
-pub const LABELS: [&[(&str, u8)]; 20] = [
+pub const LABELS: &[&[(&str, u8)]] = &[
     &[],
     &[],
     &[
@@ -252,7 +252,7 @@ pub const LABELS: [&[(&str, u8)]; 20] = [
 ];
 
 // The names of the encodings, by number.
-pub const NAMES: [&str; 40] = [
+pub const NAMES: &[&str] = &[
     "UTF-8",
     "IBM866",
     "ISO-8859-2",
