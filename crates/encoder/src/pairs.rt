@@ -141,8 +141,10 @@ fn stays(encoding: u8, state: u8) -> bool
     encoding != 33 || state == 2
 }
 
-// Scalars whose slots have their bytes, from an index on, written from a place on: as far as they go.
-fn run(
+// Scalars whose slots have their bytes, from an index on, written from a place on: as far as they go. A part of its caller, where it is known
+// whether the encoding is ISO-2022-JP, in which every number has two bytes.
+#[inline(always)]
+fn run_by(
     encoding: u8,
     state: u8,
     slots: &[u16],
@@ -177,6 +179,29 @@ fn run(
     Reached {
         index: scalars.len(),
         written,
+    }
+}
+
+// The same, with a loop of its own for ISO-2022-JP.
+fn run(
+    encoding: u8,
+    state: u8,
+    slots: &[u16],
+    scalars: &[u32],
+    from: usize,
+    room: &mut [u8],
+    place: usize,
+) -> Reached
+    requires { (from ≤ length scalars.now) × (place ≤ length room.old) }
+    ensures { (from ≤ result.index) × (result.index ≤ length scalars.now) ×
+        ((one : ℕ → ℕ → Encoded) (mode begin : ℕ) (first : List ℕ) → Stays encoding state slots.now one →
+        Space (writing one mode begin scalars.now) first →
+        Running one mode begin scalars.now first room.old from place state →
+        Running one mode begin scalars.now first room.new result.index result.written state) }
+{
+    match encoding {
+        33 => run_by(33, state, slots, scalars, from, room, place),
+        _ => run_by(encoding, state, slots, scalars, from, room, place),
     }
 }
 

@@ -71,11 +71,15 @@ pub fn ascii(encoding: u8, c: u8) -> One
     }
 }
 
-// Is it an ASCII scalar whose one byte leaves the state as it is? In ISO-2022-JP only in ASCII.
+// Is it an ASCII scalar whose one byte leaves the state as it is? In ISO-2022-JP only in ASCII. The encoding is told first: it is the same
+// in a whole text, so that a loop asks for it once.
 pub fn plain(encoding: u8, state: u8, c: u32) -> bool
     ensures { result ≡ true → Plain encoding state c }
 {
-    c < 0x80 && (encoding != 33 || state == 0 && !iso_2022_jp::control(c))
+    match encoding {
+        33 => c < 0x80 && state == 0 && !iso_2022_jp::control(c),
+        _ => c < 0x80,
+    }
 }
 
 // The state after a scalar, by what is written of it: it stays but in ISO-2022-JP.
