@@ -1,5 +1,6 @@
 -- Looking a label up in the code's table is looking it up in the table of 004. Assumes nothing.
-use Rattle.std.proofs.Common.{◌≡◌, refl, sym, ap, ◌∙◌, ℕ, zero, suc, ◌+◌, ◌<◌, Bool, true, false, ◌&&◌, List, [], ◌∷◌, map, length, arith, Option, Some, None, Bor}
+use Rattle.std.proofs.Common.{◌≡◌, refl, sym, ap, ◌∙◌, ℕ, zero, suc, ◌+◌, ◌<◌, Bool, true, false, ◌&&◌, List, [], ◌∷◌, map, length, get_or, arith, Option, Some, None, Bor}
+use Rattle.std.proofs.Math.ListN.{get_or-map}
 use Rattle.std.proofs.Math.Option as math
 use Rattle.std.proofs.Math.Option.{some, none}
 use Rattle.std.proofs.lemmas.Bool.Decides.{nat_tests}
@@ -39,6 +40,14 @@ below_at p (suc n) i h g = split (eqb i n)
 lowered : (l : List ℕ) → map to_ascii_lowercase l ≡ map fold l
 lowered [] = refl
 lowered (b ∷ l) = let e : to_ascii_lowercase b ≡ fold b = grind (arith, nat_tests) in rw (e, lowered l)
+
+-- Labels that differ at a place, whatever the case of the letters there, are not the same.
+pub not_alike : (l k : List ℕ) (i : ℕ) → (to_ascii_lowercase (get_or l i 0) ≡ to_ascii_lowercase (get_or k i 0) → ⊥) →
+    false ≡ bytes_eq (map to_ascii_lowercase l) (map to_ascii_lowercase k)
+not_alike l k i d = split (bytes_eq (map to_ascii_lowercase l) (map to_ascii_lowercase k))
+    (λ t. absurd (d (sym (get_or-map to_ascii_lowercase l i 0) ∙ ap (λ xs. get_or xs i (to_ascii_lowercase 0)) ((bytes_eq-Decides _ _).0 t) ∙
+    get_or-map to_ascii_lowercase k i 0)))
+    (λ t. sym t)
 
 -- Is it this number?
 abbrev gives : ℕ → Option ℕ → Bool

@@ -5,6 +5,7 @@ mod tables;
 
 ghost use Rattle.std.specs.Prelude.{◌≡◌, ◌++◌, ◌≤◌, map, length, drop};
 ghost use Rattle.std.specs.Char.{to_ascii_lowercase};
+ghost use Rattle.std.specs.Str.{bytes_eq};
 ghost use Rattle.std.specs.List.{slice_get};
 ghost use Rattle.labels_spec.specs.Labels.{table, fold, start, TrimmedPart, find, label, naming};
 ghost use Rattle.labels.specs.LookUp.{seek, look_up, number};
@@ -31,13 +32,27 @@ pub fn trim(label: &[u8]) -> &[u8]
     &rest[..rest.trim_ascii_end().len()]
 }
 
+// Are two labels the same, whatever the case of their letters? The last bytes are told first: few labels of a length share them.
+fn alike(label: &[u8], known: &[u8]) -> bool
+    ensures { result ≡ bytes_eq (map to_ascii_lowercase label.now) (map to_ascii_lowercase known.now) }
+{
+    let n = label.len();
+    if n != known.len() {
+        return false;
+    }
+    if n != 0 && !label[n - 1].eq_ignore_ascii_case(&known[n - 1]) {
+        return false;
+    }
+    label.eq_ignore_ascii_case(known)
+}
+
 // The encoding that a group gives for a label, whatever the case of its letters.
 fn seek(label: &[u8], group: &[(&str, u8)]) -> Option<u8>
     ensures { result ≡ seek (map to_ascii_lowercase label.now) group.now }
 {
     group
         .iter()
-        .find(|(known, _)| label.eq_ignore_ascii_case(known.as_bytes()))
+        .find(|(known, _)| alike(label, known.as_bytes()))
         .map(|(_, encoding)| *encoding)
 }
 
