@@ -1,5 +1,5 @@
 -- The steps over an input that is known: what is read, printed, and still to be printed. Assumes nothing.
-use Rattle.std.proofs.Common.{◌≡◌, refl, sym, ap, ◌∙◌, subst, ℕ, zero, suc, ◌+◌, ◌≤◌, ◌<◌, List, [], ◌∷◌, ◌++◌, length, take, drop, length-drop, length-take-le, append_assoc, append-nil, le_refl, arith, Option, None, Some, IfSome}
+use Rattle.std.proofs.Common.{◌≡◌, refl, sym, ap, ◌∙◌, subst, ℕ, zero, suc, ◌+◌, ◌*◌, ◌-◌, ◌≤◌, ◌<◌, List, [], ◌∷◌, ◌++◌, length, take, drop, length-drop, length-take-le, length-append, append_assoc, append-nil, le_refl, arith, Option, None, Some, IfSome}
 use Rattle.std.proofs.Math.Dec.{ltb, eqb}
 use Rattle.std.proofs.KnownBytes.{Appends-nil, Appends-trans}
 use Rattle.std.specs.Io.KnownBytes.{Appends, Consumes, IsAtEnd}
@@ -9,13 +9,14 @@ use Rattle.standard.specs.Base.{◌then◌else◌}
 use Rattle.standard.proofs.Tests.{split}
 use Rattle.decoder.specs.Calls.{opening}
 use Rattle.decoder.specs.declared.Decoder.{Decoder}
-use Rattle.showtext.specs.Output.{after_line, printed, refused}
+use Rattle.program_text.proofs.FirstLine.{line_cut}
+use Rattle.showtext.specs.Output.{first_line, after_line, printed, refused}
 use Rattle.showtext.specs.Refusals.{number}
 use Rattle.showtext.specs.Program.{Shown, as_shown, Leaves, Left, Refused, Ends, beginning, going_on, closing, turning, next_step, text, by_step}
 use Rattle.showtext.specs.declared.Progress.{Progress}
 use Rattle.showtext.specs.declared.Refusal.{Refusal}
 use Rattle.showtext.specs.Statements.{joined, Filled, Whole, Stepped}
-use Rattle.showtext.proofs.Buffers.{begun_taken, went_taken}
+use Rattle.showtext.proofs.Buffers.{at_long, begun_taken, went_taken}
 use Rattle.showtext.proofs.Theorems.{prints}
 
 -- An input cut into the buffers that it fills, and the empty one of the last step.
@@ -158,9 +159,9 @@ module _ (full step : ℕ) (s : Shown) (room out b xs : List ℕ) (f : 0 < full)
     }
 
 -- Before the first step, whatever it is handed.
-pub starting : (full : ℕ) (s : Shown) (room out all : List ℕ) → ToPrint full room out all 0 s room out all []
+pub starting_prints : (full : ℕ) (s : Shown) (room out all : List ℕ) → ToPrint full room out all 0 s room out all []
 unfolding by_step turning
-starting full s room out all = record {
+starting_prints full s room out all = record {
   still = λ bs p.
       let c = p.input (omega arith) in
       record { first = c.first; rest = c.rest; filled = c.filled; whole = c.bytes; steps = λ s'. ap (by_step full 0 s room out) (sym c.whole) };
@@ -254,10 +255,10 @@ module _ {full n step : ℕ} {s : Shown} {room₀ out₀ room out : List ℕ} (b
 module _ {full n : ℕ} {s : Shown} {room₀ out₀ room out : List ℕ} (buffer : List ℕ) (size : length buffer ≡ full) (few : n ≤ full)
     (all xs xs' written : List ℕ) (x : xs ≡ take n buffer ++ xs') (short : ◌<◌ 0 2 → n < full → xs' ≡ [])
     (t : 0 < full → ToPrint full room₀ out₀ all 0 s room out xs written) (f : 0 < full) where
-  pub first : {p : Progress} {room' out' : List ℕ} → Left (beginning (take n buffer) room out) p room' out' →
+  pub first_prints : {p : Progress} {room' out' : List ℕ} → Left (beginning (take n buffer) room out) p room' out' →
       ToPrint full room₀ out₀ all (after n full) (as_shown p) room' out' xs' (written ++ take p.length out')
   unfolding turning
-  first u = ran buffer size few (omega arith) all xs xs' written x short t f refl u
+  first_prints u = ran buffer size few (omega arith) all xs xs' written x short t f refl u
 
   pub first_out : {r : Refusal} → Refused (beginning (take n buffer) room out) r → Stepped full room₀ out₀ all (written ++ refused (number r))
   unfolding turning
@@ -272,10 +273,10 @@ module _ {full : ℕ} (m : ℕ) {s : Progress} {room₀ out₀ room out : List �
   -- A further buffer.
   module _ {n : ℕ} (buffer : List ℕ) (size : length buffer ≡ full) (few : n ≤ full) (filled : full ≤ m)
       (x : xs ≡ take n buffer ++ xs') (short : ◌<◌ 1 2 → n < full → xs' ≡ []) where
-    pub further : {p : Progress} {room' out' : List ℕ} → Left (going_on s.decoder s.count (take n buffer) room out) p room' out' →
+    pub further_prints : {p : Progress} {room' out' : List ℕ} → Left (going_on s.decoder s.count (take n buffer) room out) p room' out' →
         ToPrint full room₀ out₀ all (after n full) (as_shown p) room' out' xs' (written ++ take p.length out')
     unfolding turning
-    further u = ran buffer size few (omega arith) all xs xs' written x short (at_step 1 (is_further m full filled)) f refl u
+    further_prints u = ran buffer size few (omega arith) all xs xs' written x short (at_step 1 (is_further m full filled)) f refl u
 
     pub further_out : {r : Refusal} → Refused (going_on s.decoder s.count (take n buffer) room out) r → Stepped full room₀ out₀ all (written ++ refused (number r))
     unfolding turning
@@ -286,6 +287,91 @@ module _ {full : ℕ} (m : ℕ) {s : Progress} {room₀ out₀ room out : List �
   unfolding turning
   closed short x u =
       stepped_out f (omega arith) (omega arith) x (λ z v. absurd (omega (arith, z))) (λ v. refl) (at_step 2 (is_last m full short) f) refl u
+
+-- Before a step, with so many reads to come, of an input of which xs is left: at least 256 bytes were read for each read so far, but for the
+-- last of all; behind the first step, the first line has at most 255 bytes.
+pub record Far (step turns : ℕ) (all xs : List ℕ) : Type 0 where
+  pub first : step ≡ 0 → (turns ≡ most) × (xs ≡ all)
+  pub further : step ≡ 1 → (most - turns) * 256 + length xs ≤ length all
+  pub last : step ≡ 2 → (most - turns) * 256 ≤ length all + 256
+  pub line : 0 < step → step < 3 → length (first_line all) ≤ 255
+
+far_start : (all : List ℕ) → Far 0 most all all
+far_start all = record {
+  first = λ _. (refl, refl);
+  further = λ z. absurd (omega (arith, z));
+  last = λ z. absurd (omega (arith, z));
+  line = λ z _. absurd (omega (arith, z));
+}
+
+-- `Far` behind a buffer of n bytes that is not refused.
+far_behind : (full n turns : ℕ) (all xs : List ℕ) → (full ≤ n → (most - turns) * 256 + length xs ≤ length all) →
+    (n < full → (most - turns) * 256 ≤ length all + 256) → length (first_line all) ≤ 255 → Far (after n full) turns all xs
+far_behind full n turns all xs more none line = split (ltb n full)
+    (λ e. let short = ltb-true n full e in let two = is_last n full short in
+    record { first = λ z. absurd (omega (arith, z, two)); further = λ z. absurd (omega (arith, z, two)); last = λ _. none short; line = λ _ _. line })
+    (λ e. let filled = ltb-false n full e in let one = is_further n full filled in
+    record { first = λ z. absurd (omega (arith, z, one)); further = λ _. more filled; last = λ z. absurd (omega (arith, z, one)); line = λ _ _. line })
+
+-- Where the first buffer is not refused, the first line of the input has at most 255 bytes.
+line_short : (b xs room out : List ℕ) → (length b < 256 → xs ≡ []) → (beginning b room out).shown.refusal ≡ 0 → length (first_line (b ++ xs)) ≤ 255
+line_short b xs room out short z = split (ltb 255 (length (first_line b)))
+    (λ e. let one = ap (λ (l : Leaves). l.shown.refusal) (at_long b room out (ltb-true 255 (length (first_line b)) e)) in absurd (omega (arith, z, one)))
+    (λ e. let few = ltb-false 255 (length (first_line b)) e in rw (line_cut b xs short few).0 few)
+
+-- A buffer of `full` bytes of which n were read.
+module _ {full n : ℕ} (buffer : List ℕ) (size : length buffer ≡ full) (few : n ≤ full) (low : 256 ≤ full)
+    (all xs xs' : List ℕ) (x : xs ≡ take n buffer ++ xs') where
+  cut : length (take n buffer) ≡ n
+  cut = length-take-le n buffer (omega (arith, size, few))
+
+  bytes : length xs ≡ length (take n buffer) + length xs'
+  bytes = ap length x ∙ length-append (take n buffer) xs'
+
+  far_first : Far 0 most all xs → (n < full → xs' ≡ []) → (room out : List ℕ) {p : Progress} {room' out' : List ℕ} →
+      Left (beginning (take n buffer) room out) p room' out' → Far (after n full) (most - 1) all xs'
+  far_first t short room out u =
+      let same = (t.first refl).1 in
+      let line = line_short (take n buffer) xs' room out (λ k. short (omega (arith, k, cut, low))) (ap (λ (s : Shown). s.refusal) (sym u.answer)) in
+      far_behind full n (most - 1) all xs' (λ k. omega (arith, ap length same, bytes, cut, k, low)) (λ k. omega arith)
+      (subst (λ l. length (first_line l) ≤ 255) (sym x ∙ same) line)
+
+  far_further : (m i : ℕ) → full ≤ m → i + 1 < most → Far (after m full) (most - 1 - i) all xs → Far (after n full) (most - 1 - (i + 1)) all xs'
+  far_further m i filled left t =
+      let one = is_further m full filled in
+      let before = t.further one in
+      far_behind full n (most - 1 - (i + 1)) all xs' (λ k. omega (arith, before, bytes, cut, left, k, low)) (λ k. omega (arith, before, left))
+      (t.line (omega (arith, one)) (omega (arith, one)))
+
+-- Before a step: of an input the bytes xs are left, and some text is written. Where the input is printed whole, `Far` bounds the reads so far.
+pub record State (full : ℕ) (room₀ out₀ all : List ℕ) (step : ℕ) (s : Shown) (room out : List ℕ) (turns : ℕ) (xs written : List ℕ) : Type 0 where
+  pub prints : 0 < full → ToPrint full room₀ out₀ all step s room out xs written
+  pub far : Whole full (length room₀) all → Far step turns all xs
+
+-- Behind the first buffer and i further ones, n bytes having been read for the last of them.
+abbrev pub StateAt : (full : ℕ) (room₀ out₀ : List ℕ) (n i : ℕ) (s : Progress) (room out all xs written : List ℕ) → Type 0
+StateAt full room₀ out₀ n i s room out all xs written = State full room₀ out₀ all (after n full) (as_shown s) room out (most - 1 - i) xs written
+
+-- Before the first step, behind the first buffer, and behind a further one.
+pub starting : (full : ℕ) (s : Shown) (room out all : List ℕ) → State full room out all 0 s room out most all []
+starting full s room out all = record { prints = λ _. starting_prints full s room out all; far = λ _. far_start all }
+
+module _ {full n : ℕ} {room₀ out₀ room out : List ℕ} (buffer : List ℕ) (size : length buffer ≡ full) (few : n ≤ full)
+    (all xs xs' written : List ℕ) (x : xs ≡ take n buffer ++ xs') {p : Progress} {room' out' : List ℕ} where
+  pub first : {s : Shown} → (◌<◌ 0 2 → n < full → xs' ≡ []) → State full room₀ out₀ all 0 s room out most xs written →
+      Left (beginning (take n buffer) room out) p room' out' → StateAt full room₀ out₀ n 0 p room' out' all xs' (written ++ take p.length out')
+  first short t u = record {
+    prints = λ f. first_prints buffer size few all xs xs' written x short t.prints f u;
+    far = λ w. far_first buffer size few w.low all xs xs' x (t.far w) (short (omega arith)) room out u;
+  }
+
+  pub further : (m i : ℕ) {s : Progress} → full ≤ m → i + 1 < most → (◌<◌ 1 2 → n < full → xs' ≡ []) →
+      StateAt full room₀ out₀ m i s room out all xs written → Left (going_on s.decoder s.count (take n buffer) room out) p room' out' →
+      StateAt full room₀ out₀ n (i + 1) p room' out' all xs' (written ++ take p.length out')
+  further m i filled left short t u = record {
+    prints = λ f. further_prints m all xs xs' written t.prints f buffer size few filled x short u;
+    far = λ w. far_further buffer size few w.low all xs xs' x m i filled left (t.far w);
+  }
 
 -- Behind the first buffer, and behind a further one.
 pub first_turns : {full n : ℕ} (b room out : List ℕ) {p : Progress} {room' out' : List ℕ} → Left (beginning b room out) p room' out' → Turns full p.decoder n 0

@@ -2,7 +2,7 @@ use Rattle.std.proofs.Common.{◌≡◌, sym, ◌∙◌, ◌≤◌, ◌<◌, [],
 use Rattle.std.proofs.KnownBytes.{Consumes-nil}
 use Rattle.std.proofs.lemmas.Result.{on_ok_weaker}
 use Rattle.showtext.proofs.Buffers.{begun_few, went_few}
-use Rattle.showtext.proofs.Runs.{ToPrint, any, starting, enough, first, first_out, further, further_out, closed, first_turns, further_turns, known_first, known_next, known_end, known_last, known_whole}
+use Rattle.showtext.proofs.Runs.{State, StateAt, most, any, starting, enough, first, first_out, further, further_out, closed, first_turns, further_turns, known_first, known_next, known_end, known_last, known_whole}
 use Rattle.showtext.proofs.run.Goals as goal
 
 pub slice_bounds-write_all-end : goal.slice_bounds-write_all-end
@@ -35,10 +35,11 @@ loop-init g c =
       buffer = c.fill.auto.buffer;
       count = omega (arith, f.0, c.requires.0);
       turns = λ f. first_turns _ a.room.now a.out.now c.in-Ok.ensures;
-      known = known_next _ _ _ _ _ _ 0 c.in_ok-n.n full _ _ (λ all xs written. 0 < full → ToPrint full a.room.now a.out.now all 0 any a.room.now a.out.now xs written) _
+      known = known_next _ _ _ _ _ _ 0 c.in_ok-n.n full _ _ (λ all xs written. State full a.room.now a.out.now all 0 any a.room.now a.out.now most xs written)
+          (StateAt full a.room.now a.out.now c.in_ok-n.n 0 c.in-Ok.s c.begin.new.room c.begin.new.out)
           read.bytes (λ z m. read.end m) c.in_ok-write_all.ensures.bytes
-          (λ all xs xs' written x short t f. first c.fill.new.buffer c.fill.auto.buffer read.few all xs xs' written x short t f c.in-Ok.ensures)
-          (known_first _ _ _ (λ all f. starting full any a.room.now a.out.now all));
+          (λ all xs xs' written x short t. first c.fill.new.buffer c.fill.auto.buffer read.few all xs xs' written x short t c.in-Ok.ensures)
+          (known_first _ _ _ (λ all. starting full any a.room.now a.out.now all));
     }
 
 pub returns-in-Err : goal.returns-in-Err
@@ -47,10 +48,10 @@ returns-in-Err g c =
     let full = length a.buffer.now in
     let read = c.in_ok-n.ensures in
     let steps = on_ok_weaker c.refuse.result
-    (λ e. known_last _ _ _ _ _ _ 0 c.in_ok-n.n full _ _ (λ all xs written. 0 < full → ToPrint full a.room.now a.out.now all 0 any a.room.now a.out.now xs written) _ _
+    (λ e. known_last _ _ _ _ _ _ 0 c.in_ok-n.n full _ _ (λ all xs written. State full a.room.now a.out.now all 0 any a.room.now a.out.now most xs written) _ _
     read.bytes (λ z m. read.end m) e
-    (λ all xs xs' written x short t f. first_out c.fill.new.buffer c.fill.auto.buffer read.few all xs xs' written x short t f c.in-Err.ensures)
-    (known_first _ _ _ (λ all f. starting full any a.room.now a.out.now all)))
+    (λ all xs xs' written x short t f. first_out c.fill.new.buffer c.fill.auto.buffer read.few all xs xs' written x short t.prints f c.in-Err.ensures)
+    (known_first _ _ _ (λ all. starting full any a.room.now a.out.now all)))
     c.refuse.ensures in
     record { bytes = on_ok_weaker c.refuse.result (known_whole _ _ _ full a.room.now a.out.now) steps; steps = steps }
 
@@ -71,7 +72,8 @@ loop-preserved g c =
       turns = λ f. further_turns l.s.count buffer l.room l.out f size few filled (i.turns f) c.in-Ok-go_on.ensures;
       known = known_next _ _ _ _ _ _ 1 c.in_ok-n-2.n full _ _ _ _
           read.bytes (λ z m. read.end (omega (arith, m, i.buffer))) c.in_ok-write_all-3.ensures.bytes
-          (λ all xs xs' written x short t f. further l.n all xs xs' written t f buffer size few filled x short c.in-Ok-go_on.ensures) i.known;
+          (λ all xs xs' written x short t. further buffer size few all xs xs' written x l.n l.counter filled (omega (arith, c.loop-test.true)) short t
+          c.in-Ok-go_on.ensures) i.known;
     }
 
 pub returns-in-Err-go_on : goal.returns-in-Err-go_on
@@ -88,7 +90,7 @@ returns-in-Err-go_on g c =
     let steps = on_ok_weaker c.refuse-in-Err-go_on.result
     (λ e. known_last _ _ _ _ _ _ 1 c.in_ok-n-2.n full _ _ _ _ _
     read.bytes (λ z m. read.end (omega (arith, m, i.buffer))) e
-    (λ all xs xs' written x short t f. further_out l.n all xs xs' written t f buffer size few filled x short c.in-Err-go_on.ensures) i.known)
+    (λ all xs xs' written x short t f. further_out l.n all xs xs' written t.prints f buffer size few filled x short c.in-Err-go_on.ensures) i.known)
     c.refuse-in-Err-go_on.ensures in
     record { bytes = on_ok_weaker c.refuse-in-Err-go_on.result (known_whole _ _ _ full a.room.now a.out.now) steps; steps = steps }
 
@@ -99,13 +101,17 @@ returns-then-n-buffer g c =
     let i = l.invariant in
     let full = length a.buffer.now in
     let short : l.n < full = omega (arith, c.if-n-buffer.true, i.buffer) in
-    let steps = known_last _ _ _ _ _ _ 2 0 full [] _ _ _ _ (Consumes-nil _) (λ z m. absurd (omega (arith, z))) c.in_ok-write_all-2.ensures.bytes
-    (λ all xs xs' written x none t f. closed l.n all xs xs' written t f short x c.close-length.ensures) i.known in
+    let steps = known_last _ _ _ _ _ _ 2 0 full [] _ (StateAt full a.room.now a.out.now l.n l.counter l.s l.room l.out) _ _
+    (Consumes-nil _) (λ z m. absurd (omega (arith, z))) c.in_ok-write_all-2.ensures.bytes
+    (λ all xs xs' written x none t f. closed l.n all xs xs' written t.prints f short x c.close-length.ensures) i.known in
     record { bytes = known_whole _ _ _ full a.room.now a.out.now steps; steps = steps }
 
 pub returns : goal.returns
 returns g c =
     let a = c.args in
-    let i = c.loop.invariant in
-    let steps = known_end _ _ _ _ _ _ _ (λ all xs written t f. absurd (enough (i.turns f) (omega (arith, c.loop-test.false)))) i.known in
-    record { bytes = known_whole _ _ _ (length a.buffer.now) a.room.now a.out.now steps; steps = steps }
+    let l = c.loop in
+    let i = l.invariant in
+    let full = length a.buffer.now in
+    let steps = known_end _ _ _ _ (StateAt full a.room.now a.out.now l.n l.counter l.s l.room l.out) _ _
+    (λ all xs written t f. absurd (enough (i.turns f) (omega (arith, c.loop-test.false)))) i.known in
+    record { bytes = known_whole _ _ _ full a.room.now a.out.now steps; steps = steps }
