@@ -235,21 +235,25 @@ module _ (n full : ℕ) where
   pub is_further : full ≤ n → after n full ≡ 1
   is_further h = rw (le-ltb n full h) refl
 
+-- The front of a buffer of which n bytes were read.
+cut_size : {full n : ℕ} (buffer : List ℕ) → length buffer ≡ full → n ≤ full → length (take n buffer) ≡ n
+cut_size {full} {n} buffer size few = length-take-le n buffer (omega (arith, size, few))
+
 -- A step over the front of a buffer of `full` bytes.
 module _ {full n step : ℕ} {s : Shown} {room₀ out₀ room out : List ℕ} (buffer : List ℕ) (size : length buffer ≡ full) (few : n ≤ full) (h : step < 2)
     (all xs xs' written : List ℕ) (x : xs ≡ take n buffer ++ xs') (short : step < 2 → n < full → xs' ≡ [])
     (t : 0 < full → ToPrint full room₀ out₀ all step s room out xs written) (f : 0 < full) where
-  cut_size : length (take n buffer) ≡ n
-  cut_size = length-take-le n buffer (omega (arith, size, few))
+  cut : length (take n buffer) ≡ n
+  cut = cut_size buffer size few
 
   pub ran : {p : Progress} {room' out' : List ℕ} → next_step step 0 n full ≡ after n full → Left (turning step s (take n buffer) room out) p room' out' →
       ToPrint full room₀ out₀ all (after n full) (as_shown p) room' out' xs' (written ++ take p.length out')
   ran {p} {room'} {out'} e u =
-      subst (λ j. ToPrint full room₀ out₀ all j (as_shown p) room' out' xs' (written ++ take p.length out')) (ap (λ j. next_step step 0 j full) cut_size ∙ e)
-      (stepped_on f (omega (arith, h)) (omega (arith, cut_size, few)) x (λ z v. short z (omega (arith, v, cut_size))) (λ v. absurd (omega (arith, v, h))) (t f) u)
+      subst (λ j. ToPrint full room₀ out₀ all j (as_shown p) room' out' xs' (written ++ take p.length out')) (ap (λ j. next_step step 0 j full) cut ∙ e)
+      (stepped_on f (omega (arith, h)) (omega (arith, cut, few)) x (λ z v. short z (omega (arith, v, cut))) (λ v. absurd (omega (arith, v, h))) (t f) u)
 
   pub ran_out : {r : Refusal} → Refused (turning step s (take n buffer) room out) r → Stepped full room₀ out₀ all (written ++ refused (number r))
-  ran_out u = stepped_last f (omega (arith, h)) (omega (arith, cut_size, few)) x (λ z v. short z (omega (arith, v, cut_size))) (λ v. absurd (omega (arith, v, h))) (t f) h u
+  ran_out u = stepped_last f (omega (arith, h)) (omega (arith, cut, few)) x (λ z v. short z (omega (arith, v, cut))) (λ v. absurd (omega (arith, v, h))) (t f) h u
 
 -- The first buffer.
 module _ {full n : ℕ} {s : Shown} {room₀ out₀ room out : List ℕ} (buffer : List ℕ) (size : length buffer ≡ full) (few : n ≤ full)
@@ -322,25 +326,22 @@ line_short b xs room out short z = split (ltb 255 (length (first_line b)))
 -- A buffer of `full` bytes of which n were read.
 module _ {full n : ℕ} (buffer : List ℕ) (size : length buffer ≡ full) (few : n ≤ full) (low : 256 ≤ full)
     (all xs xs' : List ℕ) (x : xs ≡ take n buffer ++ xs') where
-  cut : length (take n buffer) ≡ n
-  cut = length-take-le n buffer (omega (arith, size, few))
-
-  bytes : length xs ≡ length (take n buffer) + length xs'
-  bytes = ap length x ∙ length-append (take n buffer) xs'
+  bytes : length xs ≡ n + length xs'
+  bytes = ap length x ∙ length-append (take n buffer) xs' ∙ ap (λ k. k + length xs') (cut_size buffer size few)
 
   far_first : Far 0 most all xs → (n < full → xs' ≡ []) → (room out : List ℕ) {p : Progress} {room' out' : List ℕ} →
       Left (beginning (take n buffer) room out) p room' out' → Far (after n full) (most - 1) all xs'
   far_first t short room out u =
       let same = (t.first refl).1 in
-      let line = line_short (take n buffer) xs' room out (λ k. short (omega (arith, k, cut, low))) (ap (λ (s : Shown). s.refusal) (sym u.answer)) in
-      far_behind full n (most - 1) all xs' (λ k. omega (arith, ap length same, bytes, cut, k, low)) (λ k. omega arith)
+      let line = line_short (take n buffer) xs' room out (λ k. short (omega (arith, k, cut_size buffer size few, low))) (ap (λ (s : Shown). s.refusal) (sym u.answer)) in
+      far_behind full n (most - 1) all xs' (λ k. omega (arith, ap length same, bytes, k, low)) (λ k. omega arith)
       (subst (λ l. length (first_line l) ≤ 255) (sym x ∙ same) line)
 
   far_further : (m i : ℕ) → full ≤ m → i + 1 < most → Far (after m full) (most - 1 - i) all xs → Far (after n full) (most - 1 - (i + 1)) all xs'
   far_further m i filled left t =
       let one = is_further m full filled in
       let before = t.further one in
-      far_behind full n (most - 1 - (i + 1)) all xs' (λ k. omega (arith, before, bytes, cut, left, k, low)) (λ k. omega (arith, before, left))
+      far_behind full n (most - 1 - (i + 1)) all xs' (λ k. omega (arith, before, bytes, left, k, low)) (λ k. omega (arith, before, left))
       (t.line (omega (arith, one)) (omega (arith, one)))
 
 -- Before a step: of an input the bytes xs are left, and some text is written. Where the input is printed whole, `Far` bounds the reads so far.
@@ -381,7 +382,7 @@ pub further_turns : {full m n i : ℕ} {d : Decoder} (count : ℕ) (buffer room 
     {p : Progress} {room' out' : List ℕ} → Left (going_on d count (take n buffer) room out) p room' out' → Turns full p.decoder n (i + 1)
 further_turns {full} {m} {n} {i} {d} count buffer room out f size few filled t u =
     let k = went_taken d count (take n buffer) room out u in
-    let z : length (take n buffer) ≡ n = length-take-le n buffer (omega (arith, size, few)) in
+    let z = cut_size buffer size few in
     let past = t.filled filled in
     record { more = omega (arith, k.0, past); filled = λ v. omega (arith, k.0, z, past, v, f); taken = omega (arith, k.0, k.1) }
 
